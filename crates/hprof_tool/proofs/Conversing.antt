@@ -169,17 +169,17 @@ module _ {R Q W O : Type 0} (left : R → Option (List ℕ)) (health : R → Hea
 -- the questions are refused only where their source cannot be read on
 pub cannot_read_on : {Q : Type 0} (state : Q → Health) (turns : Q → ℕ) (is : Q) (fault : AskFault)
     → ((why : ReadFault) → fault ≡ faults.Dialogue (stops.Questions why) → CannotReadOn state turns is)
-    → refused_state fault ≡ refusals.Questions → CannotReadOn state turns is
+    → refused_asking fault ≡ refusals.Questions → CannotReadOn state turns is
 cannot_read_on state turns is (faults.Dialogue (stops.Questions why)) cannot same = cannot why refl
 cannot_read_on state turns is (faults.Dialogue (stops.Write why)) cannot same = absurd cc
 cannot_read_on state turns is (faults.Dialogue stops.OutOfMemory) cannot same = absurd cc
-cannot_read_on asking turns is (faults.Parts (tool.Part index why)) cannot same = absurd cc
-cannot_read_on asking turns is (faults.Parts tool.NoParts) cannot same = absurd cc
-cannot_read_on asking turns is (faults.Parts tool.IdSizes) cannot same = absurd cc
-cannot_read_on asking turns is (faults.Parts (tool.Conflict key)) cannot same = absurd cc
-cannot_read_on asking turns is (faults.Parts tool.DumpTooLong) cannot same = absurd cc
-cannot_read_on asking turns is (faults.Parts (tool.Write why)) cannot same = absurd cc
-cannot_read_on asking turns is (faults.Parts tool.OutOfMemory) cannot same = absurd cc
+cannot_read_on state turns is (faults.Parts (tool.Part index why)) cannot same = absurd cc
+cannot_read_on state turns is (faults.Parts tool.NoParts) cannot same = absurd cc
+cannot_read_on state turns is (faults.Parts tool.IdSizes) cannot same = absurd cc
+cannot_read_on state turns is (faults.Parts (tool.Conflict key)) cannot same = absurd cc
+cannot_read_on state turns is (faults.Parts tool.DumpTooLong) cannot same = absurd cc
+cannot_read_on state turns is (faults.Parts (tool.Write why)) cannot same = absurd cc
+cannot_read_on state turns is (faults.Parts tool.OutOfMemory) cannot same = absurd cc
 
 -- ---- of files
 
