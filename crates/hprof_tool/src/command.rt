@@ -212,9 +212,12 @@ fn task_matched<'a>(alloc: Global, matches: &ArgMatches<'a>) -> Result<Task<'a>,
     let Some((name, words)) = matches.subcommand() else {
         return Ok(Task::JoinInput);
     };
-    match CommandWord::of(name) {
-        Some(command) => Ok(task_of_command(alloc, command, words)?),
-        None => Err(Misunderstood::NoCommand),
+    let Some(command) = CommandWord::of(name) else {
+        return Err(Misunderstood::NoCommand);
+    };
+    match task_of_command(alloc, command, words) {
+        Ok(task) => Ok(task),
+        Err(error) => Err(Misunderstood::Words(Error::from(error))),
     }
 }
 
