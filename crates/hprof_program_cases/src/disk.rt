@@ -91,17 +91,21 @@ fn files_are_joined_to_a_new_file(rt: HostRuntime) -> Result<(), Fail> {
     remove(&rt, &words[1..])
 }
 
+/// Expects that the owner of a command's new file reads and writes it, and no one else does.
+fn expect_private(rt: &HostRuntime, command: &str, out: &str, part: &str) -> Result<(), Fail> {
+    expect_ran(rt, rt, &[command, out, part], 0, b"")?;
+    let mode = fs::metadata(rt, out)?.mode();
+    equal_at(rt, command, mode & 0o777, 0o600);
+    remove(rt, &[out])
+}
+
 #[test]
 fn new_files_are_private(rt: HostRuntime) -> Result<(), Fail> {
     let part = written(&rt, "secret", &[HEADER, NAME_1_A])?;
     let out = path_of(&rt, "private")?;
-    for command in ["join", "join101", "salvage"] {
-        let words = [command, out.as_str(), part.as_str()];
-        expect_ran(&rt, &rt, &words, 0, b"")?;
-        let mode = fs::metadata(&rt, out.as_str())?.mode();
-        equal_at(&rt, command, mode & 0o777, 0o600);
-        remove(&rt, &words[1..2])?;
-    }
+    expect_private(&rt, "join", out.as_str(), part.as_str())?;
+    expect_private(&rt, "join101", out.as_str(), part.as_str())?;
+    expect_private(&rt, "salvage", out.as_str(), part.as_str())?;
     remove(&rt, &[part.as_str()])
 }
 
