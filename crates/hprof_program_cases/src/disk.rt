@@ -92,20 +92,26 @@ fn files_are_joined_to_a_new_file(rt: HostRuntime) -> Result<(), Fail> {
 }
 
 /// Expects that the owner of a command's new file reads and writes it, and no one else does.
-fn expect_private(rt: &HostRuntime, command: &str, out: &str, part: &str) -> Result<(), Fail> {
-    expect_ran(rt, rt, &[command, out, part], 0, b"")?;
-    let mode = fs::metadata(rt, out)?.mode();
+fn expect_private(
+    rt: &impl Abort,
+    files: &HostRuntime,
+    command: &str,
+    out: &str,
+    part: &str,
+) -> Result<(), Fail> {
+    expect_ran(rt, files, &[command, out, part], 0, b"")?;
+    let mode = fs::metadata(files, out)?.mode();
     equal_at(rt, command, mode & 0o777, 0o600);
-    remove(rt, &[out])
+    remove(files, &[out])
 }
 
 #[test]
 fn new_files_are_private(rt: HostRuntime) -> Result<(), Fail> {
     let part = written(&rt, "secret", &[HEADER, NAME_1_A])?;
     let out = path_of(&rt, "private")?;
-    expect_private(&rt, "join", out.as_str(), part.as_str())?;
-    expect_private(&rt, "join101", out.as_str(), part.as_str())?;
-    expect_private(&rt, "salvage", out.as_str(), part.as_str())?;
+    expect_private(&rt, &rt, "join", out.as_str(), part.as_str())?;
+    expect_private(&rt, &rt, "join101", out.as_str(), part.as_str())?;
+    expect_private(&rt, &rt, "salvage", out.as_str(), part.as_str())?;
     remove(&rt, &[part.as_str()])
 }
 
