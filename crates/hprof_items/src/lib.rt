@@ -23,8 +23,9 @@ pub use head_reading::read_head;
 pub use header::{HEADER_LEN, Header, Version};
 pub use header_reading::{SIZED_LEN, TEXT_LEN, TEXT_V101, TEXT_V102, read_header};
 pub use hprof_values::{
-    Basic, Constant, ConstantList, Entry, EntryIterator, EntryKind, EntryList, Field, FieldList, IdList,
-    IdSize, Ids, ListEntry, Reason, RecordTag, Root, Static, StaticList, Stop, SubTag, Value,
+    Basic, Constant, ConstantList, Entry, EntryIterator, EntryKind, EntryList, Field, FieldList,
+    IdList, IdSize, Ids, ListEntry, Reason, RecordTag, Root, Static, StaticList, Stop, SubTag,
+    Value,
 };
 pub use record_reading::{read_body, read_body_into};
 pub use step::Step;

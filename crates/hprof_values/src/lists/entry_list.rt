@@ -26,6 +26,7 @@ pub struct EntryList<'a, E: ListEntry> {
     bytes: &'a [u8],
     ids: IdSize,
     len: u16,
+    #[derive_where(skip(Debug))]
     of: PhantomData<E>,
     /// They fill the bytes.
     ghost spelled: { bytes.now ≡ entries_bytes ids E.KIND (entries_in ids E.KIND len bytes.now) },
