@@ -1,19 +1,12 @@
 -- Loops over the commands.
-use Rattle.std.proofs.Common.{◌≤◌, ℕ, List, [], ◌∷◌, take, length, subst}
+use Rattle.std.proofs.Common.{◌≤◌, ℕ, take, length, subst}
 use Rattle.std.specs.List.{AllByRecursion}
 use Rattle.std.proofs.lemmas.List.{take_all}
 use Rattle.hprof_ask.specs.declared.report_word.ReportWord.TheVariants as words
 use Rattle.hprof_tool.specs.declared.command.NewFile.TheVariants as files
 use Rattle.hprof_tool.specs.declared.command.subcommands.CommandWord.{CommandWord}
 use Rattle.hprof_tool.specs.declared.command.subcommands.CommandWord.TheVariants as commands
-
--- all of them, in the order of the program's help
-abbrev pub all_commands : List CommandWord
-all_commands =
-    commands.Write files.Dump ∷ commands.Write files.Dump101 ∷ commands.Salvage ∷ commands.Report words.Check
-    ∷ commands.Report words.Histogram ∷ commands.Report words.Classes ∷ commands.Report words.Objects ∷ commands.Compare
-    ∷ commands.Report words.Object ∷ commands.Report words.Path ∷ commands.Report words.Refs ∷ commands.Report words.Text
-    ∷ commands.Report words.Why ∷ commands.Ask ∷ []
+use Rattle.hprof_tool.specs.CommandLine.{all_commands}
 
 module _ (P : CommandWord → Type 0) where
   -- what holds of all that stand in the list holds of each

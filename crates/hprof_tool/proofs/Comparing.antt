@@ -43,21 +43,6 @@ new_kind refusals.Create kind = absurd kind
 new_kind refusals.Questions kind = absurd kind
 new_kind refusals.OutOfMemory kind = tt
 
--- none of the newer parts is told as one of the older dump
-pub newer_place : (why : Refused) (fault : ToolFault) → IsOfMaking why → of_dump 1 why ≡ refusals.Dump 0 fault → ⊥
-newer_place (refusals.Engine (tool.Part index why)) fault kind same = cc
-newer_place (refusals.Engine tool.NoParts) fault kind same = cc
-newer_place (refusals.Engine tool.IdSizes) fault kind same = cc
-newer_place (refusals.Engine (tool.Conflict key)) fault kind same = cc
-newer_place (refusals.Engine (tool.Write why)) fault kind same = cc
-newer_place (refusals.Engine tool.DumpTooLong) fault kind same = cc
-newer_place (refusals.Engine tool.OutOfMemory) fault kind same = kind
-newer_place (refusals.Dump place why) fault kind same = kind
-newer_place (refusals.Open index) fault kind same = kind
-newer_place refusals.Create fault kind same = kind
-newer_place refusals.Questions fault kind same = kind
-newer_place refusals.OutOfMemory fault kind same = cc
-
 -- ---- the older parts were refused
 
 module _ {R : Type 0} (left : R → Option (List ℕ)) (health : R → Health) (pulls : R → ℕ) (old new : List R) where
@@ -70,19 +55,20 @@ module _ {R : Type 0} (left : R → Option (List ℕ)) (health : R → Health) (
   never (inl kind) none other = none kind
   never (inr wants) none other = other wants.0
 
-  pub old_says : (others others_then : List R) (fault : ToolFault) → Counted fault → (olds news : List (List ℕ)) → Tell left old olds
-      → SaysOfTwo left health pulls old new others others_then (of_dump 0 (refused_of fault)) olds news
-  old_says others others_then (tool.Part index fault) counts olds news told = inl (refl, counts.reads.part index fault refl olds told)
-  old_says others others_then tool.NoParts counts olds news told = inl (
+  pub old_says : (others : List R) (fault : ToolFault) → Counted fault → (olds news : List (List ℕ)) → Tell left old olds
+      → SaysOfTwo left health pulls old new others others (of_dump 0 (refused_of fault)) olds news
+  old_says others (tool.Part index fault) counts olds news told = inl (refl, refl, counts.reads.part index fault refl olds told)
+  old_says others tool.NoParts counts olds news told = inl (
+    refl,
     refl,
     no_parts_told left old olds
         (counts.reads.no_parts.0 refl) told,
   )
-  old_says others others_then tool.IdSizes counts olds news told = inl (refl, counts.reads.id_sizes refl olds told)
-  old_says others others_then (tool.Conflict key) counts olds news told = inl (refl, counts.reads.conflict key refl olds told)
-  old_says others others_then (tool.Write fault) counts olds news told = absurd (never counts.kind (λ k. k) (λ same. cc))
-  old_says others others_then tool.DumpTooLong counts olds news told = absurd (never counts.kind (λ k. k) (λ same. cc))
-  old_says others others_then tool.OutOfMemory counts olds news told = tt
+  old_says others tool.IdSizes counts olds news told = inl (refl, refl, counts.reads.id_sizes refl olds told)
+  old_says others (tool.Conflict key) counts olds news told = inl (refl, refl, counts.reads.conflict key refl olds told)
+  old_says others (tool.Write fault) counts olds news told = absurd (never counts.kind (λ k. k) (λ same. cc))
+  old_says others tool.DumpTooLong counts olds news told = absurd (never counts.kind (λ k. k) (λ same. cc))
+  old_says others tool.OutOfMemory counts olds news told = tt
 
   -- the stream is as it was
   pub old_leaves : {O : Type 0} (contents : O → Option (List ℕ)) (IsFront : Option (List ℕ) → Option (List ℕ) → Type 0) (before : O)

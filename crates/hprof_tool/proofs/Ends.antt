@@ -33,6 +33,12 @@ pub if_err_more : {A E : Type 0} (P Q : E → Type 0) (outcome : Result A E) →
 if_err_more P Q (Ok x) more holds = tt
 if_err_more P Q (Err e) more holds = more e holds
 
+-- what holds at Err holds there together
+pub if_err_both : {A E : Type 0} (P Q : E → Type 0) (outcome : Result A E) → IfErr outcome P → IfErr outcome Q
+    → IfErr outcome (λ e. P e × Q e)
+if_err_both P Q (Ok x) one other = tt
+if_err_both P Q (Err e) one other = (one, other)
+
 -- what holds holds at an error, too
 pub on_an_error : {A E : Type 0} (P : Type 0) (outcome : Result A E) → P → OnErr outcome P
 on_an_error P (Ok x) holds = tt

@@ -13,7 +13,7 @@ use Rattle.hprof_engine.specs.Joining.{Tell}
 use Rattle.hprof_engine.specs.Makes.{Making}
 use Rattle.hprof_tool.specs.Folder.{Answered, AreOpened, CannotOpenAt}
 use Rattle.hprof_tool.specs.Program.{IsRefusal, IsFilesRefusal}
-use Rattle.hprof_tool.specs.Program.{IsReportRefusal, IsOfOpening, IsOfCreating, IsOfMaking}
+use Rattle.hprof_tool.specs.Program.{IsReportRefusal, IsOfOpening, IsOfCreating, IsOfMaking, IsOfStarting}
 
 -- one more part is opened
 pub opened_more : {P W : Type 0} (answered : Answered P W) (names : List (Bor (List ℕ))) (index : ℕ) (name : Bor (List ℕ))
@@ -47,25 +47,35 @@ cannot_open answered names index default parts within fails opened = record {
   opened = opened;
 }
 
--- opening answers no refusal of the engine
-pub not_of_engine : {P W : Type 0} (answered : Answered P W) (names : List (Bor (List ℕ))) (refused : Refused) (fault : ToolFault)
-    → IsOfOpening answered names refused → refused ≡ refusals.Engine fault → ⊥
-not_of_engine answered names (refusals.Engine known) fault is same = is
-not_of_engine answered names (refusals.Dump place why) fault is same = is
-not_of_engine answered names (refusals.Open index) fault is same = cc
-not_of_engine answered names refusals.Create fault is same = cc
-not_of_engine answered names refusals.Questions fault is same = cc
-not_of_engine answered names refusals.OutOfMemory fault is same = cc
+-- starting a new file answers no refusal of the engine
+pub starting_not_of_engine : {P W : Type 0} (answered : Answered P W) (names : List (Bor (List ℕ))) (out : List ℕ) (refused : Refused)
+    (fault : ToolFault) → IsOfStarting answered names out refused → refused ≡ refusals.Engine fault → ⊥
+starting_not_of_engine answered names out (refusals.Engine known) fault is same = is
+starting_not_of_engine answered names out (refusals.Dump place why) fault is same = is
+starting_not_of_engine answered names out (refusals.Open index) fault is same = cc
+starting_not_of_engine answered names out refusals.Create fault is same = cc
+starting_not_of_engine answered names out refusals.Questions fault is same = is
+starting_not_of_engine answered names out refusals.OutOfMemory fault is same = cc
 
--- nor does creating
-pub creating_not_of_engine : {P W : Type 0} (answered : Answered P W) (out : List ℕ) (refused : Refused) (fault : ToolFault)
-    → IsOfCreating answered out refused → refused ≡ refusals.Engine fault → ⊥
-creating_not_of_engine answered out (refusals.Engine known) fault is same = is
-creating_not_of_engine answered out (refusals.Dump place why) fault is same = is
-creating_not_of_engine answered out (refusals.Open index) fault is same = is
-creating_not_of_engine answered out refusals.Create fault is same = cc
-creating_not_of_engine answered out refusals.Questions fault is same = is
-creating_not_of_engine answered out refusals.OutOfMemory fault is same = cc
+-- a refusal to open is one to start a new file, where none is left
+pub opening_starts : {P W : Type 0} (answered : Answered P W) (names : List (Bor (List ℕ))) (out : List ℕ) (refused : Refused)
+    → IsOfOpening answered names refused → answered.HasNone out → IsOfStarting answered names out refused
+opening_starts answered names out (refusals.Engine fault) is none = absurd is
+opening_starts answered names out (refusals.Dump place fault) is none = absurd is
+opening_starts answered names out (refusals.Open index) is none = (is, none)
+opening_starts answered names out refusals.Create is none = absurd is
+opening_starts answered names out refusals.Questions is none = absurd is
+opening_starts answered names out refusals.OutOfMemory is none = none
+
+-- and so is one to create it
+pub creating_starts : {P W : Type 0} (answered : Answered P W) (names : List (Bor (List ℕ))) (out : List ℕ) (refused : Refused)
+    → IsOfCreating answered out refused → IsOfStarting answered names out refused
+creating_starts answered names out (refusals.Engine fault) is = is
+creating_starts answered names out (refusals.Dump place fault) is = is
+creating_starts answered names out (refusals.Open index) is = absurd is
+creating_starts answered names out refusals.Create is = is
+creating_starts answered names out refusals.Questions is = is
+creating_starts answered names out refusals.OutOfMemory is = is
 
 module _ {P W : Type 0} (making : Making) (answered : Answered P W) (left : P → Option (List ℕ)) (health : P → Health)
     (pulls : P → ℕ) (names : List (Bor (List ℕ))) where
@@ -79,25 +89,15 @@ module _ {P W : Type 0} (making : Making) (answered : Answered P W) (left : P �
   opening_reports refusals.Questions is = absurd is
   opening_reports refusals.OutOfMemory is = tt
 
-  -- and one to make something in a file
-  pub of_opening : (out : List ℕ) (refused : Refused) → IsOfOpening answered names refused
+  -- a refusal to start a new file is one to make something in it
+  pub of_starting : (out : List ℕ) (refused : Refused) → IsOfStarting answered names out refused
       → IsFilesRefusal making answered left health pulls names out refused
-  of_opening out (refusals.Engine fault) is = absurd is
-  of_opening out (refusals.Dump place fault) is = absurd is
-  of_opening out (refusals.Open index) is = is
-  of_opening out refusals.Create is = absurd is
-  of_opening out refusals.Questions is = absurd is
-  of_opening out refusals.OutOfMemory is = tt
-
-  -- so is one to create the file
-  pub of_creating : (out : List ℕ) (refused : Refused) → IsOfCreating answered out refused
-      → IsFilesRefusal making answered left health pulls names out refused
-  of_creating out (refusals.Engine fault) is = absurd is
-  of_creating out (refusals.Dump place fault) is = absurd is
-  of_creating out (refusals.Open index) is = absurd is
-  of_creating out refusals.Create is = is
-  of_creating out refusals.Questions is = absurd is
-  of_creating out refusals.OutOfMemory is = tt
+  of_starting out (refusals.Engine fault) is = absurd is
+  of_starting out (refusals.Dump place fault) is = absurd is
+  of_starting out (refusals.Open index) is = is
+  of_starting out refusals.Create is = is
+  of_starting out refusals.Questions is = absurd is
+  of_starting out refusals.OutOfMemory is = (tt, is)
 
   -- a refusal to make something of the parts that were opened is one to report
   module _ (old new : List P) (opened : AreOpened answered names old) where
@@ -119,15 +119,15 @@ module _ {P W : Type 0} (making : Making) (answered : Answered P W) (left : P �
     of_reporting refusals.Questions kind says = absurd kind
     of_reporting refusals.OutOfMemory kind says = tt
 
-    -- and where the new file was removed, one to make something in it
-    pub of_making : (out : List ℕ) (refused : Refused) → IsOfMaking refused → Says refused → answered.IsRemoved out
+    -- and where no new file is left, one to make something in it
+    pub of_making : (out : List ℕ) (refused : Refused) → IsOfMaking refused → Says refused → answered.HasNone out
         → IsFilesRefusal making answered left health pulls names out refused
-    of_making out (refusals.Engine fault) kind says removed = (of_reporting (refusals.Engine fault) kind says, removed)
-    of_making out (refusals.Dump place fault) kind says removed = absurd kind
-    of_making out (refusals.Open index) kind says removed = absurd kind
-    of_making out refusals.Create kind says removed = absurd kind
-    of_making out refusals.Questions kind says removed = absurd kind
-    of_making out refusals.OutOfMemory kind says removed = tt
+    of_making out (refusals.Engine fault) kind says none = (of_reporting (refusals.Engine fault) kind says, none)
+    of_making out (refusals.Dump place fault) kind says none = absurd kind
+    of_making out (refusals.Open index) kind says none = absurd kind
+    of_making out refusals.Create kind says none = absurd kind
+    of_making out refusals.Questions kind says none = absurd kind
+    of_making out refusals.OutOfMemory kind says none = (tt, none)
 
 -- a reader that is the only part tells it
 pub one_told : {R : Type 0} (left : R → Option (List ℕ)) (readers : List R) (reader : R) (part : List ℕ) → readers ≡ reader ∷ []

@@ -8,3 +8,4 @@ pub mod Telling
 pub mod Comparing
 pub mod Tasks
 pub mod CommandWords
+pub mod CommandLine

@@ -191,12 +191,6 @@ module _ {R : Type 0} (left : R → Option (List ℕ)) (health : R → Health) (
       (subst (λ (h : Option (List ℕ)). MakesStream left health pulls making old new held h ended') last
       (subst (λ (e : Option ToolFault). MakesStream left health pulls making old new held holds e) end m))
 
--- after a refusal the buffered writer holds what it held
-pub unchanged : {W : Type 0} (contents : W → Option (List ℕ)) (made : Result (Unit {0}) ToolFault) (now was : W) → OnErr made (now ≡ was)
-    → OnErr made (contents now ≡ contents was)
-unchanged contents (Ok done) now was same = tt
-unchanged contents (Err fault) now was same = ap contents same
-
 -- after a refusal before writing it is the very writer that it was
 pub untouched : {A : Type 0} (first was now : A) (made outcome : Result (Unit {0}) ToolFault)
     → OnOk made (OnErr outcome (outcome ≡ Err (tool.Write write_faults.Failed))) → IfErr made (λ fault. outcome ≡ Err fault)

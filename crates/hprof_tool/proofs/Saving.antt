@@ -19,7 +19,7 @@ use Rattle.hprof_engine.specs.Salvaging.{RefusesAll, Salvages}
 use Rattle.hprof_tool.specs.Folder.{Answered, AreOpened}
 use Rattle.hprof_tool.specs.declared.program.refused.Refused.{Refused}
 use Rattle.hprof_tool.specs.declared.program.refused.Refused.TheVariants as refusals
-use Rattle.hprof_tool.specs.Program.{usual_limits, refused_of, IsOfCreating, IsOfOpening}
+use Rattle.hprof_tool.specs.Program.{usual_limits, refused_of, IsOfStarting}
 use Rattle.hprof_tool.specs.SalvagedFiles.{SalvagesStream, SalvagesFiles, IsSalvageRefusal}
 
 module _ {R : Type 0} (left : R → Option (List ℕ)) (health : R → Health) (pulls : R → ℕ) (old new : List R) where
@@ -134,12 +134,6 @@ module _ {R : Type 0} (left : R → Option (List ℕ)) (health : R → Health) (
               (subst (λ (h : Option (List ℕ)). OfStream held was h it.0 (salvaged_in outcome)) at_last it.1)),
         )
 
--- after a refusal the buffered writer holds what it held
-pub unchanged_saving : {W : Type 0} (contents : W → Option (List ℕ)) (made : Result SalvagedHeap ToolFault) (now was : W)
-    → OnErr made (now ≡ was) → OnErr made (contents now ≡ contents was)
-unchanged_saving contents (Ok kept) now was same = tt
-unchanged_saving contents (Err fault) now was same = ap contents same
-
 -- ---- files
 
 module _ {P W : Type 0} (answered : Answered P W) (left : P → Option (List ℕ)) (health : P → Health) (pulls : P → ℕ)
@@ -147,23 +141,14 @@ module _ {P W : Type 0} (answered : Answered P W) (left : P → Option (List ℕ
   abbrev Refuses : Refused → Type 0
   Refuses = IsSalvageRefusal answered left health pulls contents names out
 
-  -- a refusal to open is one of these refusals
-  pub opening_saves : (refused : Refused) → IsOfOpening answered names refused → Refuses refused
-  opening_saves (refusals.Engine fault) is = absurd is
-  opening_saves (refusals.Dump place fault) is = absurd is
-  opening_saves (refusals.Open index) is = is
-  opening_saves refusals.Create is = absurd is
-  opening_saves refusals.Questions is = absurd is
-  opening_saves refusals.OutOfMemory is = tt
-
-  -- so is one to create the file
-  pub creating_saves : (refused : Refused) → IsOfCreating answered out refused → Refuses refused
-  creating_saves (refusals.Engine fault) is = absurd is
-  creating_saves (refusals.Dump place fault) is = absurd is
-  creating_saves (refusals.Open index) is = absurd is
-  creating_saves refusals.Create is = is
-  creating_saves refusals.Questions is = absurd is
-  creating_saves refusals.OutOfMemory is = tt
+  -- a refusal to start the new file is one of these refusals
+  pub starting_saves : (refused : Refused) → IsOfStarting answered names out refused → Refuses refused
+  starting_saves (refusals.Engine fault) is = absurd is
+  starting_saves (refusals.Dump place fault) is = absurd is
+  starting_saves (refusals.Open index) is = is
+  starting_saves refusals.Create is = is
+  starting_saves refusals.Questions is = absurd is
+  starting_saves refusals.OutOfMemory is = is
 
   module _ (old new : List P) (opened : AreOpened answered names old) (was is : W) (unwritten : List ℕ) where
     -- what saving what can be saved of the parts that were opened came to
@@ -175,12 +160,12 @@ module _ {P W : Type 0} (answered : Answered P W) (left : P → Option (List ℕ
     abbrev Ended : ToolFault → Type 0
     Ended fault = SalvagesStream left health pulls old new (contents was) (append_known (contents is) unwritten) (Err fault)
 
-    -- a refusal of the engine is one, where the new file was removed
-    pub engine_saves : (fault : ToolFault) → Ended fault → answered.IsCreated out was → answered.IsRemoved out → Refuses (refused_of fault)
-    engine_saves (tool.Part index fault) saves created removed = (was, is, unwritten, created, files_saved _ _ saves, removed)
-    engine_saves tool.NoParts saves created removed = (was, is, unwritten, created, files_saved _ _ saves, removed)
-    engine_saves tool.IdSizes saves created removed = (was, is, unwritten, created, files_saved _ _ saves, removed)
-    engine_saves (tool.Conflict key) saves created removed = (was, is, unwritten, created, files_saved _ _ saves, removed)
-    engine_saves tool.DumpTooLong saves created removed = (was, is, unwritten, created, files_saved _ _ saves, removed)
-    engine_saves (tool.Write fault) saves created removed = (was, is, unwritten, created, files_saved _ _ saves, removed)
-    engine_saves tool.OutOfMemory saves created removed = tt
+    -- a refusal of the engine is one, where no new file is left
+    pub engine_saves : (fault : ToolFault) → Ended fault → answered.IsCreated out was → answered.HasNone out → Refuses (refused_of fault)
+    engine_saves (tool.Part index fault) saves created none = (was, is, unwritten, created, files_saved _ _ saves, none)
+    engine_saves tool.NoParts saves created none = (was, is, unwritten, created, files_saved _ _ saves, none)
+    engine_saves tool.IdSizes saves created none = (was, is, unwritten, created, files_saved _ _ saves, none)
+    engine_saves (tool.Conflict key) saves created none = (was, is, unwritten, created, files_saved _ _ saves, none)
+    engine_saves tool.DumpTooLong saves created none = (was, is, unwritten, created, files_saved _ _ saves, none)
+    engine_saves (tool.Write fault) saves created none = (was, is, unwritten, created, files_saved _ _ saves, none)
+    engine_saves tool.OutOfMemory saves created none = none

@@ -1,6 +1,12 @@
 -- The words of the commands.
-use Rattle.std.specs.Prelude.{◌≡◌, ◌≢◌, ℕ, List, Option, Some, None, codes}
-use Rattle.hprof_ask.specs.Words.{word_of}
+use Rattle.std.specs.Prelude.{◌≡◌, ◌≢◌, ℕ, List, [], Option, Some, None, map, unwrap_or, codes}
+use Rattle.std.specs.Borrow.{Bor}
+use Rattle.clap.specs.declared.error.ErrorKind.TheVariants.{OutOfMemory}
+use Rattle.clap.specs.Values.{kind_of}
+use Rattle.clap.specs.Walk.{Row, all_of, first_of}
+use Rattle.hprof_ask.specs.declared.report_word.Follows.{Follows}
+use Rattle.hprof_ask.specs.declared.report_word.Follows.TheVariants as follow
+use Rattle.hprof_ask.specs.Words.{follows_of, word_of}
 use Rattle.hprof_tool.specs.declared.command.NewFile.TheVariants as files
 use Rattle.hprof_tool.specs.declared.command.Misunderstood.{Misunderstood}
 use Rattle.hprof_tool.specs.declared.command.Misunderstood.TheVariants as misunderstood
@@ -17,21 +23,43 @@ command_word (commands.Report report) = word_of report
 command_word commands.Compare = codes "diff"
 command_word commands.Ask = codes "ask"
 
--- the word asks for the task: each task has one
-abbrev pub AsksFor : List ℕ → Task → Type 0
-AsksFor word tasks.JoinInput = ⊥
-AsksFor word (tasks.Write product out parts) = word ≡ command_word (commands.Write product)
-AsksFor word (tasks.Salvage out parts) = word ≡ command_word commands.Salvage
-AsksFor word (tasks.Report report text parts) = word ≡ command_word (commands.Report report)
-AsksFor word (tasks.Compare older newer) = word ≡ command_word commands.Compare
-AsksFor word (tasks.Ask parts) = word ≡ command_word commands.Ask
+-- the text that clap found for an argument; the empty one if it found none
+abbrev pub text_in : List ℕ → List Row → List ℕ
+text_in argument rows = unwrap_or (first_of argument rows) []
 
--- the task of words among which clap found that command, or none
-abbrev pub IsTaskOf : Option (List ℕ) → Task → Type 0
+-- these are the names of parts that clap found
+abbrev pub ArePartsIn : List Row → List (Bor (List ℕ)) → Type 0
+ArePartsIn rows parts = map (λ part. part.now) parts ≡ unwrap_or (all_of (codes "part") rows) []
+
+-- the text that says what a report is about
+abbrev pub subject_in : Follows → List Row → List ℕ
+subject_in follow.Nothing rows = []
+subject_in follow.Identifier rows = text_in (codes "id") rows
+subject_in follow.ClassOrType rows = text_in (codes "kind") rows
+
+-- the word and what clap found behind it ask for the task: each task has one word
+abbrev pub AsksFor : List ℕ → List Row → Task → Type 0
+AsksFor word rows tasks.JoinInput = ⊥
+AsksFor word rows (tasks.Write product out parts) = (word ≡ command_word (commands.Write product))
+    × (out.name.now ≡ text_in (codes "out") rows) × ArePartsIn rows parts.items
+AsksFor word rows (tasks.Salvage out parts) = (word ≡ command_word commands.Salvage)
+    × (out.name.now ≡ text_in (codes "out") rows) × ArePartsIn rows parts.items
+AsksFor word rows (tasks.Report report text parts) = (word ≡ command_word (commands.Report report))
+    × (text.now ≡ subject_in (follows_of report) rows) × ArePartsIn rows parts.items
+AsksFor word rows (tasks.Compare older newer) = (word ≡ command_word commands.Compare)
+    × (older.now ≡ text_in (codes "older") rows) × (newer.now ≡ text_in (codes "newer") rows)
+AsksFor word rows (tasks.Ask parts) = (word ≡ command_word commands.Ask) × ArePartsIn rows parts.items
+
+-- the task of words among which clap found that command, with that behind it, or none
+abbrev pub IsTaskOf : Option (List ℕ × List Row) → Task → Type 0
 IsTaskOf None task = task ≡ tasks.JoinInput
-IsTaskOf (Some word) task = AsksFor word task
+IsTaskOf (Some (word, rows)) task = AsksFor word rows task
 
 -- a word that is in no row is not understood
-abbrev pub IsNoCommand : Option (List ℕ) → Misunderstood → Type 0
-IsNoCommand found misunderstood.NoCommand = (word : List ℕ) × (found ≡ Some word) × ((command : CommandWord) → word ≢ command_word command)
-IsNoCommand found (misunderstood.Words error) = Unit {0}
+abbrev pub IsNoCommand : Option (List ℕ × List Row) → Type 0
+IsNoCommand found = (it : List ℕ × List Row) × (found ≡ Some it) × ((command : CommandWord) → it.0 ≢ command_word command)
+
+-- why there is no task of words that clap has understood: there was no memory, or the command is in no row
+abbrev pub IsUnmatched : Option (List ℕ × List Row) → Misunderstood → Type 0
+IsUnmatched found (misunderstood.Words error) = kind_of error ≡ OutOfMemory
+IsUnmatched found misunderstood.NoCommand = IsNoCommand found

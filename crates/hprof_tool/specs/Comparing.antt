@@ -35,10 +35,10 @@ IsFrontOfBoth left olds news held holds =
 -- left, health, pulls: what a reader has left to tell, how it is doing, how often it was pulled
 -- olds, olds_then; news, news_then: the readers of the older and of the newer dump, before and afterwards
 module _ {R : Type 0} (left : R → Option (List ℕ)) (health : R → Health) (pulls : R → ℕ) (olds olds_then news news_then : List R) where
-  -- the older parts are refused with the fault, or they agree and the newer ones are
+  -- the older parts are refused with the fault and none of the newer ones is touched, or they agree and the newer ones are refused
   abbrev pub RefusesDump : (old_parts new_parts : List (List ℕ)) → (place : ℕ) → ToolFault → Type 0
   RefusesDump old_parts new_parts place fault =
-      ((place ≡ 0) × IsRefusal left health pulls olds olds_then dump_making (refusals.Engine fault) old_parts)
+      ((place ≡ 0) × (news_then ≡ news) × IsRefusal left health pulls olds olds_then dump_making (refusals.Engine fault) old_parts)
       ⊎ ((place ≡ 1) × ((heap : HeapValue) × Agree old_parts heap.ids heap.millis heap.facts)
       × IsRefusal left health pulls news news_then dump_making (refusals.Engine fault) new_parts)
 

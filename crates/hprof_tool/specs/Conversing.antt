@@ -41,6 +41,10 @@ is_flushed device = writer_buffer (buffered_of device) ≡ []
 abbrev pub CannotReadOn : {Q : Type 0} → (Q → Health) → (Q → ℕ) → Q → Type 0
 CannotReadOn health pulls source = (health source ≡ healths.Failed) ⊎ (2 ^ 64 - 1 ≤ pulls source)
 
+-- a refusal that the questions could not be read comes of their source alone
+abbrev pub HasFailed : {Q : Type 0} → (Q → Health) → (Q → ℕ) → Refused → Type 0
+HasFailed {Q} health pulls why = why ≡ refusals.Questions → (source : Q) × CannotReadOn health pulls source
+
 -- the parts agree, and that holds of the answers over the heap that they state and over their summaries
 pub record OverParts (Holds : (Question → List ℕ → Type 0) → Type 0) (parts : List (List ℕ)) : Type 0 where
   pub heap : HeapValue

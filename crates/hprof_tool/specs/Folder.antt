@@ -7,14 +7,14 @@ use Rattle.std.specs.Borrow.{Bor}
 --   IsOpened, IsCreated: this part, or this file, as it is here, came of opening, or creating, the one of that name
 --   CannotOpen, CannotCreate: that was tried, and no file came of it
 --   MayCreate: the file of that name may be created
---   IsRemoved: it was tried to remove the file of that name
+--   HasNone: no new file of that name is left: none was created, or it was tried to remove it
 pub record Answered (P W : Type 0) : Type 1 where
   pub IsOpened : List ℕ → P → Type 0
   pub CannotOpen : List ℕ → Type 0
   pub MayCreate : List ℕ → Type 0
   pub IsCreated : List ℕ → W → Type 0
   pub CannotCreate : List ℕ → Type 0
-  pub IsRemoved : List ℕ → Type 0
+  pub HasNone : List ℕ → Type 0
 
 -- a folder of which nothing is told, and which lets every file be created
 abbrev pub nothing_told : {P W : Type 0} → Answered P W
@@ -24,7 +24,7 @@ nothing_told = record {
   MayCreate = λ name. ⊤;
   IsCreated = λ name file. ⊤;
   CannotCreate = λ name. ⊤;
-  IsRemoved = λ name. ⊤;
+  HasNone = λ name. ⊤;
 }
 
 -- these parts are those of these names, in order, as they came of opening them

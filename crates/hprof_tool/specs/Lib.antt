@@ -1,7 +1,6 @@
 pub mod Conversing
 pub mod Folder
 pub mod Program
-pub mod Prompting
 pub mod SalvagedFiles
 pub mod Status
 pub mod Streams
@@ -10,3 +9,4 @@ pub mod Tasks
 pub mod Telling
 pub mod Words
 pub mod Commands
+pub mod CommandLine

@@ -92,11 +92,10 @@ module _ {P W : Type 0} (making : Making) (answered : Answered P W) (left : P �
   IsReportRefusal refusals.Questions = ⊥
   IsReportRefusal refusals.OutOfMemory = ⊤
 
-  -- what a refusal to make something of them, in a new file of that name, says: behind one of the engine it was tried to remove the file
+  -- what a refusal to make something of them, in a new file of that name, says: no such file is left
   abbrev pub IsFilesRefusal : (out : List ℕ) → Refused → Type 0
   IsFilesRefusal out refusals.Create = answered.CannotCreate out
-  IsFilesRefusal out (refusals.Engine fault) = IsReportRefusal (refusals.Engine fault) × answered.IsRemoved out
-  IsFilesRefusal out other = IsReportRefusal other
+  IsFilesRefusal out other = IsReportRefusal other × answered.HasNone out
 
 -- how the program refuses what the engine refuses: want of memory is the program's own
 abbrev pub refused_of : ToolFault → Refused
@@ -137,11 +136,16 @@ IsOfOpening answered names (refusals.Open index) = CannotOpenAt answered names i
 IsOfOpening answered names refusals.OutOfMemory = ⊤
 IsOfOpening answered names other = ⊥
 
--- the file of that name could not be created, or there was no memory
+-- the file of that name could not be created, or there was no memory, and no new file is left
 abbrev pub IsOfCreating : {P W : Type 0} → Answered P W → (out : List ℕ) → Refused → Type 0
 IsOfCreating answered out refusals.Create = answered.CannotCreate out
-IsOfCreating answered out refusals.OutOfMemory = ⊤
+IsOfCreating answered out refusals.OutOfMemory = answered.HasNone out
 IsOfCreating answered out other = ⊥
+
+-- a part could not be opened, or behind them the new file could not be created, or there was no memory, and no new file is left
+abbrev pub IsOfStarting : {P W : Type 0} → Answered P W → List (Bor (List ℕ)) → (out : List ℕ) → Refused → Type 0
+IsOfStarting answered names out (refusals.Open index) = CannotOpenAt answered names index × answered.HasNone out
+IsOfStarting answered names out other = IsOfCreating answered out other
 
 -- as `Makes` with the usual limits, for a stream whose health nothing tells
 --   held, holds: what the stream and the buffer before it hold, before and afterwards, where the stream tells

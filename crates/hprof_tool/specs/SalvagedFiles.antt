@@ -1,5 +1,5 @@
 -- What saving what can be saved of files comes to.
-use Rattle.std.specs.Prelude.{ℕ, List, Option, Result, Ok, Err, ⊤}
+use Rattle.std.specs.Prelude.{ℕ, List, Option, Result, Ok, Err}
 use Rattle.std.specs.Borrow.{Bor}
 use Rattle.std.specs.Io.KnownBytes.{append_known}
 use Rattle.hprof_devices.specs.declared.health.Health.{Health}
@@ -39,15 +39,14 @@ module _ {P W : Type 0} (answered : Answered P W) (left : P → Option (List ℕ
   IsSalvagedFile salvaged new = (old : W) × answered.IsCreated out old
       × SalvagesFiles answered left health pulls names (contents old) (contents new) (Ok salvaged)
 
-  -- what a refusal to save what can be saved of them, in a new file of that name, says: behind one of the engine it was tried to remove
-  -- the file
+  -- what a refusal to save what can be saved of them, in a new file of that name, says: no such file is left
   abbrev pub IsSalvageRefusal : Refused → Type 0
   IsSalvageRefusal (refusals.Engine tool.OutOfMemory) = ⊥
   IsSalvageRefusal (refusals.Engine fault) = (old new : W) × (unwritten : List ℕ) × answered.IsCreated out old
       × SalvagesFiles answered left health pulls names (contents old) (append_known (contents new) unwritten) (Err fault)
-      × answered.IsRemoved out
+      × answered.HasNone out
   IsSalvageRefusal (refusals.Dump place fault) = ⊥
-  IsSalvageRefusal (refusals.Open index) = CannotOpenAt answered names index
+  IsSalvageRefusal (refusals.Open index) = CannotOpenAt answered names index × answered.HasNone out
   IsSalvageRefusal refusals.Create = answered.CannotCreate out
   IsSalvageRefusal refusals.Questions = ⊥
-  IsSalvageRefusal refusals.OutOfMemory = ⊤
+  IsSalvageRefusal refusals.OutOfMemory = answered.HasNone out

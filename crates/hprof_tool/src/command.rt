@@ -1,9 +1,11 @@
 //! The words of the command line.
 
-ghost use Rattle.std.specs.Prelude.{MatchOption, MatchResult, IfOk, Some};
-ghost use Rattle.clap.specs.declared.parser.matches.ArgMatches.{ArgMatches};
-ghost use Rattle.clap.specs.Matches.{subcommand_name_of};
-ghost use Rattle.hprof_tool.specs.Commands.{AsksFor, IsNoCommand, IsTaskOf, command_word};
+ghost use Rattle.std.specs.Prelude.{◌≡◌, false, map, MatchResult, IfOk, string_bytes, codes};
+ghost use Rattle.clap.specs.Words.{app_of, found_of, rows_of, rule_of, shape_of, subcommand_rows_of, with_subcommand};
+ghost use Rattle.hprof_ask.specs.Words.{follows_of};
+ghost use Rattle.hprof_tool.specs.CommandLine.{IsMisunderstanding, IsTaskOfWords, command_line, parts_rule, required_rule, shape_of_row};
+ghost use Rattle.hprof_tool.specs.CommandLine.{with_rules};
+ghost use Rattle.hprof_tool.specs.Commands.{AsksFor, ArePartsIn, IsTaskOf, IsUnmatched, command_word, subject_in, text_in};
 
 use clap::{Arg, ArgAction, ArgMatches, Command, Error};
 use hprof_ask::{Follows, ReportWord};
@@ -23,14 +25,14 @@ pub(crate) enum Task<'a> {
         /// The dump to write.
         product: NewFile,
         /// The name of the new file.
-        out: &'a str,
+        out: OutName<'a>,
         /// The names of the parts, in order.
         parts: Vec<&'a str>,
     },
     /// To salvage the parts in files, to a new file.
     Salvage {
         /// The name of the new file.
-        out: &'a str,
+        out: OutName<'a>,
         /// The names of the parts, in order.
         parts: Vec<&'a str>,
     },
@@ -57,6 +59,22 @@ pub(crate) enum Task<'a> {
     },
 }
 
+/// The name of the one new file that a task may create. The command line alone makes it, it cannot be copied, and creating the file uses it
+/// up.
+#[derive(Drop)]
+pub(crate) struct OutName<'a> {
+    name: &'a str,
+}
+
+impl<'a> OutName<'a> {
+    /// Returns the name.
+    pub(crate) fn as_str(&self) -> &'a str
+        ensures { result.now ≡ self.now.name.now }
+    {
+        self.name
+    }
+}
+
 /// The dump that is written to a new file.
 #[derive(Clone, Copy, Debug, PartialEq, Eq)]
 pub(crate) enum NewFile {
@@ -76,19 +94,34 @@ pub(crate) enum Misunderstood {
 }
 
 impl From<Error> for Misunderstood {
+    ghost use Rattle.std.specs.Prelude.{◌≡◌};
+    ghost use Rattle.hprof_tool.specs.declared.command.Misunderstood.TheVariants.{Words};
+
+    ghost from_gives = { λ error why. why ≡ Words error };
+
     fn from(error: Error) -> Misunderstood {
         Misunderstood::Words(error)
     }
 }
 
 impl From<AllocError> for Misunderstood {
+    ghost use Rattle.std.specs.Prelude.{◌≡◌};
+    ghost use Rattle.clap.specs.declared.error.ErrorKind.TheVariants.{OutOfMemory};
+    ghost use Rattle.clap.specs.Values.{kind_of};
+    ghost use Rattle.hprof_tool.specs.declared.command.Misunderstood.TheVariants.{Words};
+
+    ghost from_gives = { λ _ why. (error : _) × (why ≡ Words error) × (kind_of error ≡ OutOfMemory) };
+
     fn from(error: AllocError) -> Misunderstood {
         Misunderstood::Words(Error::from(error))
     }
 }
 
 /// Returns the argument for the names of the parts, any number of them.
-fn parts_arg<'a>(alloc: Global) -> Arg<'a> {
+fn parts_arg<'a>(alloc: Global) -> Arg<'a>
+    ensures rule { rule_of result ≡ parts_rule }
+    ensures local { result.global ≡ false }
+{
     Arg::new(alloc, "part")
         .value_name("PART")
         .help("The dump, or the parts that together hold one heap")
@@ -97,7 +130,10 @@ fn parts_arg<'a>(alloc: Global) -> Arg<'a> {
 }
 
 /// Returns an argument that a command must be given.
-fn required_arg<'a>(alloc: Global, argument: Argument) -> Arg<'a> {
+fn required_arg<'a>(alloc: Global, argument: Argument) -> Arg<'a>
+    ensures rule { rule_of result ≡ required_rule argument.name.now }
+    ensures local { result.global ≡ false }
+{
     Arg::new(alloc, argument.name)
         .value_name(argument.value_name)
         .help(argument.help)
@@ -110,7 +146,10 @@ fn with_required<'a>(
     alloc: Global,
     command: Command<'a>,
     arguments: &[Argument],
-) -> Result<Command<'a>, AllocError> {
+) -> Result<Command<'a>, AllocError>
+    ensures { IfOk result (λ command_then. app_of command_then
+        ≡ with_rules (app_of command.entry) (map (λ argument. required_rule argument.name.now) arguments.now)) }
+{
     let mut command = command;
     for argument in arguments {
         command = command.arg(required_arg(alloc, *argument))?;
@@ -119,7 +158,9 @@ fn with_required<'a>(
 }
 
 /// Returns a command of the program.
-fn subcommand_of<'a>(alloc: Global, row: &CommandRow) -> Result<Command<'a>, AllocError> {
+fn subcommand<'a>(alloc: Global, row: &CommandRow) -> Result<Command<'a>, AllocError>
+    ensures { IfOk result (λ command. shape_of command ≡ shape_of_row row.now) }
+{
     let command = Command::new(alloc, row.word)
         .about(row.about)
         .after_help(row.help);
@@ -135,12 +176,16 @@ fn with_subcommand<'a>(
     alloc: Global,
     program: Command<'a>,
     row: &CommandRow,
-) -> Result<Command<'a>, AllocError> {
-    program.subcommand(subcommand_of(alloc, row)?)
+) -> Result<Command<'a>, AllocError>
+    ensures { IfOk result (λ program_then. app_of program_then ≡ with_subcommand (app_of program.entry) (shape_of_row row.now)) }
+{
+    program.subcommand(subcommand(alloc, row)?)
 }
 
 /// Returns the program's command line.
-fn command<'a>(alloc: Global) -> Result<Command<'a>, AllocError> {
+fn command<'a>(alloc: Global) -> Result<Command<'a>, AllocError>
+    ensures { IfOk result (λ command. app_of command ≡ command_line) }
+{
     let mut program = Command::new(alloc, "hprof")
         .version(help::VERSION)
         .about("Reads Java heap dumps, answers questions about them, and joins them")
@@ -153,19 +198,34 @@ fn command<'a>(alloc: Global) -> Result<Command<'a>, AllocError> {
 }
 
 /// Returns the names of the parts that were given to a command.
-fn parts_of<'a>(alloc: Global, words: &ArgMatches<'a>) -> Result<Vec<&'a str>, AllocError> {
+fn parts_of<'a>(alloc: Global, words: &ArgMatches<'a>) -> Result<Vec<&'a str>, AllocError>
+    ensures { IfOk result (λ parts. ArePartsIn (rows_of (found_of words.now)) parts.items) }
+{
     let mut parts = Vec::new(alloc);
     parts.extend_from_slice(words.get_strs("part").unwrap_or(&[]))?;
     Ok(parts)
 }
 
 /// Returns the value of an argument. If a command must be given it, clap refuses words without it.
-fn value_of<'a>(words: &ArgMatches<'a>, argument: &str) -> &'a str {
+fn value_of<'a>(words: &ArgMatches<'a>, argument: &str) -> &'a str
+    ensures { result.now ≡ text_in argument.now (rows_of (found_of words.now)) }
+{
     words.get_str(argument).unwrap_or("")
 }
 
+/// Returns the name of the new file.
+fn out_of<'a>(words: &ArgMatches<'a>) -> OutName<'a>
+    ensures { result.name.now ≡ text_in (codes "out") (rows_of (found_of words.now)) }
+{
+    OutName {
+        name: value_of(words, "out"),
+    }
+}
+
 /// Returns the text that says what a report is about.
-fn subject_of<'a>(words: &ArgMatches<'a>, report: ReportWord) -> &'a str {
+fn subject_of<'a>(words: &ArgMatches<'a>, report: ReportWord) -> &'a str
+    ensures { result.now ≡ subject_in (follows_of report) (rows_of (found_of words.now)) }
+{
     match report.row().follows {
         Follows::Nothing => "",
         Follows::Identifier => value_of(words, "id"),
@@ -179,17 +239,17 @@ fn task_of_command<'a>(
     command: CommandWord,
     words: &ArgMatches<'a>,
 ) -> Result<Task<'a>, AllocError>
-    ensures { IfOk result (AsksFor (command_word command)) }
+    ensures { IfOk result (AsksFor (command_word command) (rows_of (found_of words.now))) }
 {
     let parts = parts_of(alloc, words)?;
     Ok(match command {
         CommandWord::Write(product) => Task::Write {
             product,
-            out: value_of(words, "out"),
+            out: out_of(words),
             parts,
         },
         CommandWord::Salvage => Task::Salvage {
-            out: value_of(words, "out"),
+            out: out_of(words),
             parts,
         },
         CommandWord::Report(word) => Task::Report {
@@ -207,7 +267,7 @@ fn task_of_command<'a>(
 
 /// Returns the task of words that clap has understood.
 fn task_matched<'a>(alloc: Global, matches: &ArgMatches<'a>) -> Result<Task<'a>, Misunderstood>
-    ensures { MatchResult result (IsTaskOf (subcommand_name_of matches.now)) (IsNoCommand (subcommand_name_of matches.now)) }
+    ensures { MatchResult result (IsTaskOf (subcommand_rows_of matches.now)) (IsUnmatched (subcommand_rows_of matches.now)) }
 {
     let Some((name, words)) = matches.subcommand() else {
         return Ok(Task::JoinInput);
@@ -215,15 +275,12 @@ fn task_matched<'a>(alloc: Global, matches: &ArgMatches<'a>) -> Result<Task<'a>,
     let Some(command) = CommandWord::of(name) else {
         return Err(Misunderstood::NoCommand);
     };
-    match task_of_command(alloc, command, words) {
-        Ok(task) => Ok(task),
-        Err(error) => Err(Misunderstood::Words(Error::from(error))),
-    }
+    Ok(task_of_command(alloc, command, words)?)
 }
 
 /// Returns the task that the words ask for. The first word is the program's name.
 pub(crate) fn task_of<'a>(alloc: Global, words: &'a [String]) -> Result<Task<'a>, Misunderstood>
-    ensures { IfOk result (λ task. (matches : ArgMatches) × IsTaskOf (subcommand_name_of matches) task) }
+    ensures { MatchResult result (IsTaskOfWords (map string_bytes words.now)) (IsMisunderstanding (map string_bytes words.now)) }
 {
     let matches = command(alloc)?.try_get_matches_from(words)?;
     task_matched(alloc, &matches)

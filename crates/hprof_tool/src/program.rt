@@ -7,19 +7,20 @@ ghost use Rattle.hprof_engine.specs.Makes.{IsDump, IsMadeOf, making_of};
 ghost use Rattle.hprof_ask.specs.declared.report.Report.{Report};
 ghost use Rattle.hprof_ask.specs.declared.subject.Misnamed.{Misnamed};
 ghost use Rattle.hprof_ask.specs.Asked.{AsksReport, IsMisnamed};
+ghost use Rattle.hprof_ask.specs.HeapAnswers.{misnamed_text};
 ghost use Rattle.hprof_ask.specs.Report.{IsReportText, report_making};
 ghost use Rattle.hprof_tool.specs.Comparing.{ComparesFiles, RefusesDiff};
-ghost use Rattle.hprof_tool.specs.Conversing.{AnswersQuestions, RefusesQuestions};
+ghost use Rattle.hprof_tool.specs.Conversing.{AnswersQuestions, HasFailed, RefusesQuestions};
 ghost use Rattle.hprof_engine.specs.declared.salvaged.Salvaged.{Salvaged};
 ghost use Rattle.hprof_tool.specs.Folder.{MayCreateBehind};
 ghost use Rattle.hprof_tool.specs.Program.{IsMadeOfStream, IsMadeInFile, IsMadeOfFiles, IsFilesRefusal};
 ghost use Rattle.hprof_tool.specs.SalvagedFiles.{IsSalvagedFile};
 ghost use Rattle.hprof_tool.specs.Streams.{RefusesStream, RefusesReport};
 ghost use Rattle.hprof_tool.specs.Tasks.{DoesTask, IsMisnamedTask, MayDo, RefusesTask, WritesNoFile, new_file_making};
-ghost use Rattle.hprof_tool.specs.Telling.{TellsFaults, RefusesSalvage, TellsRefusal};
+ghost use Rattle.hprof_tool.specs.Telling.{TellsFaults, TellsFront, RefusesSalvage, TellsRefusal, told_line};
 ghost use Rattle.hprof_tool.specs.Words.{is_new_file};
 
-use crate::command::{Misunderstood, NewFile, Task, task_of};
+use crate::command::{Misunderstood, NewFile, OutName, Task, task_of};
 use crate::status::Status;
 use answers::{
     Ended, EndedFile, answer_misnamed, answer_no_command, answer_no_words, answer_stream,
@@ -50,6 +51,7 @@ mod folder;
 mod joining;
 mod meter;
 mod metered;
+mod opening;
 mod prompting;
 mod refused;
 mod salvaging;
@@ -69,6 +71,7 @@ fn join_input<I: Source + Drop, O: Write + Drop, W, E: Write>(
     ensures refused { result.status ≡ Status.Refused → (why : Refused)
         × RefusesStream I.left I.health I.pulls O.contents input output why result.output
         × TellsRefusal why (E.contents errors.old) (E.contents errors.new) }
+    ensures silent { result.status ≡ Status.Done → errors.new ≡ errors.old }
     ensures understood { result.status ≢ Status.NotUnderstood }
     ensures no_file { result.file ≡ None }
 {
@@ -80,17 +83,19 @@ fn write_new_file<P: Product, F: Folder, E: Write>(
     alloc: Global,
     files: &F,
     product: &P,
-    out: &str,
+    out: OutName<'_>,
     names: &[&str],
     errors: &mut E,
 ) -> EndedFile<F::Out>
-    requires { MayCreateBehind (F.answered files.now) names.now out.now }
+    requires { MayCreateBehind (F.answered files.now) names.now out.name.now }
     ensures done { result.status ≡ Status.Done → (written : F.Out) × (result.file ≡ Some written)
-        × IsMadeInFile (IsMadeOf (P.is_text product.now)) (F.answered files.now) F.Part.left F.Out.contents names.now out.now written }
+        × IsMadeInFile (IsMadeOf (P.is_text product.now)) (F.answered files.now) F.Part.left F.Out.contents names.now
+        out.entry.name.now written }
     ensures refused { result.status ≡ Status.Refused → (result.file ≡ None) × ((why : Refused) × IsFilesRefusal
         (making_of (P.is_text product.now) (P.is_too_long product.now) (P.takes_room product.now) (P.takes_memory product.now))
-        (F.answered files.now) F.Part.left F.Part.health F.Part.pulls names.now out.now why
+        (F.answered files.now) F.Part.left F.Part.health F.Part.pulls names.now out.entry.name.now why
         × TellsRefusal why (E.contents errors.old) (E.contents errors.new)) }
+    ensures silent { result.status ≡ Status.Done → errors.new ≡ errors.old }
     ensures understood { result.status ≢ Status.NotUnderstood }
 {
     match write_file(alloc, files, product, out, names) {
@@ -110,19 +115,21 @@ fn write_new_file<P: Product, F: Folder, E: Write>(
 fn salvage<F: Folder, O: Write, E: Write>(
     alloc: Global,
     files: &F,
-    out: &str,
+    out: OutName<'_>,
     names: &[&str],
     output: &mut O,
     errors: &mut E,
 ) -> EndedFile<F::Out>
-    requires { MayCreateBehind (F.answered files.now) names.now out.now }
+    requires { MayCreateBehind (F.answered files.now) names.now out.name.now }
     ensures done { result.status ≡ Status.Done → (salvaged : Salvaged) × ((written : F.Out) × (result.file ≡ Some written)
-        × IsSalvagedFile (F.answered files.now) F.Part.left F.Part.health F.Part.pulls F.Out.contents names.now out.now salvaged written)
+        × IsSalvagedFile (F.answered files.now) F.Part.left F.Part.health F.Part.pulls F.Out.contents names.now
+        out.entry.name.now salvaged written)
         × ((text : List ℕ) × TellsFaults salvaged.faults.items text
         × Appends (O.contents output.old) (O.contents output.new) text) }
     ensures refused { result.status ≡ Status.Refused → (why : Refused) × RefusesSalvage (F.answered files.now) F.Part.left F.Part.health
-        F.Part.pulls F.Out.contents names.now out.now O.contents result.file output.old output.new why
+        F.Part.pulls F.Out.contents names.now out.entry.name.now O.contents result.file output.old output.new why
         × TellsRefusal why (E.contents errors.old) (E.contents errors.new) }
+    ensures silent { result.status ≡ Status.Done → errors.new ≡ errors.old }
     ensures understood { result.status ≢ Status.NotUnderstood }
 {
     let Written { salvaged, writer } = match salvage_file(alloc, files, out, names) {
@@ -163,10 +170,12 @@ fn report<F: Folder, O: Write + Drop, E: Write>(
     ensures refused { result.status ≡ Status.Refused → (report : Report) × AsksReport word text.now report
         × ((why : Refused) × RefusesReport (report_making report) (F.answered files.now) F.Part.left F.Part.health F.Part.pulls
         O.contents names.now output why result.output × TellsRefusal why (E.contents errors.old) (E.contents errors.new)) }
+    ensures silent { result.status ≡ Status.Done → errors.new ≡ errors.old }
     ensures understood { (report : Report) → AsksReport word text.now report → result.status ≢ Status.NotUnderstood }
     ensures misnamed { (fault : Misnamed) → IsMisnamed word text.now fault
         → (result.status ≡ Status.NotUnderstood) × (result.output ≡ Some output) }
-    ensures why { result.status ≡ Status.NotUnderstood → (fault : Misnamed) × IsMisnamed word text.now fault }
+    ensures why { result.status ≡ Status.NotUnderstood → (fault : Misnamed) × IsMisnamed word text.now fault
+        × TellsFront (told_line (misnamed_text fault)) (E.contents errors.old) (E.contents errors.new) }
     ensures no_file { result.file ≡ None }
 {
     match word.report(text.as_bytes()) {
@@ -188,16 +197,18 @@ fn write_dump<F: Folder, E: Write>(
     alloc: Global,
     files: &F,
     product: NewFile,
-    out: &str,
+    out: OutName<'_>,
     names: &[&str],
     errors: &mut E,
 ) -> EndedFile<F::Out>
-    requires { MayCreateBehind (F.answered files.now) names.now out.now }
+    requires { MayCreateBehind (F.answered files.now) names.now out.name.now }
     ensures done { result.status ≡ Status.Done → (written : F.Out) × (result.file ≡ Some written)
-        × IsMadeInFile (IsMadeOf (is_new_file product)) (F.answered files.now) F.Part.left F.Out.contents names.now out.now written }
+        × IsMadeInFile (IsMadeOf (is_new_file product)) (F.answered files.now) F.Part.left F.Out.contents names.now
+        out.entry.name.now written }
     ensures refused { result.status ≡ Status.Refused → (result.file ≡ None) × ((why : Refused) × IsFilesRefusal
-        (new_file_making product) (F.answered files.now) F.Part.left F.Part.health F.Part.pulls names.now out.now why
+        (new_file_making product) (F.answered files.now) F.Part.left F.Part.health F.Part.pulls names.now out.entry.name.now why
         × TellsRefusal why (E.contents errors.old) (E.contents errors.new)) }
+    ensures silent { result.status ≡ Status.Done → errors.new ≡ errors.old }
     ensures understood { result.status ≢ Status.NotUnderstood }
 {
     match product {
@@ -207,7 +218,7 @@ fn write_dump<F: Folder, E: Write>(
 }
 
 /// Answers questions that come as lines of `input` about the heap of parts in files, on `output`, which it gives back.
-fn converse<F: Folder, I: Read + Drop, P: Write + Drop, O: Write + Drop, E: Write>(
+fn converse<F: Folder, I: Source + Drop, P: Write + Drop, O: Write + Drop, E: Write>(
     alloc: Global,
     files: &F,
     names: &[&str],
@@ -216,11 +227,13 @@ fn converse<F: Folder, I: Read + Drop, P: Write + Drop, O: Write + Drop, E: Writ
     output: O,
     errors: &mut E,
 ) -> Ended<O, F::Out>
+    requires { I.health input ≡ Well }
     ensures done { result.status ≡ Status.Done → (written : O) × (result.output ≡ Some written)
-        × AnswersQuestions (F.answered files.now) F.Part.left I.remaining O.contents names.now input output written }
+        × AnswersQuestions (F.answered files.now) F.Part.left I.left O.contents names.now input output written }
     ensures refused { result.status ≡ Status.Refused → (why : Refused) × RefusesQuestions (F.answered files.now) F.Part.left
-        I.remaining O.contents names.now input output F.Part.health F.Part.pulls why result.output
-        × TellsRefusal why (E.contents errors.old) (E.contents errors.new) }
+        I.left O.contents names.now input output F.Part.health F.Part.pulls why result.output
+        × HasFailed I.health I.pulls why × TellsRefusal why (E.contents errors.old) (E.contents errors.new) }
+    ensures silent { result.status ≡ Status.Done → errors.new ≡ errors.old }
     ensures understood { result.status ≢ Status.NotUnderstood }
     ensures no_file { result.file ≡ None }
 {
@@ -246,6 +259,7 @@ fn compare<F: Folder, O: Write + Drop, E: Write>(
     ensures refused { result.status ≡ Status.Refused → (why : Refused) × RefusesDiff (F.answered files.now) F.Part.left
         older.now newer.now O.contents output F.Part.health F.Part.pulls why result.output
         × TellsRefusal why (E.contents errors.old) (E.contents errors.new) }
+    ensures silent { result.status ≡ Status.Done → errors.new ≡ errors.old }
     ensures understood { result.status ≢ Status.NotUnderstood }
     ensures no_file { result.file ≡ None }
 {
@@ -263,7 +277,7 @@ fn list_of(alloc: Global, words: io::Result<Args>) -> io::Result<Vec<String>> {
 
 /// Does what a task asks for. It gives back `output`, unless there was no memory for the buffer before it, and the new file, if it wrote
 /// one.
-fn perform<F: Folder, I: Read + Drop, O: Write + Drop, E: Write, P: Write + Drop>(
+fn perform<F: Folder, I: Source + Drop, O: Write + Drop, E: Write, P: Write + Drop>(
     alloc: Global,
     files: &F,
     task: Task<'_>,
@@ -272,18 +286,22 @@ fn perform<F: Folder, I: Read + Drop, O: Write + Drop, E: Write, P: Write + Drop
     errors: &mut E,
     prompts: Option<P>,
 ) -> Ended<O, F::Out>
-    requires { MayDo (F.answered files.now) task }
+    requires folder { MayDo (F.answered files.now) task }
+    requires input { I.health input ≡ Well }
     ensures done { result.status ≡ Status.Done → (after : O) × (result.output ≡ Some after) × DoesTask (F.answered files.now)
-        F.Part.left F.Part.health F.Part.pulls F.Out.contents I.remaining O.contents result.file task.entry input output after }
+        F.Part.left F.Part.health F.Part.pulls F.Out.contents I.left I.health I.pulls O.contents result.file task.entry input output after }
     ensures refused { result.status ≡ Status.Refused → (why : Refused) × RefusesTask (F.answered files.now)
-        F.Part.left F.Part.health F.Part.pulls F.Out.contents I.remaining O.contents result.file task.entry input output why result.output
+        F.Part.left F.Part.health F.Part.pulls F.Out.contents I.left I.health I.pulls O.contents result.file task.entry input output why
+        result.output
         × TellsRefusal why (E.contents errors.old) (E.contents errors.new) }
+    ensures silent { result.status ≡ Status.Done → errors.new ≡ errors.old }
     ensures understood { result.status ≡ Status.NotUnderstood → result.output ≡ Some output }
-    ensures misnamed { result.status ≡ Status.NotUnderstood → IsMisnamedTask task.entry }
+    ensures misnamed { result.status ≡ Status.NotUnderstood → (fault : Misnamed) × IsMisnamedTask task.entry fault
+        × TellsFront (told_line (misnamed_text fault)) (E.contents errors.old) (E.contents errors.new) }
     ensures no_file { WritesNoFile task.entry → result.file ≡ None }
 {
     match task {
-        Task::JoinInput => join_input(alloc, Device::new(input), output, errors),
+        Task::JoinInput => join_input(alloc, input, output, errors),
         Task::Write {
             product,
             out,
@@ -340,6 +358,7 @@ fn perform_metered<S: Files + Clock, I: Read + Drop, O: Write + Drop, E: Write, 
         meter: &meter,
         writer,
     });
+    let input = Device::new(input);
     let ended = perform(alloc, &files, task, input, output, &mut errors, prompts);
     meter.clear();
     ended.status

@@ -1,7 +1,8 @@
 //! The commands of the program, in the order in which its help lists them.
 
-ghost use Rattle.std.specs.Prelude.{◌≡◌, ◌≢◌, MatchOption};
+ghost use Rattle.std.specs.Prelude.{◌≡◌, ◌≢◌, map, MatchOption};
 ghost use Rattle.hprof_tool.specs.declared.command.subcommands.CommandWord.{CommandWord};
+ghost use Rattle.hprof_tool.specs.CommandLine.{arguments_of, shape_of_command, shape_of_row};
 ghost use Rattle.hprof_tool.specs.Commands.{command_word};
 
 use super::{NewFile, help};
@@ -97,7 +98,9 @@ pub(crate) const COMMANDS: [CommandWord; 14] = [
 ];
 
 /// Returns the arguments that stand for what follows the word of a report.
-fn arguments_of(follows: Follows) -> &'static [Argument] {
+fn arguments_of(follows: Follows) -> &'static [Argument]
+    ensures { map (λ argument. argument.name.now) result.now ≡ arguments_of follows }
+{
     match follows {
         Follows::Nothing => &[],
         Follows::Identifier => &[ID],
@@ -107,7 +110,8 @@ fn arguments_of(follows: Follows) -> &'static [Argument] {
 
 /// Returns the row of a report.
 fn report_row(report: ReportWord) -> CommandRow
-    ensures { result.word.now ≡ command_word (CommandWord.Report report) }
+    ensures word { result.word.now ≡ command_word (CommandWord.Report report) }
+    ensures shape { shape_of_row result ≡ shape_of_command (CommandWord.Report report) }
 {
     let row = report.row();
     CommandRow {
@@ -122,7 +126,8 @@ fn report_row(report: ReportWord) -> CommandRow
 impl CommandWord {
     /// Returns the row of the command.
     pub(crate) fn row(self) -> CommandRow
-        ensures { result.word.now ≡ command_word self }
+        ensures word { result.word.now ≡ command_word self }
+        ensures shape { shape_of_row result ≡ shape_of_command self }
     {
         match self {
             CommandWord::Write(NewFile::Dump) => CommandRow {

@@ -1,6 +1,6 @@
 //! The texts of the program beside the dump, and the status that it ends with.
 
-ghost use Rattle.std.specs.Prelude.{◌≡◌, ◌≢◌, Some, None, IfErr, MatchResult, codes};
+ghost use Rattle.std.specs.Prelude.{◌≡◌, ◌≢◌, Some, None, IfErr, OnOk, MatchResult, codes};
 ghost use Rattle.std.specs.IoError.{error_kind};
 ghost use Rattle.std.specs.declared.io.ErrorKind.TheVariants.{OutOfMemory};
 ghost use Rattle.clap.specs.Values.{kind_of};
@@ -62,6 +62,7 @@ pub(crate) fn answer_stream<O, W, E: Write>(
     ensures status { MatchResult outcome (λ _. result.status ≡ Status.Done) (λ _. result.status ≡ Status.Refused) }
     ensures output { MatchResult outcome (λ written. result.output ≡ Some written) (λ stopped. result.output ≡ stopped.writer) }
     ensures no_file { result.file ≡ None }
+    ensures silent { OnOk outcome (errors.new ≡ errors.old) }
     ensures told { IfErr outcome (λ stopped. TellsRefusal stopped.why (E.contents errors.old) (E.contents errors.new)) }
 {
     match outcome {

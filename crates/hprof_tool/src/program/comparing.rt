@@ -29,7 +29,6 @@ fn compare_readers<R: Source, W: Write + Drop>(
         (λ old_parts new_parts. WritesAll (IsDifferenceOf old_parts) new_parts (W.contents writer) (W.contents written))) }
     ensures stops { IfErr result (λ stopped. StopsComparing R.left R.health R.pulls olds.old olds.new news.old news.new
         W.contents writer stopped.why stopped.writer) }
-    ensures unread { IfErr result (λ stopped. (fault : ToolFault) → stopped.why ≡ Refused.Dump 0 fault → news.new ≡ news.old) }
 {
     let old = match count_parts(alloc, olds, Limits::usual()) {
         Ok(old) => old,

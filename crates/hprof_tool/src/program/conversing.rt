@@ -12,7 +12,7 @@ ghost use Rattle.hprof_tool.specs.Folder.{AreOpened};
 ghost use Rattle.hprof_tool.specs.Program.{usual_limits};
 
 use crate::program::folder::Folder;
-use crate::program::joining::open_parts;
+use crate::program::opening::open_parts;
 use crate::program::refused::{Refused, Stopped};
 use crate::program::writing::BUFFER_LEN;
 use hprof_ask::{AskFault, Asker, ask_kept};

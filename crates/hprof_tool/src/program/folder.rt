@@ -5,6 +5,7 @@ ghost use Rattle.std.specs.Io.Buffered.{writer_buffer, writer_inner};
 ghost use Rattle.hprof_devices.specs.declared.health.Health.TheVariants.{Well};
 ghost use Rattle.hprof_tool.specs.Folder.{Answered};
 
+use crate::command::OutName;
 use crate::program::refused::Refused;
 use hprof_devices::Source;
 use std::alloc::Global;
@@ -32,14 +33,18 @@ pub(crate) trait Folder {
         ensures fails { OnErr result ((answered self.now).CannotOpen name.now) };
 
     /// Creates a new file, if there is none, behind a buffer. If there is no memory for the buffer, no new file is left.
-    fn create_out(&self, alloc: Global, name: &str) -> Result<BufWriter<Self::Out>, Refused>
-        requires { (answered self.now).MayCreate name.now }
-        ensures created { IfOk result (λ buffered. (answered self.now).IsCreated name.now (writer_inner buffered)) }
+    fn create_out(&self, alloc: Global, out: OutName<'_>) -> Result<BufWriter<Self::Out>, Refused>
+        requires { (answered self.now).MayCreate out.name.now }
+        ensures created { IfOk result (λ buffered. (answered self.now).IsCreated out.entry.name.now (writer_inner buffered)) }
         ensures empty { IfOk result (λ buffered. writer_buffer buffered ≡ []) }
-        ensures fails { IfErr result (IsOfCreating (answered self.now) name.now) };
+        ensures fails { IfErr result (IsOfCreating (answered self.now) out.entry.name.now) };
+
+    /// Gives up the name of a new file that was not created. It does nothing.
+    fn leave_out(&self, out: OutName<'_>)
+        ensures { (answered self.now).HasNone out.entry.name.now };
 
     /// Closes a new file that was created by that name, and removes it. If it cannot be removed, it stays.
-    fn remove_out(&self, name: &str, out: Self::Out)
+    fn remove_out(&self, name: &str, file: Self::Out)
         requires { (created : Self.Out) × (answered self.now).IsCreated name.now created }
-        ensures { (answered self.now).IsRemoved name.now };
+        ensures { (answered self.now).HasNone name.now };
 }

@@ -1,14 +1,16 @@
 //! Products of a stream, or of files.
 
-ghost use Rattle.std.specs.Prelude.{◌≡◌, length, All, Err, IfOk, IfErr};
+ghost use Rattle.std.specs.Prelude.{◌≡◌, length, Err, IfOk, IfErr};
 ghost use Rattle.hprof_devices.specs.declared.health.Health.TheVariants.{Well};
 ghost use Rattle.hprof_engine.specs.Makes.{IsDump, IsMadeOf, making_of};
-ghost use Rattle.hprof_tool.specs.Folder.{AreOpened, MayCreateBehind};
+ghost use Rattle.hprof_tool.specs.Folder.{MayCreateBehind};
 ghost use Rattle.hprof_tool.specs.Program.{IsMadeOfStream, IsMadeInFile, IsMadeOfFiles, IsFilesRefusal};
-ghost use Rattle.hprof_tool.specs.Program.{IsOfMaking, IsOfOpening};
+ghost use Rattle.hprof_tool.specs.Program.{IsOfMaking};
 ghost use Rattle.hprof_tool.specs.Streams.{RefusesStream, RefusesReport};
 
+use crate::command::OutName;
 use crate::program::folder::Folder;
+use crate::program::opening::{Started, open_parts, start_file};
 use crate::program::refused::{Refused, Stopped};
 use crate::program::writing::{write_buffered, write_through_buffer};
 use hprof_devices::Source;
@@ -37,50 +39,32 @@ pub(crate) fn join_stream<I: Source + Drop, O: Write + Drop>(
     write_through_buffer(alloc, &Dump, &mut part, output)
 }
 
-/// Opens the parts in order.
-pub(crate) fn open_parts<F: Folder>(
-    alloc: Global,
-    files: &F,
-    names: &[&str],
-) -> Result<Vec<F::Part>, Refused>
-    ensures opened { IfOk result (λ parts. AreOpened (F.answered files.now) names.now parts.items) }
-    ensures well { IfOk result (λ parts. All (λ part. F.Part.health part ≡ Well) parts.items) }
-    ensures count { IfOk result (λ parts. length parts.items ≡ length names.now) }
-    ensures kind { IfErr result (IsOfOpening (F.answered files.now) names.now) }
-{
-    let mut parts = Vec::new(alloc);
-    for (index, name) in names.iter().enumerate() {
-        match files.open_part(name) {
-            Ok(part) => parts.push(part)?,
-            Err(_) => return Err(Refused::Open(index)),
-        }
-    }
-    Ok(parts)
-}
-
-/// Writes the product of parts in files to a new file, which it gives back. After a refusal by the engine the new file is removed. It is
-/// created once all parts are opened.
+/// Writes the product of parts in files to a new file, which it gives back. It is created once all parts are
+/// opened. After a refusal no new file is left.
 pub(crate) fn write_file<P: Product, F: Folder>(
     alloc: Global,
     files: &F,
     product: &P,
-    out: &str,
+    out: OutName<'_>,
     names: &[&str],
 ) -> Result<F::Out, Refused>
-    requires { MayCreateBehind (F.answered files.now) names.now out.now }
+    requires { MayCreateBehind (F.answered files.now) names.now out.name.now }
     ensures ok { IfOk result (IsMadeInFile (IsMadeOf (P.is_text product.now)) (F.answered files.now) F.Part.left F.Out.contents
-        names.now out.now) }
+        names.now out.entry.name.now) }
     ensures no_parts { result ≡ Err (Refused.Engine ToolFault.NoParts) → length names.now ≡ 0 }
     ensures refused { IfErr result (IsFilesRefusal
         (making_of (P.is_text product.now) (P.is_too_long product.now) (P.takes_room product.now) (P.takes_memory product.now))
-        (F.answered files.now) F.Part.left F.Part.health F.Part.pulls names.now out.now) }
+        (F.answered files.now) F.Part.left F.Part.health F.Part.pulls names.now out.entry.name.now) }
 {
-    let mut parts = open_parts(alloc, files, names)?;
-    let buffered = files.create_out(alloc, out)?;
+    let name = out.as_str();
+    let Started {
+        mut parts,
+        buffered,
+    } = start_file(alloc, files, out, names)?;
     match write_buffered(alloc, product, &mut parts, buffered) {
         Ok(file) => Ok(file),
         Err(left) => {
-            files.remove_out(out, left.writer);
+            files.remove_out(name, left.writer);
             Err(left.why)
         }
     }

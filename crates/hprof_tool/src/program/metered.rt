@@ -1,5 +1,6 @@
 //! Files and writers round a progress meter. What is read and written is what the file or the writer itself would give and take.
 
+use crate::command::OutName;
 use crate::program::folder::Folder;
 use crate::program::meter::{Meter, Part};
 use crate::program::refused::Refused;
@@ -80,8 +81,9 @@ impl<'a, S: Files + Clock, T: Write + Drop> Folder for Metered<'a, S, T> {
     fn create_out(
         &self,
         alloc: Global,
-        name: &str,
+        out: OutName<'_>,
     ) -> Result<BufWriter<Clearing<'a, S::File, T>>, Refused> {
+        let name = out.as_str();
         let Ok(file) = create_private(self.system, name) else {
             return Err(Refused::Create);
         };
@@ -98,8 +100,10 @@ impl<'a, S: Files + Clock, T: Write + Drop> Folder for Metered<'a, S, T> {
         }
     }
 
-    fn remove_out(&self, name: &str, out: Clearing<'a, S::File, T>) {
-        drop(out);
+    fn leave_out(&self, _out: OutName<'_>) {}
+
+    fn remove_out(&self, name: &str, file: Clearing<'a, S::File, T>) {
+        drop(file);
         let _ = fs::remove_file(self.system, name);
     }
 }

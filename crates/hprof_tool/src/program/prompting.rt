@@ -1,30 +1,26 @@
 //! A source of questions that prompts for each line.
 
 ghost use Rattle.std.specs.Prelude.{◌≡◌};
-ghost use Rattle.hprof_devices.specs.declared.health.Health.TheVariants.{Well};
 
-use hprof_devices::{Device, ReadFault, Source};
-use std::io::{Read, Write};
+use hprof_devices::{ReadFault, Source};
+use std::io::Write;
 
-/// A reader of questions, and where a person is prompted for each line. A prompt that cannot be written is no fault.
+/// A source of questions, and where a person is prompted for each line. A prompt that cannot be written is no fault.
 #[derive(Drop)]
-pub(crate) struct Prompting<I: Read + Drop, P: Write + Drop> {
-    questions: Device<I>,
+pub(crate) struct Prompting<I: Source + Drop, P: Write + Drop> {
+    questions: I,
     prompts: Option<P>,
     /// Nothing of a line was read yet.
     is_at_start: bool,
 }
 
-impl<I: Read + Drop, P: Write + Drop> Prompting<I, P> {
-    ghost use Rattle.hprof_tool.specs.Prompting.{asked_of, asked_health, asked_pulls};
-
-    /// Returns a source of the questions that a reader gives. It is well.
+impl<I: Source + Drop, P: Write + Drop> Prompting<I, P> {
+    /// Returns a source that gives what `input` gives.
     pub(crate) fn new(input: I, prompts: Option<P>) -> Self
-        ensures left { asked_of I.remaining result ≡ I.remaining input }
-        ensures health { asked_health result ≡ Well }
+        ensures { result.questions ≡ input }
     {
         Prompting {
-            questions: Device::new(input),
+            questions: input,
             prompts,
             is_at_start: true,
         }
@@ -44,14 +40,12 @@ impl<I: Read + Drop, P: Write + Drop> Prompting<I, P> {
     }
 }
 
-impl<I: Read + Drop, P: Write + Drop> Source for Prompting<I, P> {
-    ghost use Rattle.hprof_tool.specs.Prompting.{asked_of, asked_health, asked_pulls};
+impl<I: Source + Drop, P: Write + Drop> Source for Prompting<I, P> {
+    ghost left = { λ it. I.left it.questions };
 
-    ghost left = { asked_of I.remaining };
+    ghost health = { λ it. I.health it.questions };
 
-    ghost health = { asked_health };
-
-    ghost pulls = { asked_pulls };
+    ghost pulls = { λ it. I.pulls it.questions };
 
     fn pull(&mut self, piece: &mut [u8]) -> Result<usize, ReadFault> {
         self.prompt();

@@ -10,11 +10,12 @@ ghost use Rattle.hprof_tool.specs.Folder.{MayCreateBehind};
 ghost use Rattle.hprof_tool.specs.SalvagedFiles.{SalvagesStream, IsSalvagedFile, IsSalvageRefusal};
 ghost use Rattle.hprof_tool.specs.Telling.{TellsFaults, TellsFront, TellsSomeFaults, IsOfTelling, line_end};
 
+use crate::command::OutName;
 use crate::program::folder::Folder;
-use crate::program::joining::open_parts;
+use crate::program::opening::{Started, start_file};
 use crate::program::refused::{Refused, WRITE_FAILED};
 use crate::program::telling::write_part_line;
-use crate::program::writing::end_of_writing;
+use crate::program::writing::{Writing, take_apart};
 use hprof_devices::{Device, Source};
 use hprof_engine::{FaultedPart, Salvaged, SalvagedHeap, ToolFault, salvage_kept};
 use hprof_stream::Limits;
@@ -30,21 +31,12 @@ pub(crate) struct Written<W> {
     pub(crate) writer: W,
 }
 
-/// The result of saving, with the writer and the bytes that did not reach it.
-#[derive(Drop)]
-struct Saving<W> {
-    outcome: Result<SalvagedHeap, ToolFault>,
-    writer: W,
-    unwritten: Vec<u8>,
-}
-
-/// Salvages the readers' parts into a buffered writer, and flushes it. A buffer that is dropped would write once more what it holds, so it
-/// is taken apart.
+/// Salvages the readers' parts into a buffered writer, and flushes it.
 fn salvage_into<R: Source, W: Write + Drop>(
     alloc: Global,
     readers: &mut [R],
     buffered: BufWriter<W>,
-) -> Saving<W>
+) -> Writing<SalvagedHeap, W>
     requires { All (λ reader. R.health reader ≡ Well) readers.old }
     ensures salvages { SalvagesStream R.left R.health R.pulls readers.old readers.new (writer_contents W.contents buffered)
         (append_known (W.contents result.writer) result.unwritten.items) (salvaged_in result.outcome) }
@@ -52,33 +44,29 @@ fn salvage_into<R: Source, W: Write + Drop>(
 {
     let mut target = Device::new(buffered);
     let saved = salvage_kept(alloc, readers, &mut target, Limits::usual());
-    let mut buffered = target.into_inner();
-    let outcome = end_of_writing(saved, &mut buffered);
-    let (writer, unwritten) = buffered.into_parts();
-    Saving {
-        outcome,
-        writer,
-        unwritten,
-    }
+    take_apart(saved, target)
 }
 
-/// Salvages parts in files to a new file, which it gives back. After a refusal by the engine the new file is removed. It is created once
-/// all parts are opened.
+/// Salvages parts in files to a new file, which it gives back. It is created once all parts are opened. After a refusal no new file is
+/// left.
 pub(crate) fn salvage_file<F: Folder>(
     alloc: Global,
     files: &F,
-    out: &str,
+    out: OutName<'_>,
     names: &[&str],
 ) -> Result<Written<F::Out>, Refused>
-    requires { MayCreateBehind (F.answered files.now) names.now out.now }
+    requires { MayCreateBehind (F.answered files.now) names.now out.name.now }
     ensures ok { IfOk result (λ written. IsSalvagedFile (F.answered files.now) F.Part.left F.Part.health F.Part.pulls F.Out.contents
-        names.now out.now written.salvaged written.writer) }
+        names.now out.entry.name.now written.salvaged written.writer) }
     ensures refused { IfErr result (IsSalvageRefusal (F.answered files.now) F.Part.left F.Part.health F.Part.pulls F.Out.contents
-        names.now out.now) }
+        names.now out.entry.name.now) }
 {
-    let mut parts = open_parts(alloc, files, names)?;
-    let buffered = files.create_out(alloc, out)?;
-    let Saving {
+    let name = out.as_str();
+    let Started {
+        mut parts,
+        buffered,
+    } = start_file(alloc, files, out, names)?;
+    let Writing {
         outcome,
         writer,
         unwritten,
@@ -95,7 +83,7 @@ pub(crate) fn salvage_file<F: Folder>(
             })
         }
         Err(fault) => {
-            files.remove_out(out, writer);
+            files.remove_out(name, writer);
             Err(Refused::from(fault))
         }
     }

@@ -24,16 +24,16 @@ pub(crate) const BUFFER_LEN: usize = 65_536;
 /// The fault when writing failed.
 const WRITE_FAILED: ToolFault = ToolFault::Write(WriteFault::Failed);
 
-/// The result of making, with the writer and the bytes that did not reach it.
+/// The result of writing, with the writer and the bytes that did not reach it.
 #[derive(Drop)]
-struct Writing<W> {
-    outcome: Result<(), ToolFault>,
-    writer: W,
-    unwritten: Vec<u8>,
+pub(crate) struct Writing<T, W> {
+    pub(crate) outcome: Result<T, ToolFault>,
+    pub(crate) writer: W,
+    pub(crate) unwritten: Vec<u8>,
 }
 
 /// Ends the writing after the answer of the engine: the buffer is flushed, and after a refusal it is left alone.
-pub(crate) fn end_of_writing<T: Drop, W: Write + Drop>(
+fn end_of_writing<T: Drop, W: Write + Drop>(
     made: Result<T, ToolFault>,
     buffered: &mut BufWriter<W>,
 ) -> Result<T, ToolFault>
@@ -50,6 +50,32 @@ pub(crate) fn end_of_writing<T: Drop, W: Write + Drop>(
             Err(_) => Err(WRITE_FAILED),
         },
         Err(fault) => Err(fault),
+    }
+}
+
+/// Ends the writing after the answer of the engine, and gives the writer back. A buffer that is dropped would write once more what it
+/// holds, so it is taken apart.
+pub(crate) fn take_apart<T: Drop, W: Write + Drop>(
+    made: Result<T, ToolFault>,
+    target: Device<BufWriter<W>>,
+) -> Writing<T, W>
+    ensures done { IfOk result.outcome (λ value. made ≡ Ok value) }
+    ensures flushed { OnOk result.outcome (result.unwritten.items ≡ []) }
+    ensures bytes { Keeps (writer_contents W.contents (inner_of target))
+        (append_known (W.contents result.writer) result.unwritten.items) }
+    ensures failed { OnOk made (OnErr result.outcome (result.outcome ≡ Err WRITE_FAILED)) }
+    ensures refused { IfErr made (λ fault. result.outcome ≡ Err fault) }
+    ensures unchanged { OnErr made (append_known (W.contents result.writer) result.unwritten.items
+        ≡ writer_contents W.contents (inner_of target)) }
+    ensures untouched { OnErr made (result.writer ≡ writer_inner (inner_of target)) }
+{
+    let mut buffered = target.into_inner();
+    let outcome = end_of_writing(made, &mut buffered);
+    let (writer, unwritten) = buffered.into_parts();
+    Writing {
+        outcome,
+        writer,
+        unwritten,
     }
 }
 
@@ -76,14 +102,13 @@ fn write_product<P: Product, R: Source, W: Write + Drop>(
     }
 }
 
-/// Makes something of the parts of the readers into a buffered writer, and flushes it. A buffer that is dropped would
-/// write once more what it holds, so it is taken apart.
+/// Makes something of the parts of the readers into a buffered writer, and flushes it.
 fn write_and_flush<P: Product, R: Source, W: Write + Drop>(
     alloc: Global,
     product: &P,
     readers: &mut [R],
     buffered: BufWriter<W>,
-) -> Writing<W>
+) -> Writing<(), W>
     requires { All (λ reader. R.health reader ≡ Well) readers.old }
     ensures makes { MakesStream R.left R.health R.pulls
         (making_of (P.is_text product.now) (P.is_too_long product.now) (P.takes_room product.now) (P.takes_memory product.now))
@@ -94,14 +119,7 @@ fn write_and_flush<P: Product, R: Source, W: Write + Drop>(
 {
     let mut target = Device::new(buffered);
     let made = write_product(alloc, product, readers, &mut target);
-    let mut buffered = target.into_inner();
-    let outcome = end_of_writing(made, &mut buffered);
-    let (writer, unwritten) = buffered.into_parts();
-    Writing {
-        outcome,
-        writer,
-        unwritten,
-    }
+    take_apart(made, target)
 }
 
 /// Makes something of the parts of the readers into a writer behind an empty buffer, flushes it, and gives the writer back.

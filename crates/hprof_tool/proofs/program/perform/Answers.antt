@@ -1,4 +1,4 @@
-use Rattle.std.proofs.Common.{refl, List, subst, sym, ap, ◌∙◌}
+use Rattle.std.proofs.Common.{refl, List, subst, sym}
 use Rattle.std.specs.Borrow.{Bor}
 use Rattle.hprof_engine.specs.Makes.{IsMadeOf}
 use Rattle.hprof_ask.specs.Report.{report_making}
@@ -11,28 +11,18 @@ use Rattle.hprof_tool.specs.Telling.{RefusesSalvage}
 use Rattle.hprof_tool.specs.Words.{is_new_file}
 use Rattle.hprof_tool.proofs.program.perform.Goals as goal
 
-pub returns-in-JoinInput-clause-done : goal.returns-in-JoinInput-clause-done
-returns-in-JoinInput-clause-done g c = λ done.
-    let it = c.join_input.ensures.done done in
-    (it.0, it.1, rw c.in-JoinInput.is (λ part told. it.2 part (ap g.I.Read.remaining c.new.ensures.inner ∙ told)))
-
-pub returns-in-JoinInput-clause-refused : goal.returns-in-JoinInput-clause-refused
-returns-in-JoinInput-clause-refused g c = λ refused.
-    let it = c.join_input.ensures.refused refused in
-    (it.0, rw c.in-JoinInput.is (c.new.result, c.new.ensures.inner, it.1), it.2)
-
 pub write_dump-ended-requires : goal.write_dump-ended-requires
 write_dump-ended-requires g c =
     let answered = g.F.Folder.answered c.args.files.now in
-    subst (λ (names : List (Bor (List _))). MayCreateBehind answered names c.in-Write.out.now) (sym c.deref.ensures.value)
-    (rw c.in-Write.is at c.requires)
+    subst (λ (names : List (Bor (List _))). MayCreateBehind answered names c.in-Write.out.name.now) (sym c.deref.ensures.value)
+    (rw c.in-Write.is at c.requires.folder)
 
 pub returns-in-Write-clause-done : goal.returns-in-Write-clause-done
 returns-in-Write-clause-done g c = λ done.
     let answered = g.F.Folder.answered c.args.files.now in
     let it = c.write_dump-ended.ensures.done done in
     let made = subst (λ (names : List (Bor (List _))). IsMadeInFile (IsMadeOf (is_new_file c.in-Write.product)) answered
-    g.F.Part.Source.left g.F.Out.Write.contents names c.in-Write.out.now it.0) c.deref.ensures.value it.2 in
+    g.F.Part.Source.left g.F.Out.Write.contents names c.in-Write.out.name.now it.0) c.deref.ensures.value it.2 in
     (c.args.output, refl, rw c.in-Write.is ((it.0, it.1, made), refl))
 
 pub returns-in-Write-clause-refused : goal.returns-in-Write-clause-refused
@@ -40,20 +30,20 @@ returns-in-Write-clause-refused g c = λ refused.
     let answered = g.F.Folder.answered c.args.files.now in
     let it = c.write_dump-ended.ensures.refused refused in
     let says = subst (λ (names : List (Bor (List _))). IsFilesRefusal (new_file_making c.in-Write.product) answered g.F.Part.Source.left
-    g.F.Part.Source.health g.F.Part.Source.pulls names c.in-Write.out.now it.1.0) c.deref.ensures.value it.1.1 in
+    g.F.Part.Source.health g.F.Part.Source.pulls names c.in-Write.out.name.now it.1.0) c.deref.ensures.value it.1.1 in
     (it.1.0, rw c.in-Write.is (says, refl, it.0), it.1.2)
 
 pub salvage-ended-requires : goal.salvage-ended-requires
 salvage-ended-requires g c =
     let answered = g.F.Folder.answered c.args.files.now in
-    subst (λ (names : List (Bor (List _))). MayCreateBehind answered names c.in-Salvage.out.now) (sym c.deref-in-Salvage.ensures.value)
-    (rw c.in-Salvage.is at c.requires)
+    subst (λ (names : List (Bor (List _))). MayCreateBehind answered names c.in-Salvage.out.name.now) (sym c.deref-in-Salvage.ensures.value)
+    (rw c.in-Salvage.is at c.requires.folder)
 
 pub returns-in-Salvage-clause-done : goal.returns-in-Salvage-clause-done
 returns-in-Salvage-clause-done g c = λ done.
     let it = c.salvage-ended.ensures.done done in
     let saved = subst (λ (names : List (Bor (List _))). IsSalvagedFile (g.F.Folder.answered c.args.files.now) g.F.Part.Source.left
-    g.F.Part.Source.health g.F.Part.Source.pulls g.F.Out.Write.contents names c.in-Salvage.out.now it.0 it.1.0)
+    g.F.Part.Source.health g.F.Part.Source.pulls g.F.Out.Write.contents names c.in-Salvage.out.name.now it.0 it.1.0)
     c.deref-in-Salvage.ensures.value it.1.2 in
     (c.salvage-ended.new.output, refl, rw c.in-Salvage.is (it.0, (it.1.0, it.1.1, saved), it.2))
 
@@ -61,7 +51,7 @@ pub returns-in-Salvage-clause-refused : goal.returns-in-Salvage-clause-refused
 returns-in-Salvage-clause-refused g c = λ refused.
     let it = c.salvage-ended.ensures.refused refused in
     let says = subst (λ (names : List (Bor (List _))). RefusesSalvage (g.F.Folder.answered c.args.files.now) g.F.Part.Source.left
-    g.F.Part.Source.health g.F.Part.Source.pulls g.F.Out.Write.contents names c.in-Salvage.out.now g.O.Write.contents
+    g.F.Part.Source.health g.F.Part.Source.pulls g.F.Out.Write.contents names c.in-Salvage.out.name.now g.O.Write.contents
     c.salvage-ended.result.file c.args.output c.salvage-ended.new.output it.0) c.deref-in-Salvage.ensures.value it.1 in
     (it.0, rw c.in-Salvage.is (c.salvage-ended.new.output, refl, says), it.2)
 

@@ -7,7 +7,7 @@ use Rattle.hprof_diff.specs.DifferenceText.{IsGrowthReport}
 use Rattle.hprof_tool.specs.declared.program.refused.Refused.{Refused}
 use Rattle.hprof_tool.specs.Comparing.{IsFrontOfBoth, StopsComparing}
 use Rattle.hprof_tool.specs.Program.{of_dump}
-use Rattle.hprof_tool.proofs.Comparing.{difference_made, dump_leaves, new_kind, new_says, newer_place, old_kind, old_leaves, old_says}
+use Rattle.hprof_tool.proofs.Comparing.{difference_made, dump_leaves, new_kind, new_says, old_kind, old_leaves, old_says}
 use Rattle.hprof_tool.proofs.Making.{are_usual}
 use Rattle.hprof_tool.proofs.Streams.{stream_kind, stream_left, stream_refusal}
 use Rattle.hprof_tool.proofs.program.comparing.compare_readers.Goals as goal
@@ -25,7 +25,7 @@ returns-in-Err-clause-stops g c =
     subst (λ (why : Refused). StopsComparing left g.R.Source.health g.R.Source.pulls olds c.count_parts.new.readers news news contents
     c.args.writer why (Some c.args.writer)) (sym (c.of_dump.ensures ∙ ap (of_dump 0) c.from.ensures)) (
       old_kind c.in-Err.fault,
-      λ old_parts new_parts told told_too. old_says left g.R.Source.health g.R.Source.pulls olds c.count_parts.new.readers news news
+      λ old_parts new_parts told told_too. old_says left g.R.Source.health g.R.Source.pulls olds c.count_parts.new.readers news
           c.in-Err.fault counts old_parts new_parts told,
       old_leaves left g.R.Source.health g.R.Source.pulls olds c.count_parts.new.readers contents
           (IsFrontOfBoth left olds news) c.args.writer
@@ -72,10 +72,3 @@ returns-clause-stops g c =
             front.3,
           )) stopped.why stopped.writer stops),
     )
-
-pub returns-clause-unread : goal.returns-clause-unread
-returns-clause-unread g c = λ fault same.
-    let stopped = c.in-Err-write_through_buffer.stopped in
-    let kind = stream_kind g.R.Source.left _ _ c.args.news.now _ (IsGrowthReport (totals_in c.in-Ok.old)) (λ heap. ⊥) (λ parts. ⊥) ⊤
-    g.W.Write.contents c.args.writer stopped.why stopped.writer c.in-Err-write_through_buffer.ensures.stops in
-    absurd (newer_place stopped.why fault kind (sym c.of_dump-in-Err-write_through_buffer.ensures ∙ same))

@@ -1,48 +1,33 @@
-use Rattle.std.proofs.Common.{◌≡◌, List, Some, length, refl, sym, ap, subst, ◌∙◌}
+use Rattle.std.proofs.Common.{◌≡◌, ℕ, List, Some, length, refl, sym, ap, subst, ◌∙◌}
 use Rattle.std.specs.Io.Buffered.{writer_inner}
 use Rattle.hprof_engine.specs.declared.tool_fault.ToolFault.TheVariants as tool
 use Rattle.hprof_engine.specs.Makes.{making_of}
 use Rattle.hprof_tool.specs.Folder.{AreOpened}
 use Rattle.hprof_tool.specs.declared.program.refused.Refused.TheVariants as refusals
-use Rattle.hprof_tool.proofs.Files.{creating_not_of_engine, not_of_engine, of_creating, of_opening, if_the_error, of_making}
+use Rattle.hprof_tool.proofs.Files.{starting_not_of_engine, of_starting, if_the_error, of_making}
 use Rattle.hprof_tool.proofs.Streams.{stream_refusal, stream_kind, stream_no_parts}
 use Rattle.hprof_tool.proofs.program.joining.write_file.Goals as goal
 
 pub returns-in_err-parts-clause-no_parts : goal.returns-in_err-parts-clause-no_parts
 returns-in_err-parts-clause-no_parts g c = λ same.
     let is = rw same at c.from_residual.ensures.1 in
-    absurd (not_of_engine _ _ c.in_err-parts.field-0.0 tool.NoParts c.in_err-parts.ensures.kind (sym is))
+    absurd (starting_not_of_engine (g.F.Folder.answered c.args.files.now) c.args.names.now c.args.out.name.now c.in_err-parts.field-0.0 tool.NoParts
+    c.in_err-parts.ensures.kind (sym is))
 
 pub returns-in_err-parts-clause-refused : goal.returns-in_err-parts-clause-refused
 returns-in_err-parts-clause-refused g c =
-    let making = making_of (g.P.Product.is_text c.args.product.now) (g.P.Product.is_too_long c.args.product.now) (g.P.Summaries.takes_room c.args.product.now)
-    (g.P.Product.takes_memory c.args.product.now) in
-    if_the_error _ c.from_residual.result c.in_err-parts.field-0.0 (of_opening making _ _ _ _ _ _ _ c.in_err-parts.ensures.kind)
-    c.from_residual.ensures.1
-
-pub create_out-requires : goal.create_out-requires
-create_out-requires g c = c.requires c.in_ok-parts.parts.items c.in_ok-parts.ensures.opened
-
-pub returns-in_err-buffered-clause-no_parts : goal.returns-in_err-buffered-clause-no_parts
-returns-in_err-buffered-clause-no_parts g c = λ same.
-    let is = rw same at c.from_residual-in_err-buffered.ensures.1 in
-    absurd (creating_not_of_engine (g.F.Folder.answered c.args.files.now) c.args.out.now c.in_err-buffered.field-0.0 tool.NoParts
-    c.in_err-buffered.ensures.fails (sym is))
-
-pub returns-in_err-buffered-clause-refused : goal.returns-in_err-buffered-clause-refused
-returns-in_err-buffered-clause-refused g c =
     let making = making_of (g.P.Product.is_text c.args.product.now) (g.P.Product.is_too_long c.args.product.now)
     (g.P.Summaries.takes_room c.args.product.now)
     (g.P.Product.takes_memory c.args.product.now) in
-    if_the_error _ c.from_residual-in_err-buffered.result c.in_err-buffered.field-0.0 (of_creating making
-    (g.F.Folder.answered c.args.files.now) g.F.Part.Source.left g.F.Part.Source.health g.F.Part.Source.pulls c.args.names.now c.args.out.now
-    _ c.in_err-buffered.ensures.fails)
-    c.from_residual-in_err-buffered.ensures.1
+    if_the_error _ c.from_residual.result c.in_err-parts.field-0.0 (of_starting making
+    (g.F.Folder.answered c.args.files.now) g.F.Part.Source.left g.F.Part.Source.health g.F.Part.Source.pulls c.args.names.now
+    c.args.out.name.now _ c.in_err-parts.ensures.kind)
+    c.from_residual.ensures.1
 
 pub returns-in-Ok-clause-ok : goal.returns-in-Ok-clause-ok
 returns-in-Ok-clause-ok g c = (
-  writer_inner c.in_ok-buffered.buffered,
-  c.in_ok-buffered.ensures.created,
+  writer_inner c.in_ok-parts.field-0.buffered,
+  c.in_ok-parts.ensures.created,
   record {
     parts = c.deref_mut.result.now;
     opened = subst (λ (parts : List _). AreOpened (g.F.Folder.answered c.args.files.now) c.args.names.now parts)
@@ -52,7 +37,11 @@ returns-in-Ok-clause-ok g c = (
 )
 
 pub remove_out-requires : goal.remove_out-requires
-remove_out-requires g c = (writer_inner c.in_ok-buffered.buffered, c.in_ok-buffered.ensures.created)
+remove_out-requires g c = (
+  writer_inner c.in_ok-parts.field-0.buffered,
+  subst (λ (name : List ℕ). (g.F.Folder.answered c.args.files.now).IsCreated name (writer_inner c.in_ok-parts.field-0.buffered))
+      (sym c.as_str-name.ensures) c.in_ok-parts.ensures.created,
+)
 
 pub returns-clause-refused : goal.returns-clause-refused
 returns-clause-refused g c =
@@ -67,9 +56,10 @@ returns-clause-refused g c =
     of_making (making_of is_text too_long room memory) answered g.F.Part.Source.left g.F.Part.Source.health g.F.Part.Source.pulls
     c.args.names.now
     c.deref_mut.result.now c.write_buffered.new.readers opened
-    c.args.out.now left.why
+    c.args.out.name.now left.why
     (stream_kind _ _ _ _ _ is_text too_long room memory _ _ left.why (Some left.writer) c.in-Err.ensures.stops)
-    (stream_refusal _ _ _ _ _ is_text too_long room memory _ _ left.why (Some left.writer) c.in-Err.ensures.stops) c.remove_out.ensures
+    (stream_refusal _ _ _ _ _ is_text too_long room memory _ _ left.why (Some left.writer) c.in-Err.ensures.stops)
+    (subst answered.HasNone c.as_str-name.ensures c.remove_out.ensures)
 
 pub returns-clause-no_parts : goal.returns-clause-no_parts
 returns-clause-no_parts g c = λ same.

@@ -1,4 +1,4 @@
-use Rattle.std.proofs.Common.{ap, subst}
+use Rattle.std.proofs.Common.{ap, refl, subst}
 use Rattle.std.specs.Io.KnownBytes.{append_known}
 use Rattle.std.specs.Io.Buffered.{writer_contents}
 use Rattle.hprof_devices.specs.Device.{inner_of, health_of}
@@ -6,7 +6,7 @@ use Rattle.hprof_stream.specs.declared.limits.Limits.{Limits}
 use Rattle.hprof_engine.specs.Salvaging.{Salvages}
 use Rattle.hprof_engine.specs.Through.{salvaged_in}
 use Rattle.hprof_tool.proofs.Making.{are_usual}
-use Rattle.hprof_tool.proofs.Saving.{shown_saving, streamed_saving, unchanged_saving}
+use Rattle.hprof_tool.proofs.Saving.{shown_saving, streamed_saving}
 use Rattle.hprof_tool.proofs.program.salvaging.salvage_into.Goals as goal
 
 pub returns-clause-salvages : goal.returns-clause-salvages
@@ -19,18 +19,14 @@ returns-clause-salvages g c =
     let new = c.salvage_kept-saved.new.readers in
     let before = c.new-target.result in
     let after = c.salvage_kept-saved.new.target in
-    let end = c.end_of_writing-outcome in
+    let end = c.take_apart in
     let made = c.salvage_kept-saved.result in
     let usual = c.usual.ensures in
     let saves = subst (λ (limits : Limits). Salvages left health pulls limits old new (λ device. contents (inner_of device)) health_of
     before after (salvaged_in made)) (are_usual c.usual.result usual.item usual.reads usual.bytes) c.salvage_kept-saved.ensures.salvages in
     let m = shown_saving left health pulls old new (λ device. contents (inner_of device)) health_of before after (salvaged_in made) saves in
-    let kept = rw c.into_inner-buffered.ensures at end.ensures.bytes in
-    let same = rw c.into_inner-buffered.ensures at (unchanged_saving contents made end.new.buffered c.into_inner-buffered.result
-    end.ensures.unchanged) in
-    streamed_saving left health pulls old new (contents (inner_of before)) (contents (inner_of after)) (contents end.new.buffered)
-    (health_of before) (health_of after) (contents c.args.buffered)
-    (append_known (g.W.Write.contents c.into_parts-writer.result.0) c.into_parts-writer.result.1.items)
-    made end.result (ap contents c.new-target.ensures.inner) c.new-target.ensures.health
-    (rw (c.into_parts-writer.ensures.inner, c.into_parts-writer.ensures.buffer)) m end.ensures.done end.ensures.failed
-    end.ensures.refused kept same
+    let holds = append_known (g.W.Write.contents end.result.writer) end.result.unwritten.items in
+    streamed_saving left health pulls old new (contents (inner_of before)) (contents (inner_of after)) holds
+    (health_of before) (health_of after) (contents c.args.buffered) holds made end.result.outcome
+    (ap contents c.new-target.ensures.inner) c.new-target.ensures.health refl m end.ensures.done end.ensures.failed
+    end.ensures.refused end.ensures.bytes end.ensures.unchanged

@@ -5,7 +5,7 @@ use Rattle.std.proofs.lemmas.List.Elements.{All-push}
 use Rattle.hprof_devices.specs.declared.health.Health.TheVariants.{Well}
 use Rattle.hprof_tool.specs.Folder.{AreOpened}
 use Rattle.hprof_tool.proofs.Files.{opened_at, cannot_open}
-use Rattle.hprof_tool.proofs.program.joining.open_parts.Goals as goal
+use Rattle.hprof_tool.proofs.program.opening.open_parts.Goals as goal
 
 pub returns-clause-opened : goal.returns-clause-opened
 returns-clause-opened g c =

@@ -1,7 +1,7 @@
 use Rattle.std.proofs.Common.{◌≡◌, All, length, take}
 use Rattle.hprof_devices.specs.declared.health.Health.TheVariants.{Well}
 use Rattle.hprof_tool.specs.Folder.{AreOpened}
-use Rattle.hprof_tool.proofs.program.joining.open_parts.Given as goal
+use Rattle.hprof_tool.proofs.program.opening.open_parts.Given as goal
 
 -- the files of the names so far were opened, and each part is well
 abbrev pub invariant-loop-index : goal.invariant-loop-index
