@@ -1,6 +1,6 @@
 use Rattle.std.proofs.Common.{sym, ◌∙◌}
 use Rattle.hprof_items.specs.declared.head.HeadKind.TheVariants.{FactRecord, HeapDump, DumpEnd, Skipped}
-use Rattle.hprof_stream.specs.ItemValue.{step_with}
+use Rattle.hprof_stream.specs.ItemValue.{read_with}
 use Rattle.hprof_stream.proofs.ItemSteps.{right_at_all, record_ends, fact_place, skipped_place}
 use Rattle.hprof_stream.proofs.item.record_item.Goals as goal
 
@@ -12,7 +12,7 @@ fact_item-requires-clause-whole c =
 pub returns-in-FactRecord-clause-place : goal.returns-in-FactRecord-clause-place
 returns-in-FactRecord-clause-place c =
     let read = c.read_head.ensures.found c.in-Whole.head c.in-Whole.field-1 c.in-Whole.is in
-    fact_place c.args.header.now c.args.bytes.now (step_with c.fact_item.result c.fact_item.new.fact) c.fact_item.ensures.fact
+    fact_place c.args.header.now c.args.bytes.now (read_with c.fact_item.result c.fact_item.new.fact) c.fact_item.ensures.fact
     (record_ends c.in-Whole.head c.args.bytes.now _ FactRecord read.0 (sym c.in-FactRecord.is ∙ c.kind.ensures))
 
 pub returns-in-HeapDump-clause-place : goal.returns-in-HeapDump-clause-place
@@ -28,6 +28,6 @@ returns-in-DumpEnd-clause-place c =
 pub returns-in-Skipped-clause-place : goal.returns-in-Skipped-clause-place
 returns-in-Skipped-clause-place c =
     let read = c.read_head.ensures.found c.in-Whole.head c.in-Whole.field-1 c.in-Whole.is in
-    skipped_place c.args.header.now c.args.bytes.now (step_with c.skipped_item.result c.args.fact.now)
+    skipped_place c.args.header.now c.args.bytes.now (read_with c.skipped_item.result c.args.fact.now)
     (c.skipped_item.ensures.skipped c.args.fact.now)
     (record_ends c.in-Whole.head c.args.bytes.now _ Skipped read.0 (sym c.in-Skipped.is ∙ c.kind.ensures))
