@@ -99,7 +99,12 @@ pub fn read_sub_into<'a>(
 /// Fields are tested from left to right: each must end within the record, then within `longest`, then its bytes must be there, then it must
 /// be valid. If there are no bytes, more are needed. The bytes of an instance and the elements of an array are not read.
 #[inline(always)]
-pub fn read_sub(bytes: &[u8], room: u32, longest: u32, ids: IdSize) -> Result<(Fact<'_>, usize), Stop>
+pub fn read_sub(
+    bytes: &[u8],
+    room: u32,
+    longest: u32,
+    ids: IdSize,
+) -> Result<(Fact<'_>, usize), Stop>
     requires { 1 ≤ room }
     // Which fact it is and where it ends, or what stopped it.
     ensures exact { MatchResult result

@@ -28,6 +28,7 @@ use Rattle.hprof_items.proofs.Headers.{header_found}
 use Rattle.hprof_items.proofs.Heads.{head_found, fact_head}
 use Rattle.hprof_items.proofs.RecordBodies.{record_found}
 use Rattle.hprof_items.proofs.Dumps.{sub_found}
+use Rattle.hprof_items.proofs.Steps.{whole_parts}
 use Rattle.hprof_stream.specs.Record.{IsFactRecord, IsEndRecord, IsSubFact, IsSkippedRecord}
 use Rattle.hprof_stream.specs.Part.{Stated}
 use Rattle.hprof_stream.specs.Item.{Place, Start, Between, Within, place_in, Found, IsItem, is_header, is_fact, is_dump_end, is_dump}
@@ -41,7 +42,8 @@ use Rattle.hprof_stream.proofs.Lengths.{length-header}
 -- a header that was found
 header_step : (step : Result (Header × ℕ) Stop) (found : Found) (n : ℕ) → found_header step ≡ Ok (found, n)
     → (header : Header) × (step ≡ Ok (header, n)) × (record { next = Between header; facts = [] } ≡ found)
-header_step (Ok (header, m)) found n e = (header, cc, cc)
+header_step (Ok (header, m)) found n e =
+    let parts = whole_parts _ found m n e in (header, ap (λ (end : ℕ). Ok (header, end)) parts.1, parts.0)
 header_step (Err stop) found n e = absurd cc
 
 -- a head that was found
@@ -53,7 +55,7 @@ head_step header (Err stop) bytes found n e = absurd cc
 -- a fact that was found
 fact_step : (header : Header) (read : Result FactValue Reason) (m : ℕ) (found : Found) (n : ℕ) → found_fact header read m ≡ Ok (found, n)
     → (fact : FactValue) × (read ≡ Ok fact) × (m ≡ n) × (record { next = Between header; facts = fact ∷ [] } ≡ found)
-fact_step header (Ok fact) m found n e = (fact, refl, cc, cc)
+fact_step header (Ok fact) m found n e = let parts = whole_parts _ found m n e in (fact, refl, parts.1, parts.0)
 fact_step header (Err reason) m found n e = absurd cc
 
 -- what a sub-record leads to

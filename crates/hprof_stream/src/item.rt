@@ -40,7 +40,12 @@ pub(crate) fn first_item(bytes: &[u8], longest: u32) -> Result<(Item, usize), St
 }
 
 /// Reads a record that states a fact. Its head was read.
-fn fact_item<'a>(header: &Header, head: &Head, bytes: &'a [u8], fact: &mut Fact<'a>) -> Result<(Item, usize), Stop>
+fn fact_item<'a>(
+    header: &Header,
+    head: &Head,
+    bytes: &'a [u8],
+    fact: &mut Fact<'a>,
+) -> Result<(Item, usize), Stop>
     requires whole { IsRightHead header.now.ids longest_body head.now }
     requires kind { kind_of head.now.tag ≡ HeadKind.FactRecord }
     ensures found { IsFound (Between header.now) (read_with result fact.new)
