@@ -3,3 +3,4 @@ pub mod Fronts
 pub mod IdTexts
 pub mod Prints
 pub mod Decided
+pub mod LastZeros
