@@ -1,8 +1,9 @@
 -- Digits without the zeros at their end.
-use Rattle.std.proofs.Common.{◌≡◌, ◌≢◌, ℕ, ◌+◌, ◌<◌, ◌≤◌, ◌==◌, Bool, true, false, cond, List, [], ◌∷◌, ◌++◌, length, arith, refl, sym, ap, ◌∙◌, inl, inr}
+use Rattle.std.proofs.Common.{◌≡◌, ◌≢◌, ℕ, ◌+◌, ◌<◌, ◌≤◌, ◌==◌, Bool, true, false, cond, List, [], ◌∷◌, ◌++◌, length, codes, arith, refl, sym, ap, ◌∙◌, inl, inr}
 use Rattle.std.specs.List.{list_all}
 use Rattle.std.proofs.lemmas.Bool.{cases_eq, and_parts, eqb-true}
-use Rattle.hprof_text.specs.JavaFloats.{without_last_zeros}
+use Rattle.hprof_text.specs.JavaFloats.{without_last_zeros, one_at_least}
+use Rattle.hprof_text.proofs.Fronts.{ended}
 
 abbrev pub are_zeros : List ℕ → Bool
 are_zeros digits = list_all (λ d. d == 48) digits
@@ -38,3 +39,13 @@ without_last_zeros-same (d ∷ others) ends =
         → cond zeros [] (d ∷ without_last_zeros others) ≡ d ∷ others
     by true e same = let last = ends_with_zero d others e in absurd (ends last.0 last.1)
     by false e same = ap (λ (l : List ℕ). d ∷ l) same
+
+-- ---- one digit at least
+
+pub one_at_least-none : (kept shown : List ℕ) → (length kept == 0) ≡ true → shown ≡ codes "0" → shown ≡ one_at_least kept
+one_at_least-none [] shown empty e = e
+one_at_least-none (d ∷ kept) shown empty e = let none = ended (d ∷ kept) empty in absurd cc
+
+pub one_at_least-some : (kept shown : List ℕ) → (length kept == 0) ≡ false → shown ≡ kept → shown ≡ one_at_least kept
+one_at_least-some [] shown some e = absurd cc
+one_at_least-some (d ∷ kept) shown some e = e

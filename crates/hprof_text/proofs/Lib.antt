@@ -4,3 +4,4 @@ pub mod IdTexts
 pub mod Prints
 pub mod Decided
 pub mod LastZeros
+pub mod FloatTexts
