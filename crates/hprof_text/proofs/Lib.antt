@@ -5,3 +5,4 @@ pub mod Prints
 pub mod Decided
 pub mod LastZeros
 pub mod FloatTexts
+pub mod FloatExact

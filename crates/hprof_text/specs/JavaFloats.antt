@@ -42,6 +42,10 @@ fields_of format bits = record {
 abbrev pub is_nan : FloatFormat → FloatFields → Bool
 is_nan format fields = fields.exponent == greatest_exponent format && not (fields.fraction == 0)
 
+-- The bits are of a number, or of infinity.
+abbrev pub IsNoNan : FloatFormat → ℕ → Type 0
+IsNoNan format bits = is_nan format (fields_of format bits) ≡ false
+
 -- ---- their text
 
 -- The digits without the zeros at the end.
