@@ -1,9 +1,10 @@
 -- The text of bits that are no NaN is the text of no others.
-use Rattle.std.proofs.Common.{◌≡◌, ◌≢◌, ℕ, zero, suc, ◌+◌, ◌-◌, ◌*◌, ◌/◌, ◌%◌, ◌^◌, ◌<◌, ◌==◌, ◌&&◌, max, Bool, true, false, cond, ltb, List, [], ◌∷◌, ◌++◌, length, get_or}
-use Rattle.std.proofs.Common.{codes, Result, Ok, arith, refl, sym, ap, ◌∙◌, inl, inr, append_assoc, eq-eqb, eqb-true, ne_eqb}
+use Rattle.std.proofs.Common.{◌≡◌, ◌≢◌, ℕ, zero, suc, ◌+◌, ◌-◌, ◌/◌, ◌%◌, ◌^◌, ◌<◌, ◌==◌, ◌&&◌, max}
+use Rattle.std.proofs.Common.{Bool, true, false, cond, ltb, List, [], ◌∷◌, ◌++◌, length, get_or}
+use Rattle.std.proofs.Common.{codes, Ok, arith, refl, sym, ap, ◌∙◌, inl, inr, append_assoc, eq-eqb, eqb-true, ne_eqb}
 use Rattle.std.specs.Prelude.{not, pos, negsuc, ◌-ℤ◌}
 use Rattle.std.specs.Fmt.{sign_text, signed_decimal}
-use Rattle.std.specs.List.{All, AllPass, list_all}
+use Rattle.std.specs.List.{All}
 use Rattle.std.specs.Int.{w64, to_be_bytes, from_be_bytes, bytes_high_first, byte_at}
 use Rattle.std.specs.Int.Signed.{mag}
 use Rattle.std.proofs.lemmas.Bool.{cases_eq}
@@ -14,13 +15,13 @@ use Rattle.std.proofs.lemmas.List.Sums.{AllPass-from_list_all}
 use Rattle.std.proofs.lemmas.Nat.{from_be_bytes-to_be_bytes_8}
 use Rattle.hex.specs.Hex.{encode_lower, encode_with, lower_digits, decode_of}
 use Rattle.hex.proofs.HexLemmas.{length-encode_with, decode_of-encode_lower}
-use Rattle.hprof_text.specs.JavaFloats.{fraction_bits, exponent_bits, bias, greatest_exponent, fields_of, is_nan, IsNoNan}
-use Rattle.hprof_text.specs.JavaFloats.{fraction_text, lead_text, power_of, finite_text, number_text}
+use Rattle.hprof_text.specs.JavaFloats.{fraction_bits, exponent_bits, bias, greatest_exponent, fields_of, is_nan, IsNumber}
+use Rattle.hprof_text.specs.JavaFloats.{fraction_text, lead_text, power_of, finite_text, fields_text}
 use Rattle.hprof_text.specs.declared.java_floats.FloatFormat.{FloatFormat}
 use Rattle.hprof_text.specs.declared.java_floats.FloatFormat.TheVariants.{Float, Double}
 use Rattle.hprof_text.specs.declared.java_floats.FloatFields.{FloatFields}
 use Rattle.hprof_text.proofs.LastZeros.{shown_injective, All-shown}
-use Rattle.hprof_text.proofs.FloatTexts.{number_text-infinite, number_text-finite}
+use Rattle.hprof_text.proofs.FloatTexts.{fields_text-infinite, fields_text-finite}
 
 -- ---- the fraction
 
@@ -48,7 +49,7 @@ fraction_text_injective : (a b : ℕ) → a < 2 ^ 64 → b < 2 ^ 64 → fraction
 unfolding fraction_text
 fraction_text_injective a b small large e =
     let sized : length (encode_lower (to_be_bytes w64 a)) ≡ length (encode_lower (to_be_bytes w64 b)) =
-        length-encode_with lower_digits (to_be_bytes w64 a) ∙ sym (length-encode_with lower_digits (to_be_bytes w64 b)) in
+    length-encode_with lower_digits (to_be_bytes w64 a) ∙ sym (length-encode_with lower_digits (to_be_bytes w64 b)) in
     let digits = shown_injective (encode_lower (to_be_bytes w64 a)) (encode_lower (to_be_bytes w64 b)) sized e in
     let bytes = encode_lower_injective (to_be_bytes w64 a) (to_be_bytes w64 b) (be_bytes_fit a) (be_bytes_fit b) digits in
     sym (from_be_bytes-to_be_bytes_8 a small) ∙ ap (from_be_bytes w64) bytes ∙ from_be_bytes-to_be_bytes_8 b large
@@ -73,7 +74,8 @@ encode_without_p [] small = All-nil no_p
 encode_without_p (b ∷ rest) small =
     let fits : b < 256 = small 0 in
     let others = encode_without_p rest (λ i. small (suc i)) in
-    All-cons no_p (get_or lower_digits (b / 16) 0) (get_or lower_digits (b % 16) 0 ∷ encode_lower rest) (table_without_p (b / 16) (omega arith))
+    All-cons no_p (get_or lower_digits (b / 16) 0) (get_or lower_digits (b % 16) 0 ∷ encode_lower rest)
+    (table_without_p (b / 16) (omega arith))
     (All-cons no_p (get_or lower_digits (b % 16) 0) (encode_lower rest) (table_without_p (b % 16) (omega arith)) others)
 
 fraction_without_p : (fraction : ℕ) → All no_p (fraction_text fraction)
@@ -169,11 +171,11 @@ same_finite : (format : FloatFormat) (x y : FloatFields) → InRange x → InRan
     → (x.exponent ≡ y.exponent) × (x.fraction ≡ y.fraction)
 same_finite format x y range other e =
     let lead = same_lead (x.exponent == 0) (y.exponent == 0) (tail_text format x) (tail_text format y)
-        (sym (finite_parts format x) ∙ e ∙ finite_parts format y) in
+    (sym (finite_parts format x) ∙ e ∙ finite_parts format y) in
     let parts = same_around_p (fraction_text x.fraction) (fraction_text y.fraction) (signed_decimal (power_of format x))
-        (signed_decimal (power_of format y)) (fraction_without_p x.fraction) (fraction_without_p y.fraction) lead.1 in
+    (signed_decimal (power_of format y)) (fraction_without_p x.fraction) (fraction_without_p y.fraction) lead.1 in
     let power = signed_decimal_injective (power_of format x) (power_of format y) (mag-power_of format x range)
-        (mag-power_of format y other) parts.1 in (
+    (mag-power_of format y other) parts.1 in (
       same_exponent format x y lead.0 power,
       fraction_text_injective x.fraction y.fraction range.fraction other.fraction parts.0,
     )
@@ -215,13 +217,13 @@ record SameFields (x y : FloatFields) : Type 0 where
   fraction : x.fraction ≡ y.fraction
 
 same_fields : (format : FloatFormat) (x y : FloatFields) → InRange x → InRange y → is_nan format x ≡ false → is_nan format y ≡ false
-    → number_text format x ≡ number_text format y → SameFields x y
+    → fields_text format x ≡ fields_text format y → SameFields x y
 same_fields format x y range other number second e =
     elim (cases_eq x.exponent (greatest_exponent format)) [
       | inl infinite ↦ elim (cases_eq y.exponent (greatest_exponent format)) [
         | inl both ↦
             let same = same_sign x.is_negative y.is_negative (codes "Infinity") (codes "Infinity") infinite_has_no_sign infinite_has_no_sign
-                (sym (number_text-infinite format x number infinite) ∙ e ∙ number_text-infinite format y second both) in
+            (sym (fields_text-infinite format x number infinite) ∙ e ∙ fields_text-infinite format y second both) in
             record {
               sign = same.0;
               exponent = infinite ∙ sym both;
@@ -229,20 +231,20 @@ same_fields format x y range other number second e =
             }
         | inr finite ↦
             let same = same_sign x.is_negative y.is_negative (codes "Infinity") (finite_text format y) infinite_has_no_sign
-                (finite_has_no_sign format y)
-                (sym (number_text-infinite format x number infinite) ∙ e ∙ number_text-finite format y second finite) in
+            (finite_has_no_sign format y)
+            (sym (fields_text-infinite format x number infinite) ∙ e ∙ fields_text-finite format y second finite) in
             absurd (infinite_is_not_finite format y same.1)
       ]
       | inr finite ↦ elim (cases_eq y.exponent (greatest_exponent format)) [
         | inl infinite ↦
             let same = same_sign x.is_negative y.is_negative (finite_text format x) (codes "Infinity") (finite_has_no_sign format x)
-                infinite_has_no_sign
-                (sym (number_text-finite format x number finite) ∙ e ∙ number_text-infinite format y second infinite) in
+            infinite_has_no_sign
+            (sym (fields_text-finite format x number finite) ∙ e ∙ fields_text-infinite format y second infinite) in
             absurd (infinite_is_not_finite format x (sym same.1))
         | inr both ↦
             let same = same_sign x.is_negative y.is_negative (finite_text format x) (finite_text format y) (finite_has_no_sign format x)
-                (finite_has_no_sign format y)
-                (sym (number_text-finite format x number finite) ∙ e ∙ number_text-finite format y second both) in
+            (finite_has_no_sign format y)
+            (sym (fields_text-finite format x number finite) ∙ e ∙ fields_text-finite format y second both) in
             let parts = same_finite format x y range other same.1 in
             record { sign = same.0; exponent = parts.0; fraction = parts.1 }
       ]
@@ -277,8 +279,8 @@ same_bits Double a b small less same =
     let above : a / 2 ^ 52 ≡ b / 2 ^ 52 = omega arith in
     omega arith
 
-pub exact : (format : FloatFormat) (a b : ℕ) → a < 2 ^ width format → b < 2 ^ width format → IsNoNan format a → IsNoNan format b
-    → number_text format (fields_of format a) ≡ number_text format (fields_of format b) → a ≡ b
+pub exact : (format : FloatFormat) (a b : ℕ) → a < 2 ^ width format → b < 2 ^ width format → IsNumber format a → IsNumber format b
+    → fields_text format (fields_of format a) ≡ fields_text format (fields_of format b) → a ≡ b
 exact format a b small less number other e =
     same_bits format a b small less
     (same_fields format (fields_of format a) (fields_of format b) (fields_in_range format a) (fields_in_range format b) number other e)

@@ -1,8 +1,8 @@
 -- Digits without the zeros at their end.
-use Rattle.std.proofs.Common.{◌≡◌, ◌≢◌, ℕ, ◌+◌, ◌<◌, ◌≤◌, ◌==◌, Bool, true, false, cond, List, [], ◌∷◌, ◌++◌, length, codes, arith, refl, sym, ap, ◌∙◌, inl, inr}
+use Rattle.std.proofs.Common.{◌≡◌, ◌≢◌, ℕ, ◌==◌, Bool, true, false, cond, List, [], ◌∷◌, ◌++◌, length, codes, arith, refl, sym, ap, ◌∙◌}
 use Rattle.std.specs.List.{All, list_all}
 use Rattle.std.proofs.lemmas.List.Elements.{All-nil, All-cons, All-head, All-tail}
-use Rattle.std.proofs.lemmas.Bool.{cases_eq, and_parts, eqb-true}
+use Rattle.std.proofs.lemmas.Bool.{and_parts, eqb-true}
 use Rattle.hprof_text.specs.JavaFloats.{without_last_zeros, one_at_least}
 use Rattle.hprof_text.proofs.Fronts.{ended}
 
@@ -58,7 +58,8 @@ without_last_zeros-zeros [] zeros = refl
 without_last_zeros-zeros (d ∷ others) zeros = rw zeros refl
 
 -- the digit in front stays where not all are zeros
-without_last_zeros-some : (d : ℕ) (others : List ℕ) → are_zeros (d ∷ others) ≡ false → without_last_zeros (d ∷ others) ≡ d ∷ without_last_zeros others
+without_last_zeros-some : (d : ℕ) (others : List ℕ) → are_zeros (d ∷ others) ≡ false
+    → without_last_zeros (d ∷ others) ≡ d ∷ without_last_zeros others
 without_last_zeros-some d others some = rw some refl
 
 are_zeros-none : (digits : List ℕ) → without_last_zeros digits ≡ [] → are_zeros digits ≡ true
@@ -83,7 +84,8 @@ without_last_zeros-not_zero (d ∷ others) e = by (are_zeros (d ∷ others)) ref
         let zeros : are_zeros (d ∷ others) ≡ true = rw (first, are_zeros-none others rest) refl in
         cc
 
-one_at_least_injective : (kept other : List ℕ) → kept ≢ codes "0" → other ≢ codes "0" → one_at_least kept ≡ one_at_least other → kept ≡ other
+one_at_least_injective : (kept other : List ℕ) → kept ≢ codes "0" → other ≢ codes "0"
+    → one_at_least kept ≡ one_at_least other → kept ≡ other
 one_at_least_injective [] [] left right e = refl
 one_at_least_injective [] (d ∷ other) left right e = absurd (right (sym e))
 one_at_least_injective (c ∷ kept) [] left right e = absurd (left e)

@@ -1,5 +1,6 @@
 -- Floats and doubles as text, as Java's `Float.toHexString` and `Double.toHexString` print them.
-use Rattle.std.specs.Prelude.{ℕ, ◌+◌, ◌-◌, ◌*◌, ◌/◌, ◌%◌, ◌^◌, max, ◌==◌, ◌&&◌, not, if◌then◌else◌, Bool, false, ◌≡◌, List, [], ◌∷◌, ◌++◌, codes}
+use Rattle.std.specs.Prelude.{ℕ, ◌+◌, ◌-◌, ◌*◌, ◌/◌, ◌%◌, ◌^◌, max, ◌==◌, ◌&&◌, not, if◌then◌else◌, Bool, false, ◌≡◌}
+use Rattle.std.specs.Prelude.{List, [], ◌∷◌, ◌++◌, codes}
 use Rattle.std.specs.Prelude.{ℤ, pos, ◌-ℤ◌}
 use Rattle.std.specs.Fmt.{sign_text, signed_decimal}
 use Rattle.std.specs.Int.{w64, to_be_bytes}
@@ -26,7 +27,7 @@ abbrev pub bias : FloatFormat → ℕ
 bias Float = 127
 bias Double = 1023
 
--- The exponent of infinity, and of what is no number.
+-- The exponent of infinity and of what is no number.
 abbrev pub greatest_exponent : FloatFormat → ℕ
 greatest_exponent format = 2 ^ exponent_bits format - 1
 
@@ -42,9 +43,9 @@ fields_of format bits = record {
 abbrev pub is_nan : FloatFormat → FloatFields → Bool
 is_nan format fields = fields.exponent == greatest_exponent format && not (fields.fraction == 0)
 
--- The bits are of a number, or of infinity.
-abbrev pub IsNoNan : FloatFormat → ℕ → Type 0
-IsNoNan format bits = is_nan format (fields_of format bits) ≡ false
+-- The bits are of a number. Infinity is one.
+abbrev pub IsNumber : FloatFormat → ℕ → Type 0
+IsNumber format bits = is_nan format (fields_of format bits) ≡ false
 
 -- ---- their text
 
@@ -59,15 +60,16 @@ abbrev pub one_at_least : List ℕ → List ℕ
 one_at_least [] = codes "0"
 one_at_least (digit ∷ others) = digit ∷ others
 
--- The fraction in print: its hexadecimal digits without the zeros at the end, but one at least.
+-- The fraction in print: its hexadecimal digits without the zeros at the end, but one at least. So a float shows at most six digits, its 23
+-- bits and a 0 behind them, and a double at most thirteen.
 unfoldable pub fraction_text : ℕ → List ℕ
 fraction_text fraction = one_at_least (without_last_zeros (encode_lower (to_be_bytes w64 fraction)))
 
--- What stands before the fraction. Zero and the subnormal numbers, whose exponent is 0, have no 1 there.
+-- What stands before the fraction. Zero and the subnormal numbers, whose exponent is 0, have a 0 before the point.
 abbrev pub lead_text : FloatFields → List ℕ
 lead_text fields = if fields.exponent == 0 then codes "0x0." else codes "0x1."
 
--- The power of two in print. The subnormal numbers have the one of exponent 1, and zero has 0.
+-- The power of two. The subnormal numbers have that of exponent 1, and zero is shown with 0.
 abbrev pub power_of : FloatFormat → FloatFields → ℤ
 power_of format fields =
     if fields.exponent == 0 && fields.fraction == 0 then pos 0
@@ -78,17 +80,17 @@ unfoldable pub finite_text : FloatFormat → FloatFields → List ℕ
 finite_text format fields =
     lead_text fields ++ fraction_text fields.fraction ++ codes "p" ++ signed_decimal (power_of format fields)
 
--- The fields in print. A sign is shown of numbers alone.
-unfoldable pub number_text : FloatFormat → FloatFields → List ℕ
-number_text format fields =
+-- The fields in print. What is no number is shown without its sign.
+unfoldable pub fields_text : FloatFormat → FloatFields → List ℕ
+fields_text format fields =
     if is_nan format fields then codes "NaN"
     else sign_text fields.is_negative
-        ++ (if fields.exponent == greatest_exponent format then codes "Infinity" else finite_text format fields)
+    ++ (if fields.exponent == greatest_exponent format then codes "Infinity" else finite_text format fields)
 
 -- The bits of a float in print.
 abbrev pub float_text : ℕ → List ℕ
-float_text bits = number_text Float (fields_of Float bits)
+float_text bits = fields_text Float (fields_of Float bits)
 
 -- The bits of a double in print.
 abbrev pub double_text : ℕ → List ℕ
-double_text bits = number_text Double (fields_of Double bits)
+double_text bits = fields_text Double (fields_of Double bits)

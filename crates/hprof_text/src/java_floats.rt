@@ -4,14 +4,17 @@ ghost use Rattle.std.specs.Prelude.{◌≡◌, ◌+◌, ◌≤◌, ◌++◌, len
 ghost use Rattle.std.specs.Fmt.{sign_text};
 ghost use Rattle.arrayvec.specs.ArrayString.{array_string_len};
 ghost use Rattle.hprof_text.specs.JavaFloats.{fraction_bits, exponent_bits, bias, greatest_exponent, fields_of, is_nan};
-ghost use Rattle.hprof_text.specs.JavaFloats.{without_last_zeros, fraction_text, lead_text, power_of, finite_text, number_text};
+ghost use Rattle.hprof_text.specs.JavaFloats.{without_last_zeros, fraction_text, lead_text, power_of, finite_text, fields_text};
 ghost use Rattle.hprof_text.specs.JavaFloats.{float_text, double_text};
 
 use arrayvec::ArrayString;
 use itoa::Buffer;
 
-/// The text of a number: a sign, `0x1.`, sixteen digits, `p` and a power of eleven bytes have room.
-pub type FloatText = ArrayString<33>;
+// The room of a text: a sign, `0x1.`, sixteen digits, `p`, and a power of two of eleven bytes.
+const ROOM: usize = 33;
+
+/// The text of a float or a double, which lies in the value itself.
+pub type FloatText = ArrayString<ROOM>;
 
 // Java's formats of floating-point numbers (IEEE 754).
 #[derive(Clone, Copy)]
@@ -114,7 +117,7 @@ fn without_last_zeros(digits: &str) -> &str
 
 // Appends the fraction in print.
 fn push_fraction(text: &mut FloatText, fraction: u64)
-    requires { array_string_len text.old + 16 ≤ 33 }
+    requires { array_string_len text.old + 16 ≤ ROOM }
     ensures text { text.new.bytes ≡ text.old.bytes ++ fraction_text fraction }
     ensures short { array_string_len text.new ≤ array_string_len text.old + 16 }
 {
@@ -136,7 +139,7 @@ fn power_of(format: FloatFormat, fields: FloatFields) -> i32
 
 // Appends a finite number in print, without its sign.
 fn push_finite(text: &mut FloatText, format: FloatFormat, fields: FloatFields)
-    requires { array_string_len text.old + 32 ≤ 33 }
+    requires { array_string_len text.old + 32 ≤ ROOM }
     ensures { text.new.bytes ≡ text.old.bytes ++ finite_text format fields }
 {
     text.push_str(lead_text(fields));
@@ -146,8 +149,8 @@ fn push_finite(text: &mut FloatText, format: FloatFormat, fields: FloatFields)
 }
 
 // The fields in print.
-fn number_text(format: FloatFormat, fields: FloatFields) -> FloatText
-    ensures { result.bytes ≡ number_text format fields }
+fn fields_text(format: FloatFormat, fields: FloatFields) -> FloatText
+    ensures { result.bytes ≡ fields_text format fields }
 {
     let mut text = FloatText::new();
     if is_nan(format, fields) {
@@ -163,17 +166,23 @@ fn number_text(format: FloatFormat, fields: FloatFields) -> FloatText
     text
 }
 
-/// Returns the text of a float, from its bits, as Java's `Float.toHexString` prints it.
+/// Returns the text of a float as Java's `Float.toHexString` prints it, from the bits of the float.
+///
+/// A number is a sign if it is negative, `0x1.`, the fraction in hexadecimal without the zeros at its end but with one digit at least, `p`,
+/// and the power of two in decimal: 0.1 is `0x1.99999ap-4`. A subnormal number begins with `0x0.` and ends with `p-126`, and zero is
+/// `0x0.0p0`. Infinity is `Infinity`, with its sign. Each NaN is `NaN`, without a sign.
 pub fn float_text(bits: u32) -> FloatText
     ensures { result.bytes ≡ float_text bits }
 {
     let bits = u64::from(bits);
-    number_text(FloatFormat::Float, fields_of(FloatFormat::Float, bits))
+    fields_text(FloatFormat::Float, fields_of(FloatFormat::Float, bits))
 }
 
-/// Returns the text of a double, from its bits, as Java's `Double.toHexString` prints it.
+/// Returns the text of a double as Java's `Double.toHexString` prints it, from the bits of the double.
+///
+/// It is as a float's in [`float_text`], and a subnormal number ends with `p-1022`.
 pub fn double_text(bits: u64) -> FloatText
     ensures { result.bytes ≡ double_text bits }
 {
-    number_text(FloatFormat::Double, fields_of(FloatFormat::Double, bits))
+    fields_text(FloatFormat::Double, fields_of(FloatFormat::Double, bits))
 }

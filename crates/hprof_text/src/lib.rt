@@ -1,4 +1,4 @@
-//! Names in modified UTF-8: decoding, encoding and printing; and identifiers as text.
+//! Names in modified UTF-8: decoding, encoding and printing; and identifiers and floats as text.
 #![tactic(auto)]
 
 mod decoding;

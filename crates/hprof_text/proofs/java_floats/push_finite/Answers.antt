@@ -1,4 +1,4 @@
-use Rattle.std.proofs.Common.{◌≡◌, ◌++◌, append_assoc, codes, rules, sym, ap, ◌∙◌}
+use Rattle.std.proofs.Common.{◌≡◌, ◌++◌, append_assoc, codes, rules}
 use Rattle.std.specs.Fmt.{signed_decimal}
 use Rattle.hprof_text.specs.JavaFloats.{lead_text, fraction_text, power_of, finite_text}
 use Rattle.hprof_text.proofs.java_floats.push_finite.Goals as goal
@@ -8,7 +8,8 @@ unfolding finite_text
 returns c =
     let before = c.args.text.now.bytes in
     let fields = c.args.fields in
-    let number : c.format.result.now ≡ signed_decimal (power_of c.args.format fields) = search rules in
+    let power = signed_decimal (power_of c.args.format fields) in
+    let number : c.format.result.now ≡ power = search rules in
     let text : c.push_str-3.new.self.bytes
-        ≡ before ++ lead_text fields ++ fraction_text fields.fraction ++ codes "p" ++ signed_decimal (power_of c.args.format fields) = search rules in
+    ≡ before ++ lead_text fields ++ fraction_text fields.fraction ++ codes "p" ++ power = search rules in
     rw text (simp append_assoc)

@@ -15,20 +15,26 @@ written c = search rules
 
 pub unwrap-requires : goal.unwrap-requires
 unwrap-requires c =
-    let digits = encode_lower (to_be_bytes w64 c.args.fraction) in
-    reads_as_text c.from_utf8.result _ _ _ (rw (written c) (IsUtf8-from_ascii digits (IsAscii-hex (to_be_bytes w64 c.args.fraction)))) c.from_utf8.ensures.cases
+    let bytes = to_be_bytes w64 c.args.fraction in
+    let utf8 = IsUtf8-from_ascii (encode_lower bytes) (IsAscii-hex bytes) in
+    reads_as_text c.from_utf8.result _ _ _ (rw (written c) utf8) c.from_utf8.ensures.cases
+
+abbrev the_text : Bor (List ℕ) → List ℕ
+the_text reference = reference.now
 
 shown : (c : After-push_str) → c.if-is_empty.push_str.now ≡ one_at_least c.without_last_zeros-kept.result.now
 shown c =
     let kept = c.without_last_zeros-kept.result.now in
+    let text = c.if-is_empty.push_str.now in
     elim c.if-is_empty.branch [
-      | then-is_empty w ↦ one_at_least-none kept c.if-is_empty.push_str.now (sym c.is_empty.ensures ∙ w.if-is_empty.true) (ap (λ (b : Bor (List ℕ)). b.now) w.push_str-is)
-      | else-is_empty w ↦ one_at_least-some kept c.if-is_empty.push_str.now (sym c.is_empty.ensures ∙ w.if-is_empty.false) (ap (λ (b : Bor (List ℕ)). b.now) w.push_str-is)
+      | then-is_empty w ↦ one_at_least-none kept text (sym c.is_empty.ensures ∙ w.if-is_empty.true) (ap the_text w.push_str-is)
+      | else-is_empty w ↦ one_at_least-some kept text (sym c.is_empty.ensures ∙ w.if-is_empty.false) (ap the_text w.push_str-is)
     ]
 
 pub returns-clause-text : goal.returns-clause-text
 unfolding fraction_text
 returns-clause-text c =
     let text = (MatchResult-at_ok _ _ c.unwrap.result c.unwrap.ensures c.from_utf8.ensures.cases).0 in
-    let digits = c.without_last_zeros-kept.ensures.text ∙ ap without_last_zeros (text ∙ written (goal.at.returns-clause-text c).After-from_utf8) in
-    c.push_str.ensures.bytes ∙ ap (λ l. c.args.text.now.bytes ++ l) (shown c ∙ ap one_at_least digits)
+    let digits = text ∙ written (goal.at.returns-clause-text c).After-from_utf8 in
+    let kept = c.without_last_zeros-kept.ensures.text ∙ ap without_last_zeros digits in
+    c.push_str.ensures.bytes ∙ ap (λ l. c.args.text.now.bytes ++ l) (shown c ∙ ap one_at_least kept)

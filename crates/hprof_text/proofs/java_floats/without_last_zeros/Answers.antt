@@ -8,7 +8,8 @@ pub loop-front-preserved : goal.loop-front-preserved
 loop-front-preserved c =
     let kept = c.loop-front.kept.now in
     let front = c.in-Some.front.now in
-    let split : kept ≡ front ++ 48 ∷ [] = rw c.in-Some.is at (strip_suffix_char 48 kept c.strip_suffix.result c.strip_suffix.ensures.cases (omega arith)) in
+    let found = strip_suffix_char 48 kept c.strip_suffix.result c.strip_suffix.ensures.cases (omega arith) in
+    let split : kept ≡ front ++ 48 ∷ [] = rw c.in-Some.is at found in
     let counted = ap length split ∙ length-append front (48 ∷ []) in
     record {
       utf8 = search rules;
@@ -19,5 +20,6 @@ loop-front-preserved c =
 pub returns-clause-text : goal.returns-clause-text
 returns-clause-text c =
     let kept = c.loop-front.kept.now in
-    let ends = rw c.in_default.is at (strip_suffix_char 48 kept c.strip_suffix.result c.strip_suffix.ensures.cases (omega arith)) in
+    let found = strip_suffix_char 48 kept c.strip_suffix.result c.strip_suffix.ensures.cases (omega arith) in
+    let ends = rw c.in_default.is at found in
     sym (without_last_zeros-same kept ends) ∙ c.loop-front.invariant.same
