@@ -49,7 +49,7 @@ IsNumber format bits = is_nan format (fields_of format bits) ≡ false
 
 -- ---- their text
 
--- The digits without the zeros at the end.
+-- The digits without the zeros at the end. The digit `0` is the byte 48.
 abbrev pub without_last_zeros : List ℕ → List ℕ
 without_last_zeros [] = []
 without_last_zeros (digit ∷ others) =
