@@ -9,6 +9,8 @@ mod expecting;
 #[cfg(test)]
 mod facts;
 #[cfg(test)]
+mod floats;
+#[cfg(test)]
 mod graphs;
 pub mod laws;
 #[cfg(test)]
