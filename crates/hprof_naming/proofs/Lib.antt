@@ -4,3 +4,6 @@ mod FirstNamed
 pub mod Lookups
 pub mod OneText
 mod Found
+mod Pairs
+mod Slashed
+mod Labels

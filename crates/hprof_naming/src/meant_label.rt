@@ -1,6 +1,6 @@
 //! The label of a class that a word means.
 
-ghost use Rattle.std.specs.Prelude.{◌≡◌, ◌≢◌, ◌↔◌, ◌++◌, ◌∷◌, [], ℕ, List, IsTrue, MatchOption, replicate};
+ghost use Rattle.std.specs.Prelude.{◌≡◌, ◌≢◌, ◌↔◌, ◌<◌, ◌++◌, ◌∷◌, [], ℕ, EachIndex, IsTrue, List, MatchOption, length, replicate, slice_index};
 ghost use Rattle.hprof_naming.specs.MeantLabel.{before_pairs, bare_name, count_of_pairs, descriptor_of, label_value, slashed, slashed_byte};
 ghost use Rattle.hprof_naming.specs.MeantLabel.{IsMeantBy, Means};
 
@@ -54,13 +54,21 @@ fn slashed_byte(byte: u8) -> u8
     if byte == b'.' { b'/' } else { byte }
 }
 
-/// Returns whether the texts are the same with a slash for each dot.
+/// Returns whether the bytes of two texts are the same as far as both go, with a slash for each dot.
+fn agree_slashed(one: &[u8], other: &[u8]) -> bool
+    ensures { IsTrue result ↔ EachIndex one.now (λ k. k < length other.now
+        → slashed_byte (slice_index one.now k) ≡ slashed_byte (slice_index other.now k)) }
+{
+    one.iter()
+        .zip(other)
+        .all(|(byte, other)| slashed_byte(*byte) == slashed_byte(*other))
+}
+
+/// Returns whether two texts are the same with a slash for each dot.
 fn are_same_slashed(one: &[u8], other: &[u8]) -> bool
     ensures { IsTrue result ↔ (slashed one.now ≡ slashed other.now) }
 {
-    one.iter()
-        .map(|byte| slashed_byte(*byte))
-        .eq(other.iter().map(|byte| slashed_byte(*byte)))
+    one.len() == other.len() && agree_slashed(one, other)
 }
 
 /// Returns the bytes behind that many opening brackets, if the label begins with so many.
