@@ -7,3 +7,5 @@ mod Found
 mod Pairs
 mod Slashed
 mod Labels
+mod SlashedWords
+mod Meanings

@@ -1,5 +1,5 @@
--- The label that a word means, this project's own. A person names a class as Java source does, as its label does, or by its descriptor;
--- arrays are named as Java source does, or by their label.
+-- The label that a word means, this project's own. A class is named as in Java source, by its label, or by its descriptor; arrays as in
+-- Java source, or by their label.
 use Rattle.std.specs.Prelude.{◌≡◌, ℕ, ◌-◌, ◌/◌, ◌==◌, ◌&&◌, nat_eq, nat_lt, if◌then◌else◌, Bool, true, false, List, [], ◌∷◌, ◌++◌, length, map, take, drop, replicate, Option, Some, None, codes}
 use Rattle.std.specs.List.{starts_with, ends_with}
 use Rattle.hprof_values.specs.declared.basic.Basic.{Basic}
@@ -16,9 +16,9 @@ slashed_byte byte = if byte == 46 then 47 else byte
 abbrev pub slashed : List ℕ → List ℕ
 slashed text = map slashed_byte text
 
--- ---- the pairs of brackets at the end of a word
+-- ---- the pairs `[]` at the end of a word
 
--- whether bytes are pairs `[]`, one behind the other
+-- whether bytes are pairs, one behind the other
 abbrev pub are_pairs : List ℕ → Bool
 are_pairs [] = true
 are_pairs (byte ∷ []) = false

@@ -15,5 +15,5 @@ pub use meant_label::MeantLabel;
 pub use naming::{class_label, label_of, name_text};
 pub use object_text::text_of;
 pub use text::{Coding, Text, Units};
-pub use type_names::{arrays_named, type_letter, type_named};
+pub use type_names::arrays_named;
 pub use types::type_word;

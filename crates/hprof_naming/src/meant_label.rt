@@ -7,22 +7,24 @@ ghost use Rattle.hprof_naming.specs.MeantLabel.{IsMeantBy, Means};
 use crate::type_names::{type_letter, type_named};
 use hprof_values::Basic;
 
-/// The label that a word means. The word is read once, and compared with any number of labels.
+/// The label that a word means. A word is read once and compared with any number of labels; it is borrowed, and nothing is allocated.
 ///
-/// A word is a class's name as Java source, its label or its descriptor has it. Arrays have one pair of brackets a dimension behind the
-/// name of their elements, or are named by their label. So `java.util.HashMap$Node[]` means `[Ljava/util/HashMap$Node;`, `byte[][]` means
-/// `[[B`, and `LFace;` means `Face`.
+/// - A class is named as in Java source, by its label, or by its descriptor: `shop.Session` and `Lshop/Session;` mean `shop/Session`.
+/// - Arrays are named as in Java source or by their label: `byte[][]` means `[[B`, and `java.util.HashMap$Node[]` means
+///   `[Ljava/util/HashMap$Node;`.
+///
+/// The rule is this project's own. Descriptors are those of the Java Virtual Machine Specification, section 4.3.2.
 #[derive(Clone, Copy, Debug, PartialEq, Eq)]
 pub struct MeantLabel<'a> {
-    /// The number of pairs of brackets at the word's end: the dimensions of the arrays, or 0 for a class.
+    /// The number of pairs `[]` at the word's end: the dimensions of the arrays that it means, or 0 for a class.
     dimensions: usize,
-    /// The primitive type that the bytes before the pairs are the word for, if they are one.
+    /// The primitive type that the bytes before the pairs name, if they name one. It counts only if there are pairs.
     elem: Option<Basic>,
-    /// The name of the class that the bytes before the pairs are otherwise.
+    /// The name of the class that they name otherwise.
     name: &'a [u8],
 }
 
-/// Returns the bytes before the pairs of brackets at a word's end, and the number of the pairs.
+/// Returns the bytes before the pairs `[]` at a word's end, and the number of the pairs.
 fn split_pairs(word: &[u8]) -> (&[u8], usize)
     ensures text { result.0.now ≡ before_pairs word.now }
     ensures pairs { result.1 ≡ count_of_pairs word.now }

@@ -1,4 +1,4 @@
-//! Reading the words and the letters that name primitive types, and arrays of these.
+//! Reading the words that name primitive types and arrays of these.
 
 ghost use Rattle.std.specs.Prelude.{◌≡◌};
 ghost use Rattle.hprof_naming.specs.TypeNames.{arrays_named, is_array_word, type_letter, type_named};
@@ -19,7 +19,7 @@ const PRIMITIVE_TYPES: [Basic; 8] = [
 ];
 
 /// Returns the letter with which descriptors of the type begin (Java Virtual Machine Specification, section 4.3.2).
-pub fn type_letter(basic: Basic) -> &'static str
+pub(crate) fn type_letter(basic: Basic) -> &'static str
     ensures { result.now ≡ type_letter basic }
 {
     match basic {
@@ -37,7 +37,7 @@ pub fn type_letter(basic: Basic) -> &'static str
 }
 
 /// Returns the primitive type that has this word, or `None` if there is none.
-pub fn type_named(text: &[u8]) -> Option<Basic>
+pub(crate) fn type_named(text: &[u8]) -> Option<Basic>
     ensures { result ≡ type_named text.now }
 {
     PRIMITIVE_TYPES
@@ -56,7 +56,7 @@ fn is_array_word(elem: Basic, word: &[u8]) -> bool
         || behind_bracket.is_some_and(|letter| letter == type_letter(elem).as_bytes())
 }
 
-/// Returns the primitive type whose arrays a word names, as `byte[]` or `[B`, or `None` if it names none.
+/// Returns the primitive type whose arrays a word names, such as `byte[]` or `[B`, or `None` if it names none.
 pub fn arrays_named(word: &[u8]) -> Option<Basic>
     ensures { result ≡ arrays_named word.now }
 {
