@@ -32,9 +32,9 @@ too_few label rest count all is less none behind same = at (all - count - 1) (om
   at : (left : ℕ) → all ≡ count + suc left → ⊥
   at left sum =
       let whole : replicate all 91 ≡ replicate count 91 ++ 91 ∷ replicate left 91 =
-          ap (λ (n : ℕ). replicate n 91) sum ∙ sym (replicate-append-replicate count (suc left) 91) in
+      ap (λ (n : ℕ). replicate n 91) sum ∙ sym (replicate-append-replicate count (suc left) 91) in
       let both : replicate count 91 ++ rest ≡ replicate count 91 ++ (91 ∷ replicate left 91 ++ behind) =
-          sym is ∙ same ∙ ap (λ (l : List ℕ). l ++ behind) whole ∙ append_assoc (replicate count 91) (91 ∷ replicate left 91) behind in
+      sym is ∙ same ∙ ap (λ (l : List ℕ). l ++ behind) whole ∙ append_assoc (replicate count 91) (91 ∷ replicate left 91) behind in
       none (replicate left 91 ++ behind) (append_cancel_left (replicate count 91) rest (91 ∷ replicate left 91 ++ behind) both)
 
 -- ---- descriptors
@@ -60,15 +60,14 @@ pub same_between : (text between name : List ℕ) → text ≡ 76 ∷ between ++
     → (slashed between ≡ slashed name) ↔ (slashed text ≡ slashed (76 ∷ name ++ 59 ∷ []))
 same_between text between name is =
     let one : slashed text ≡ 76 ∷ slashed between ++ 59 ∷ [] =
-        ap slashed is ∙ ap (λ (l : List ℕ). 76 ∷ l) (map-append slashed_byte between (59 ∷ [])) in
+    ap slashed is ∙ ap (λ (l : List ℕ). 76 ∷ l) (map-append slashed_byte between (59 ∷ [])) in
     let other : slashed (76 ∷ name ++ 59 ∷ []) ≡ 76 ∷ slashed name ++ 59 ∷ [] =
-        ap (λ (l : List ℕ). 76 ∷ l) (map-append slashed_byte name (59 ∷ [])) in
-    (
+    ap (λ (l : List ℕ). 76 ∷ l) (map-append slashed_byte name (59 ∷ [])) in (
       λ same. one ∙ ap (λ (l : List ℕ). 76 ∷ l ++ 59 ∷ []) same ∙ sym other,
       λ same.
-        let whole : 76 ∷ slashed between ++ 59 ∷ [] ≡ 76 ∷ slashed name ++ 59 ∷ [] = sym one ∙ same ∙ other in
-        let tail : slashed between ++ 59 ∷ [] ≡ slashed name ++ 59 ∷ [] = cc in
-        append_cancel_right (slashed between) (slashed name) (59 ∷ []) tail,
+          let whole : 76 ∷ slashed between ++ 59 ∷ [] ≡ 76 ∷ slashed name ++ 59 ∷ [] = sym one ∙ same ∙ other in
+          let tail : slashed between ++ 59 ∷ [] ≡ slashed name ++ 59 ∷ [] = cc in
+          append_cancel_right (slashed between) (slashed name) (59 ∷ []) tail,
     )
 
 -- a text that does not stand between them is the same as none that does
@@ -76,7 +75,7 @@ pub never_between : (text name : List ℕ) → ((between : List ℕ) → text �
     → slashed text ≢ slashed (76 ∷ name ++ 59 ∷ [])
 never_between text name none same =
     let whole : slashed text ≡ 76 ∷ slashed name ++ 59 ∷ [] =
-        same ∙ ap (λ (l : List ℕ). 76 ∷ l) (map-append slashed_byte name (59 ∷ [])) in
+    same ∙ ap (λ (l : List ℕ). 76 ∷ l) (map-append slashed_byte name (59 ∷ [])) in
     let first = plain_front (76 ∷ []) text (slashed name ++ 59 ∷ []) (plain_letter basics.Object) whole in
     let is : text ≡ 76 ∷ first.0 = first.1 in
     let both : 76 ∷ slashed first.0 ≡ 76 ∷ slashed name ++ 59 ∷ [] = sym (ap slashed is) ∙ whole in
@@ -99,10 +98,9 @@ pub same_behind : (count : ℕ) (label text descriptor : List ℕ) → label ≡
     → (slashed text ≡ slashed descriptor) ↔ (slashed label ≡ slashed (replicate count 91 ++ descriptor))
 same_behind count label text descriptor is =
     let one : slashed label ≡ slashed (replicate count 91) ++ slashed text =
-        ap slashed is ∙ map-append slashed_byte (replicate count 91) text in
+    ap slashed is ∙ map-append slashed_byte (replicate count 91) text in
     let other : slashed (replicate count 91 ++ descriptor) ≡ slashed (replicate count 91) ++ slashed descriptor =
-        map-append slashed_byte (replicate count 91) descriptor in
-    (
+    map-append slashed_byte (replicate count 91) descriptor in (
       λ same. one ∙ ap (λ (l : List ℕ). slashed (replicate count 91) ++ l) same ∙ sym other,
       λ same. append_cancel_left (slashed (replicate count 91)) (slashed text) (slashed descriptor) (sym one ∙ same ∙ other),
     )
@@ -112,7 +110,7 @@ pub never_behind : (count : ℕ) (label descriptor : List ℕ) → ((text : List
     → slashed label ≢ slashed (replicate count 91 ++ descriptor)
 never_behind count label descriptor none same =
     let it = plain_front (replicate count 91) label (slashed descriptor) (plain_brackets count)
-        (same ∙ map-append slashed_byte (replicate count 91) descriptor) in
+    (same ∙ map-append slashed_byte (replicate count 91) descriptor) in
     none it.0 it.1
 
 -- a label that is the same as what a word means

@@ -28,7 +28,7 @@ pub plain_word : (word label : List ℕ) → ends_with nat_eq word (codes "[]") 
 plain_word word label no_pair no_descriptor =
     let ends = ends_is Decides-eqb word (91 ∷ 93 ∷ []) (ends_with nat_eq word (codes "[]")) refl in
     let meant : meant_label word ≡ word =
-        meant_without_pairs word (λ front same. both_ways _ no_pair (ends.1 front same)) ∙ cond-false _ _ _ no_descriptor in
+    meant_without_pairs word (λ front same. both_ways _ no_pair (ends.1 front same)) ∙ cond-false _ _ _ no_descriptor in
     (λ means. means ∙ ap slashed meant, λ same. same ∙ ap slashed (sym meant))
 
 -- ---- descriptors of classes
@@ -36,7 +36,7 @@ plain_word word label no_pair no_descriptor =
 last_byte : (one other : List ℕ) (x y : ℕ) → one ++ x ∷ [] ≡ other ++ y ∷ [] → x ≡ y
 last_byte one other x y same =
     let long : length one ≡ length other =
-        omega (arith, ap length same, length-append one (x ∷ []), length-append other (y ∷ [])) in
+    omega (arith, ap length same, length-append one (x ∷ []), length-append other (y ∷ [])) in
     sym (get_or-append_seam one x [] 0) ∙ ap (λ (l : List ℕ). get_or l (length one) 0) same
     ∙ ap (λ (n : ℕ). get_or (other ++ y ∷ []) n 0) long ∙ get_or-append_seam other y [] 0
 
@@ -48,8 +48,9 @@ no_pair_behind name front same =
 is_descriptor : (name : List ℕ) → name ≢ [] → is_class_descriptor (76 ∷ name ++ 59 ∷ []) ≡ true
 is_descriptor [] some = absurd (some refl)
 is_descriptor (byte ∷ name) some =
-    let ends = ends_is Decides-eqb (76 ∷ byte ∷ name ++ 59 ∷ []) (59 ∷ []) (ends_with nat_eq (76 ∷ byte ∷ name ++ 59 ∷ []) (codes ";")) refl in
-    let long : nat_lt 2 (length (76 ∷ byte ∷ name ++ 59 ∷ [])) ≡ true = lt-ltb _ _ (omega (arith, length-append name (59 ∷ []))) in
+    let text = 76 ∷ byte ∷ name ++ 59 ∷ [] in
+    let ends = ends_is Decides-eqb text (59 ∷ []) (ends_with nat_eq text (codes ";")) refl in
+    let long : nat_lt 2 (length text) ≡ true = lt-ltb _ _ (omega (arith, length-append name (59 ∷ []))) in
     let last = ends.1 (76 ∷ byte ∷ name) refl in
     rw (long, last) refl
 
@@ -57,10 +58,10 @@ pub class_descriptor : (name label : List ℕ) → name ≢ [] → Means (codes 
 class_descriptor name label some =
     let word = 76 ∷ name ++ 59 ∷ [] in
     let within : take (length word - 2) (name ++ 59 ∷ []) ≡ name =
-        let long : length word - 2 ≡ length name = omega (arith, length-append name (59 ∷ [])) in
-        ap (λ (n : ℕ). take n (name ++ 59 ∷ [])) long ∙ take-append_seam name (59 ∷ []) in
+    let long : length word - 2 ≡ length name = omega (arith, length-append name (59 ∷ [])) in
+    ap (λ (n : ℕ). take n (name ++ 59 ∷ [])) long ∙ take-append_seam name (59 ∷ []) in
     let meant : meant_label word ≡ name =
-        meant_without_pairs word (no_pair_behind name) ∙ cond-true _ _ _ (is_descriptor name some) ∙ within in
+    meant_without_pairs word (no_pair_behind name) ∙ cond-true _ _ _ (is_descriptor name some) ∙ within in
     (λ means. means ∙ ap slashed meant, λ same. same ∙ ap slashed (sym meant))
 
 -- ---- words for arrays of primitive types
@@ -87,7 +88,17 @@ module _ (word : List ℕ) where
 
   pub array_word : (elem : Basic) → arrays_named word ≡ Some elem → meant_label word ≡ codes "[" ++ type_letter elem
   array_word elem found =
-      of_found (λ one. meant_label word ≡ codes "[" ++ type_letter one) primitive_types elem
-      (of_one basics.Boolean refl refl, (of_one basics.Char refl refl, (of_one basics.Float refl refl, (of_one basics.Double refl refl,
-      (of_one basics.Byte refl refl, (of_one basics.Short refl refl, (of_one basics.Int refl refl, (of_one basics.Long refl refl, tt))))))))
+      of_found (λ one. meant_label word ≡ codes "[" ++ type_letter one) primitive_types elem (
+        of_one basics.Boolean refl refl,
+        (
+          of_one basics.Char refl refl,
+          (
+            of_one basics.Float refl refl,
+            (
+              of_one basics.Double refl refl,
+              (of_one basics.Byte refl refl, (of_one basics.Short refl refl, (of_one basics.Int refl refl, (of_one basics.Long refl refl, tt)))),
+            ),
+          ),
+        ),
+      )
       found

@@ -63,7 +63,8 @@ pub all_dropped : (word text : List ℕ) (count : ℕ) → word ≡ text ++ brac
     → (text ≡ before_pairs word) × (count ≡ count_of_pairs word)
 all_dropped word text count is none =
     let before : before_pairs word ≡ text = rw is (before_pairs-append text count none) in
-    let long : length word ≡ length text + 2 * count = rw is (omega (arith, length-append text (bracket_pairs count), length-bracket_pairs count)) in
+    let long : length word ≡ length text + 2 * count =
+    rw is (omega (arith, length-append text (bracket_pairs count), length-bracket_pairs count)) in
     (sym before, rw before (rw long (omega arith)))
 
 -- one more is dropped
@@ -71,7 +72,7 @@ pub one_dropped : (word text front : List ℕ) (count : ℕ) → word ≡ text +
     → (word ≡ front ++ bracket_pairs (count + 1)) × (length word ≡ length front + 2 * (count + 1))
 one_dropped word text front count is then =
     let whole : word ≡ front ++ bracket_pairs (suc count) =
-        is ∙ ap (λ (l : List ℕ). l ++ bracket_pairs count) then ∙ append_assoc front (91 ∷ 93 ∷ []) (bracket_pairs count) in
+    is ∙ ap (λ (l : List ℕ). l ++ bracket_pairs count) then ∙ append_assoc front (91 ∷ 93 ∷ []) (bracket_pairs count) in
     let more : word ≡ front ++ bracket_pairs (count + 1) = rw add-one whole in
     (more, rw more (omega (arith, length-append front (bracket_pairs (count + 1)), length-bracket_pairs (count + 1))))
 
@@ -95,7 +96,7 @@ whole_word [] = refl
 whole_word (byte ∷ bytes) = by_test (are_pairs (byte ∷ bytes)) refl (whole_word bytes) where
   by_test : (b : Bool) → are_pairs (byte ∷ bytes) ≡ b → bytes ≡ before_pairs bytes ++ bracket_pairs (count_of_pairs bytes)
       → byte ∷ bytes ≡ cond b [] (byte ∷ before_pairs bytes)
-        ++ bracket_pairs ((length (byte ∷ bytes) - length (cond b [] (byte ∷ before_pairs bytes))) / 2)
+      ++ bracket_pairs ((length (byte ∷ bytes) - length (cond b [] (byte ∷ before_pairs bytes))) / 2)
   by_test true e later = let none : length (byte ∷ bytes) - 0 ≡ length (byte ∷ bytes) = omega arith in rw none (only_these (byte ∷ bytes) e)
   by_test false e later =
       let count : (length (byte ∷ bytes) - length (byte ∷ before_pairs bytes)) / 2 ≡ count_of_pairs bytes = omega arith in
@@ -112,7 +113,7 @@ before_pairs-none (byte ∷ bytes) front same = by_test (are_pairs (byte ∷ byt
       let first : byte ≡ 91 = cc in
       let before : before_pairs bytes ≡ 93 ∷ [] = cc in
       let rest : bytes ≡ 93 ∷ bracket_pairs (count_of_pairs bytes) =
-          whole_word bytes ∙ ap (λ (l : List ℕ). l ++ bracket_pairs (count_of_pairs bytes)) before in
+      whole_word bytes ∙ ap (λ (l : List ℕ). l ++ bracket_pairs (count_of_pairs bytes)) before in
       let whole : byte ∷ bytes ≡ 91 ∷ 93 ∷ bracket_pairs (count_of_pairs bytes) = cc in
       both_ways _ e (ap are_pairs whole ∙ are_pairs-bracket_pairs (suc (count_of_pairs bytes)))
   by_test false e (f ∷ fs) is later = let rest : before_pairs bytes ≡ fs ++ 91 ∷ 93 ∷ [] = cc in later fs rest

@@ -15,7 +15,7 @@ same_slashed (x ∷ xs) [] long each = absurd (omega arith)
 same_slashed (x ∷ xs) (y ∷ ys) long each =
     let head : slashed_byte x ≡ slashed_byte y = each 0 (omega arith) (omega arith) in
     let tail : slashed xs ≡ slashed ys =
-        same_slashed xs ys (omega arith) (λ k first second. each (suc k) (omega arith) (omega arith)) in
+    same_slashed xs ys (omega arith) (λ k first second. each (suc k) (omega arith) (omega arith)) in
     cc
 
 pub each_slashed : (one other : List ℕ) → slashed one ≡ slashed other

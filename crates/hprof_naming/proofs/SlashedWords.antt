@@ -67,7 +67,7 @@ count_of_slashed : (word : List ℕ) → count_of_pairs (slashed word) ≡ count
 count_of_slashed word =
     let whole : length (slashed word) ≡ length word = length-map word slashed_byte in
     let before : length (before_pairs (slashed word)) ≡ length (before_pairs word) =
-        ap length (before_slashed word) ∙ length-map (before_pairs word) slashed_byte in
+    ap length (before_slashed word) ∙ length-map (before_pairs word) slashed_byte in
     rw (whole, before) refl
 
 -- ---- what stands before them
@@ -82,9 +82,19 @@ found_alike one other (elem ∷ elems) each =
 
 type_of_slashed : (text : List ℕ) → type_named (slashed text) ≡ type_named text
 type_of_slashed text =
-    found_alike (λ elem. bytes_eq (type_word elem) (slashed text)) (λ elem. bytes_eq (type_word elem) text) primitive_types
-    (of basics.Boolean refl, (of basics.Char refl, (of basics.Float refl, (of basics.Double refl,
-    (of basics.Byte refl, (of basics.Short refl, (of basics.Int refl, (of basics.Long refl, tt)))))))) where
+    found_alike (λ elem. bytes_eq (type_word elem) (slashed text)) (λ elem. bytes_eq (type_word elem) text) primitive_types (
+      of basics.Boolean refl,
+      (
+        of basics.Char refl,
+        (
+          of basics.Float refl,
+          (
+            of basics.Double refl,
+            (of basics.Byte refl, (of basics.Short refl, (of basics.Int refl, (of basics.Long refl, tt)))),
+          ),
+        ),
+      ),
+    ) where
       of : (elem : Basic) → list_all is_other (type_word elem) ≡ true
           → bytes_eq (type_word elem) (slashed text) ≡ bytes_eq (type_word elem) text
       of elem are = compared (type_word elem) text are
@@ -109,6 +119,7 @@ bare_slashed text = by_test (is_class_descriptor text) refl where
       ap (λ (n : ℕ). take (n - 2) (drop 1 (slashed text))) (length-map text slashed_byte)
       ∙ ap (λ (l : List ℕ). take (length text - 2) l) (drop-map slashed_byte 1 text)
       ∙ take-map slashed_byte (length text - 2) (drop 1 text)
+
   by_test : (b : Bool) → is_class_descriptor text ≡ b
       → bare_name (slashed text) ≡ slashed (cond b (take (length text - 2) (drop 1 text)) text)
   by_test true e = cond-true _ _ _ (descriptor_of_slashed text ∙ e) ∙ within

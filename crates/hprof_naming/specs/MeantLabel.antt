@@ -1,6 +1,7 @@
 -- The label that a word means, this project's own. A class is named as in Java source, by its label, or by its descriptor; arrays as in
 -- Java source, or by their label.
-use Rattle.std.specs.Prelude.{◌≡◌, ℕ, ◌-◌, ◌/◌, ◌==◌, ◌&&◌, nat_eq, nat_lt, if◌then◌else◌, Bool, true, false, List, [], ◌∷◌, ◌++◌, length, map, take, drop, replicate, Option, Some, None, codes}
+use Rattle.std.specs.Prelude.{◌≡◌, ℕ, ◌-◌, ◌/◌, nat_eq, nat_lt, ◌==◌, ◌&&◌, Bool, true, false, if◌then◌else◌, Option, Some, None}
+use Rattle.std.specs.Prelude.{List, [], ◌∷◌, ◌++◌, length, map, take, drop, replicate, codes}
 use Rattle.std.specs.List.{starts_with, ends_with}
 use Rattle.hprof_values.specs.declared.basic.Basic.{Basic}
 use Rattle.hprof_naming.specs.declared.meant_label.MeantLabel.{MeantLabel}

@@ -1,8 +1,9 @@
 //! The label of a class that a word means.
 
-ghost use Rattle.std.specs.Prelude.{◌≡◌, ◌≢◌, ◌↔◌, ◌<◌, ◌++◌, ◌∷◌, [], ℕ, EachIndex, IsTrue, List, MatchOption, length, replicate, slice_index};
-ghost use Rattle.hprof_naming.specs.MeantLabel.{before_pairs, bare_name, count_of_pairs, descriptor_of, label_value, slashed, slashed_byte};
-ghost use Rattle.hprof_naming.specs.MeantLabel.{IsMeantBy, Means};
+ghost use Rattle.std.specs.Prelude.{◌≡◌, ◌≢◌, ◌↔◌, ◌<◌, ◌++◌, ◌∷◌, [], ℕ, List, length, replicate, slice_index};
+ghost use Rattle.std.specs.Prelude.{EachIndex, IsTrue, MatchOption};
+ghost use Rattle.hprof_naming.specs.MeantLabel.{IsMeantBy, Means, bare_name, before_pairs, count_of_pairs, descriptor_of, label_value};
+ghost use Rattle.hprof_naming.specs.MeantLabel.{slashed, slashed_byte};
 
 use crate::type_names::{type_letter, type_named};
 use hprof_values::Basic;
@@ -61,9 +62,7 @@ fn agree_slashed(one: &[u8], other: &[u8]) -> bool
     ensures { IsTrue result ↔ EachIndex one.now (λ k. k < length other.now
         → slashed_byte (slice_index one.now k) ≡ slashed_byte (slice_index other.now k)) }
 {
-    one.iter()
-        .zip(other)
-        .all(|(byte, other)| slashed_byte(*byte) == slashed_byte(*other))
+    one.iter().zip(other).all(|(byte, other)| slashed_byte(*byte) == slashed_byte(*other))
 }
 
 /// Returns whether two texts are the same with a slash for each dot.
@@ -75,7 +74,8 @@ fn are_same_slashed(one: &[u8], other: &[u8]) -> bool
 
 /// Returns the bytes behind that many opening brackets, if the label begins with so many.
 fn behind_brackets(label: &[u8], count: usize) -> Option<&[u8]>
-    ensures { MatchOption result ((rest : List ℕ) → label.now ≢ replicate count 91 ++ rest) (λ rest. label.now ≡ replicate count 91 ++ rest.now) }
+    ensures { MatchOption result ((rest : List ℕ) → label.now ≢ replicate count 91 ++ rest)
+        (λ rest. label.now ≡ replicate count 91 ++ rest.now) }
 {
     let mut rest = label;
     for _ in 0..count {

@@ -18,4 +18,5 @@ returns-in-Some c =
 
 pub returns-in-None-between : goal.returns-in-None-between
 returns-in-None-between c =
-    rw c.in-None.is (λ no. absurd (both_ways _ refl no), λ same. absurd (never_between c.args.text.now c.args.self.now.name.now c.in-None-between.ensures same))
+    let never = never_between c.args.text.now c.args.self.now.name.now c.in-None-between.ensures in
+    rw c.in-None.is (λ no. absurd (both_ways _ refl no), λ same. absurd (never same))
