@@ -1,14 +1,14 @@
 -- What words of each form mean.
-use Rattle.std.proofs.Common.{subst, inl, inr, ◌≡◌, ◌≢◌, ◌↔◌, ℕ, ◌-◌, Bool, true, false, cond, ◌==◌, List, [], ◌∷◌, ◌++◌, Some, length, get_or, take, refl, sym, ap, ◌∙◌, append_assoc, arith, nat_eq, nat_lt, codes}
-use Rattle.std.specs.Prelude.{find}
-use Rattle.std.specs.List.{AllByRecursion, ends_with}
+use Rattle.std.proofs.Common.{◌&&◌, inl, inr, ◌≡◌, ◌≢◌, ◌↔◌, ℕ, ◌-◌, Bool, true, false, cond, ◌==◌, List, [], ◌∷◌, ◌++◌, Some, length}
+use Rattle.std.proofs.Common.{get_or, take, refl, sym, ap, ◌∙◌, append_assoc, arith, nat_eq, nat_lt, codes}
+use Rattle.std.specs.Prelude.{bytes_eq, find}
+use Rattle.std.specs.List.{ends_with, list_all}
 use Rattle.std.proofs.Math.Seq.{get_or-append_seam, take-append_seam}
 use Rattle.std.proofs.lemmas.List.{append-nil, length-append}
-use Rattle.std.proofs.lemmas.Bool.{both_ways, cond-false, cond-true, eq-eqb, lt-ltb, or_cases}
+use Rattle.std.proofs.lemmas.Bool.{and_parts, both_ways, cond-false, cond-true, eq-eqb, lt-ltb, or_cases}
 use Rattle.std.proofs.lemmas.Bool.Decides.{Decides-eqb}
 use Rattle.std.proofs.lemmas.Slice.Eq.{bytes_eq-Decides, ends_is}
 use Rattle.hprof_values.specs.declared.basic.Basic.{Basic}
-use Rattle.hprof_values.specs.declared.basic.Basic.TheVariants as basics
 use Rattle.hprof_naming.specs.TypeWord.{type_word}
 use Rattle.hprof_naming.specs.TypeNames.{arrays_named, is_array_word, primitive_types, type_letter}
 use Rattle.hprof_naming.specs.MeantLabel.{Means, bare_name, before_pairs, count_of_pairs, is_class_descriptor, meant_label, slashed}
@@ -66,39 +66,37 @@ class_descriptor name label some =
 
 -- ---- words for arrays of primitive types
 
-module _ (word : List ℕ) where
-  -- what holds of each type whose arrays the word names, holds of the first
-  of_found : (P : Basic → Type 0) (elems : List Basic) (elem : Basic)
-      → AllByRecursion (λ one. is_array_word one word ≡ true → P one) elems
-      → find (λ one. is_array_word one word) elems ≡ Some elem → P elem
-  of_found P [] elem each found = cc
-  of_found P (one ∷ elems) elem each found = by_test (is_array_word one word) refl found (of_found P elems elem each.1) where
-    by_test : (b : Bool) → is_array_word one word ≡ b → cond b (Some one) (find (λ other. is_array_word other word) elems) ≡ Some elem
-        → (find (λ other. is_array_word other word) elems ≡ Some elem → P elem) → P elem
-    by_test true e is later = let same : one ≡ elem = cc in subst P same (each.0 e)
-    by_test false e is later = later is
+-- both words for arrays of the type mean their class
+abbrev mean_arrays : Basic → Bool
+mean_arrays elem =
+    bytes_eq (meant_label (type_word elem ++ codes "[]")) (codes "[" ++ type_letter elem)
+    && bytes_eq (meant_label (codes "[" ++ type_letter elem)) (codes "[" ++ type_letter elem)
 
-  of_one : (elem : Basic) → meant_label (type_word elem ++ codes "[]") ≡ codes "[" ++ type_letter elem
-      → meant_label (codes "[" ++ type_letter elem) ≡ codes "[" ++ type_letter elem
-      → is_array_word elem word ≡ true → meant_label word ≡ codes "[" ++ type_letter elem
-  of_one elem by_word by_label is_it = elim (or_cases _ _ is_it) [
-    | inl is ↦ ap meant_label ((bytes_eq-Decides word (type_word elem ++ codes "[]")).0 is) ∙ by_word
-    | inr is ↦ ap meant_label ((bytes_eq-Decides word (codes "[" ++ type_letter elem)).0 is) ∙ by_label
-  ]
+module _ (word : List ℕ) where
+  of_one : (elem : Basic) → mean_arrays elem ≡ true → is_array_word elem word ≡ true → meant_label word ≡ codes "[" ++ type_letter elem
+  of_one elem mean is_it =
+      let parts = and_parts _ _ mean in
+      elim (or_cases _ _ is_it) [
+        | inl is ↦
+            ap meant_label ((bytes_eq-Decides word (type_word elem ++ codes "[]")).0 is) ∙ (bytes_eq-Decides _ _).0 parts.0
+        | inr is ↦
+            ap meant_label ((bytes_eq-Decides word (codes "[" ++ type_letter elem)).0 is) ∙ (bytes_eq-Decides _ _).0 parts.1
+      ]
+
+  of_found : (elems : List Basic) (elem : Basic) → list_all mean_arrays elems ≡ true
+      → find (λ one. is_array_word one word) elems ≡ Some elem → meant_label word ≡ codes "[" ++ type_letter elem
+  of_found [] elem mean found = cc
+  of_found (one ∷ elems) elem mean found =
+      let parts = and_parts (mean_arrays one) (list_all mean_arrays elems) mean in
+      by_test (is_array_word one word) refl parts.0 found (of_found elems elem parts.1) where
+        by_test : (b : Bool) → is_array_word one word ≡ b → mean_arrays one ≡ true
+            → cond b (Some one) (find (λ other. is_array_word other word) elems) ≡ Some elem
+            → (find (λ other. is_array_word other word) elems ≡ Some elem → meant_label word ≡ codes "[" ++ type_letter elem)
+            → meant_label word ≡ codes "[" ++ type_letter elem
+        by_test true e mean_one is later =
+            let same : one ≡ elem = cc in
+            of_one one mean_one e ∙ ap (λ (b : Basic). codes "[" ++ type_letter b) same
+        by_test false e mean_one is later = later is
 
   pub array_word : (elem : Basic) → arrays_named word ≡ Some elem → meant_label word ≡ codes "[" ++ type_letter elem
-  array_word elem found =
-      of_found (λ one. meant_label word ≡ codes "[" ++ type_letter one) primitive_types elem (
-        of_one basics.Boolean refl refl,
-        (
-          of_one basics.Char refl refl,
-          (
-            of_one basics.Float refl refl,
-            (
-              of_one basics.Double refl refl,
-              (of_one basics.Byte refl refl, (of_one basics.Short refl refl, (of_one basics.Int refl refl, (of_one basics.Long refl refl, tt)))),
-            ),
-          ),
-        ),
-      )
-      found
+  array_word elem found = of_found primitive_types elem refl found

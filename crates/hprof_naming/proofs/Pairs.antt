@@ -1,5 +1,6 @@
 -- The pairs of brackets at the end of a word.
-use Rattle.std.proofs.Common.{replicate, codes, ◌-◌, ◌/◌, add-one, ◌≡◌, ◌≢◌, ◌⊎◌, inl, inr, ℕ, zero, suc, ◌+◌, ◌*◌, Bool, true, false, cond, List, [], ◌∷◌, ◌++◌, length, refl, sym, ap, ◌∙◌, append_assoc, arith, ◌==◌, ◌&&◌}
+use Rattle.std.proofs.Common.{replicate, codes, ◌-◌, ◌/◌, add-one, ◌≡◌, ◌≢◌, ◌⊎◌, inl, inr, ℕ, zero, suc, ◌+◌, ◌*◌, Bool, true, false}
+use Rattle.std.proofs.Common.{cond, List, [], ◌∷◌, ◌++◌, length, refl, sym, ap, ◌∙◌, append_assoc, arith, ◌==◌, ◌&&◌}
 use Rattle.std.specs.List.{concat}
 use Rattle.std.proofs.lemmas.List.{length-append}
 use Rattle.std.proofs.lemmas.Bool.{both_ways, eqb-true}

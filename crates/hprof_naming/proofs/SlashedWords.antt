@@ -1,7 +1,8 @@
 -- What a word means does not depend on its dots and slashes.
-use Rattle.std.proofs.Common.{◌≡◌, ℕ, zero, suc, ◌-◌, Bool, true, false, cond, ◌==◌, ◌&&◌, not, List, [], ◌∷◌, ◌++◌, Option, Some, None, length, take, drop, replicate, refl, sym, ap, ◌∙◌, arith, nat_eq, nat_lt, codes}
+use Rattle.std.proofs.Common.{◌≡◌, ℕ, zero, suc, ◌-◌, Bool, true, false, cond, ◌==◌, ◌&&◌, not, List, [], ◌∷◌, ◌++◌, Option, Some, None}
+use Rattle.std.proofs.Common.{length, take, drop, replicate, refl, sym, ap, ◌∙◌, arith, nat_eq, nat_lt, codes}
 use Rattle.std.specs.Prelude.{bytes_eq, find}
-use Rattle.std.specs.List.{AllByRecursion, ends_with, list_all, starts_with}
+use Rattle.std.specs.List.{ends_with, list_all, starts_with}
 use Rattle.std.specs.Cmp.Lexicographic.{pointwise}
 use Rattle.std.proofs.lemmas.List.{drop-map, length-map, map-append, take-map}
 use Rattle.std.proofs.lemmas.Bool.{and_parts, cond-false, cond-true, not-true}
@@ -10,7 +11,8 @@ use Rattle.hprof_values.specs.declared.basic.Basic.{Basic}
 use Rattle.hprof_values.specs.declared.basic.Basic.TheVariants as basics
 use Rattle.hprof_naming.specs.TypeWord.{type_word}
 use Rattle.hprof_naming.specs.TypeNames.{primitive_types, type_letter, type_named}
-use Rattle.hprof_naming.specs.MeantLabel.{Means, are_pairs, bare_name, before_pairs, count_of_pairs, descriptor_of, is_class_descriptor, label_with, meant_label, slashed, slashed_byte}
+use Rattle.hprof_naming.specs.MeantLabel.{Means, are_pairs, bare_name, before_pairs, count_of_pairs, descriptor_of, is_class_descriptor}
+use Rattle.hprof_naming.specs.MeantLabel.{label_with, meant_label, slashed, slashed_byte}
 
 -- ---- tests of bytes
 
@@ -72,32 +74,19 @@ count_of_slashed word =
 
 -- ---- what stands before them
 
--- tests that say the same find the same
-found_alike : (one other : Basic → Bool) (elems : List Basic) → AllByRecursion (λ elem. one elem ≡ other elem) elems
-    → find one elems ≡ find other elems
-found_alike one other [] each = refl
-found_alike one other (elem ∷ elems) each =
-    ap (λ (b : Bool). cond b (Some elem) (find one elems)) each.0
-    ∙ ap (λ (o : Option Basic). cond (other elem) (Some elem) o) (found_alike one other elems each.1)
+-- types whose words have no dots and no slashes, by their words
+types_of_slashed : (text : List ℕ) (elems : List Basic) → list_all (λ elem. list_all is_other (type_word elem)) elems ≡ true
+    → find (λ elem. bytes_eq (type_word elem) (slashed text)) elems ≡ find (λ elem. bytes_eq (type_word elem) text) elems
+types_of_slashed text [] are = refl
+types_of_slashed text (elem ∷ elems) are =
+    let parts = and_parts (list_all is_other (type_word elem)) (list_all (λ one. list_all is_other (type_word one)) elems) are in
+    let later = types_of_slashed text elems parts.1 in
+    ap (λ (b : Bool). cond b (Some elem) (find (λ one. bytes_eq (type_word one) (slashed text)) elems))
+    (compared (type_word elem) text parts.0)
+    ∙ ap (λ (o : Option Basic). cond (bytes_eq (type_word elem) text) (Some elem) o) later
 
 type_of_slashed : (text : List ℕ) → type_named (slashed text) ≡ type_named text
-type_of_slashed text =
-    found_alike (λ elem. bytes_eq (type_word elem) (slashed text)) (λ elem. bytes_eq (type_word elem) text) primitive_types (
-      of basics.Boolean refl,
-      (
-        of basics.Char refl,
-        (
-          of basics.Float refl,
-          (
-            of basics.Double refl,
-            (of basics.Byte refl, (of basics.Short refl, (of basics.Int refl, (of basics.Long refl, tt)))),
-          ),
-        ),
-      ),
-    ) where
-      of : (elem : Basic) → list_all is_other (type_word elem) ≡ true
-          → bytes_eq (type_word elem) (slashed text) ≡ bytes_eq (type_word elem) text
-      of elem are = compared (type_word elem) text are
+type_of_slashed text = types_of_slashed text primitive_types refl
 
 all_alike : (a b c x y z : Bool) → a ≡ x → b ≡ y → c ≡ z → (a && b && c) ≡ (x && y && z)
 all_alike a b c x y z one two three = cc
