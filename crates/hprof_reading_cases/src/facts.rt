@@ -43,7 +43,9 @@ fn facts_in_one_place(rt: HostRuntime) {
 
 // The fact of a record, whose bytes these are. It is the same by itself and in a place.
 fn record_in<'a>(bytes: &'a [u8], ids: IdSize) -> Option<Fact<'a>> {
-    let (head, _) = read_head(bytes, ids, u32::MAX).ok()?;
+    let Ok((head, _)) = read_head(bytes, ids, u32::MAX) else {
+        return None;
+    };
     let HeadKind::FactRecord = head.kind() else {
         return None;
     };
