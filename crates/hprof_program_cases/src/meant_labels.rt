@@ -74,7 +74,7 @@ fn words_name_arrays(rt: HostRuntime) {
         equal_at(
             &rt,
             word,
-            arrays_named(word.as_bytes()).map(type_word),
+            arrays_named(word.as_bytes()).map(|elem| type_word(elem)),
             named,
         );
     }
