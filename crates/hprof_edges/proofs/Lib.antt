@@ -13,3 +13,6 @@ pub mod OnlyDumps
 pub mod TableEdges
 pub mod WantedEdges
 pub mod LeastEdges
+pub mod FieldsOf
+pub mod LeftOutEdges
+pub mod KeptDecided
