@@ -2,7 +2,7 @@
 use Rattle.std.specs.Prelude.{◌↔◌}
 use Rattle.std.specs.List.Sorted.{IsNonDecreasingBy, IsPartitionPoint, IsPartitionedBy}
 use Rattle.std.proofs.Common.{◌≡◌, ℕ, ◌+◌, ◌-◌, ◌<◌, ◌≤◌, true, false, List, length, take, drop, get_or}
-use Rattle.std.proofs.Common.{nat_lt, nat_le, Contains, refl, sym, ap, subst, ◌∙◌, inl, inr, arith, get_or-take, get_or-drop, length-drop, length-take}
+use Rattle.std.proofs.Common.{nat_lt, nat_le, Contains, sym, ap, ◌∙◌, inl, inr, arith, get_or-take, get_or-drop, length-drop, length-take}
 use Rattle.std.proofs.Common.{ltb-true, ltb-false}
 use Rattle.std.proofs.lemmas.Bool.{cases_lt, leb-true, leb-false}
 use Rattle.std.proofs.lemmas.List.Sorted.{IsNonDecreasingBy-drop, IsPartitionedBy-leb, IsPartitionedBy-ltb}

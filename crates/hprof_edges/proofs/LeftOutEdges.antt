@@ -1,11 +1,10 @@
 -- The edges that are left out, and those that are kept.
 use Rattle.std.specs.Prelude.{◌↔◌, filter, not}
-use Rattle.std.specs.List.{list_any}
-use Rattle.std.proofs.Common.{◌≡◌, ◌==◌, ◌⊎◌, ◌++◌, ℕ, Bool, true, false, cond, List, [], ◌∷◌, Some, Contains, refl, sym, ap, subst, ◌∙◌, inl, inr}
+use Rattle.std.proofs.Common.{◌≡◌, ◌==◌, ◌⊎◌, ℕ, Bool, true, false, cond, List, [], ◌∷◌, Some, Contains, refl, sym, ap, subst, ◌∙◌, inl, inr}
 use Rattle.std.proofs.lemmas.Bool.{eqb-true, eq-eqb, or_cases, or_left, or_right}
 use Rattle.std.proofs.lemmas.List.Elements.{Contains-append_cases, Contains-append_left, Contains-append_right, Contains-push}
 use Rattle.hprof_values.specs.declared.ids.IdSize.{IdSize}
-use Rattle.hprof_items.specs.FactValue.{FactValue, Instance, ObjArray}
+use Rattle.hprof_items.specs.FactValue.{FactValue, Instance}
 use Rattle.hprof_rows.specs.declared.key.Key.TheVariants as keys
 use Rattle.hprof_rows.specs.Facts.{Has}
 use Rattle.hprof_heap.specs.Classes.{HasNoDump}
@@ -62,8 +61,9 @@ module _ (class : ℕ) where
   module _ (table fields : List FieldPlace)
       (are : (field : FieldPlace) → Contains fields field ↔ (Contains table field × (field.class ≡ class))) (place : ℕ) where
     pub none_there : has_place fields place ≡ false → Contains table (record { class = class; place = place }) → ⊥
-    none_there no has =
+    none_there free has =
         let yes = there_place fields place ((are (record { class = class; place = place })).1 (has, refl)) in
+        let unheld = free in
         absurd cc
 
     pub has_none : (Contains table (record { class = class; place = place }) → ⊥) → has_place fields place ≡ false
@@ -76,34 +76,40 @@ module _ (class : ℕ) where
 -- ---- references
 
 -- filters in either order
-pub filters_either : {X : Type 0} (p q : X → Bool) (xs : List X) → filter p (filter q xs) ≡ filter q (filter p xs)
-filters_either p q [] = refl
-filters_either {X} p q (x ∷ xs) = go (p x) (q x) refl refl where
-  go : (a b : Bool) → p x ≡ a → q x ≡ b → filter p (filter q (x ∷ xs)) ≡ filter q (filter p (x ∷ xs))
-  go true true yes too =
+module _ {X : Type 0} (p q : X → Bool) where
+  first_either : (x : X) (xs : List X) → filter p (filter q xs) ≡ filter q (filter p xs) → (a b : Bool) → p x ≡ a → q x ≡ b
+      → filter p (filter q (x ∷ xs)) ≡ filter q (filter p (x ∷ xs))
+  first_either x xs rest true true is too =
       ap (λ (t : Bool). filter p (cond t (x ∷ filter q xs) (filter q xs))) too
-      ∙ ap (λ (t : Bool). cond t (x ∷ filter p (filter q xs)) (filter p (filter q xs))) yes
-      ∙ ap (λ (l : List X). x ∷ l) (filters_either p q xs)
-      ∙ sym (ap (λ (t : Bool). filter q (cond t (x ∷ filter p xs) (filter p xs))) yes
+      ∙ ap (λ (t : Bool). cond t (x ∷ filter p (filter q xs)) (filter p (filter q xs))) is
+      ∙ ap (λ (l : List X). x ∷ l) rest
+      ∙ sym (ap (λ (t : Bool). filter q (cond t (x ∷ filter p xs) (filter p xs))) is
       ∙ ap (λ (t : Bool). cond t (x ∷ filter q (filter p xs)) (filter q (filter p xs))) too)
-  go true false yes no =
-      ap (λ (t : Bool). filter p (cond t (x ∷ filter q xs) (filter q xs))) no
-      ∙ filters_either p q xs
-      ∙ sym (ap (λ (t : Bool). filter q (cond t (x ∷ filter p xs) (filter p xs))) yes
-      ∙ ap (λ (t : Bool). cond t (x ∷ filter q (filter p xs)) (filter q (filter p xs))) no)
-  go false true no yes =
-      ap (λ (t : Bool). filter p (cond t (x ∷ filter q xs) (filter q xs))) yes
-      ∙ ap (λ (t : Bool). cond t (x ∷ filter p (filter q xs)) (filter p (filter q xs))) no
-      ∙ filters_either p q xs
-      ∙ sym (ap (λ (t : Bool). filter q (cond t (x ∷ filter p xs) (filter p xs))) no)
-  go false false no neither =
-      ap (λ (t : Bool). filter p (cond t (x ∷ filter q xs) (filter q xs))) neither
-      ∙ filters_either p q xs
-      ∙ sym (ap (λ (t : Bool). filter q (cond t (x ∷ filter p xs) (filter p xs))) no)
+  first_either x xs rest true false is too =
+      ap (λ (t : Bool). filter p (cond t (x ∷ filter q xs) (filter q xs))) too
+      ∙ rest
+      ∙ sym (ap (λ (t : Bool). filter q (cond t (x ∷ filter p xs) (filter p xs))) is
+      ∙ ap (λ (t : Bool). cond t (x ∷ filter q (filter p xs)) (filter q (filter p xs))) too)
+  first_either x xs rest false true is too =
+      ap (λ (t : Bool). filter p (cond t (x ∷ filter q xs) (filter q xs))) too
+      ∙ ap (λ (t : Bool). cond t (x ∷ filter p (filter q xs)) (filter p (filter q xs))) is
+      ∙ rest
+      ∙ sym (ap (λ (t : Bool). filter q (cond t (x ∷ filter p xs) (filter p xs))) is)
+  first_either x xs rest false false is too =
+      ap (λ (t : Bool). filter p (cond t (x ∷ filter q xs) (filter q xs))) too
+      ∙ rest
+      ∙ sym (ap (λ (t : Bool). filter q (cond t (x ∷ filter p xs) (filter p xs))) is)
 
--- those by no such field
+  pub filters_either : (xs : List X) → filter p (filter q xs) ≡ filter q (filter p xs)
+  filters_either [] = refl
+  filters_either (x ∷ xs) = first_either x xs (filters_either xs) (p x) (q x) refl refl
+
+-- it is by no such field
+abbrev pub stays : List FieldPlace → Reference → Bool
+stays fields reference = not (has_place fields reference.place)
+
 abbrev pub kept_references : List FieldPlace → List Reference → List Reference
-kept_references fields references = filter (λ reference. not (has_place fields reference.place)) references
+kept_references fields references = filter (stays fields) references
 
 not-true : (b : Bool) → not b ≡ true → b ≡ false
 not-true true e = absurd cc
@@ -115,14 +121,11 @@ pub by_kept : (ids : IdSize) (facts : List FactValue) (object class : ℕ) (byte
     → Contains (reference_edges object (kept_references fields references)) edge
     ↔ (IsFieldEdge ids facts object class bytes edge × (has_place fields edge.position ≡ false))
 by_kept ids facts object class bytes fields references are edge = (there, back) where
-  abbrev stays : Reference → Bool
-  stays reference = not (has_place fields reference.place)
-
   there : Contains (reference_edges object (kept_references fields references)) edge
       → IsFieldEdge ids facts object class bytes edge × (has_place fields edge.position ≡ false)
   there has =
       let is = referred_is object (kept_references fields references) edge has in
-      let both = (kept_are stays references (record { place = edge.position; to = edge.to })).0 is.there in (
+      let both = (kept_are (stays fields) references (record { place = edge.position; to = edge.to })).0 is.there in (
         record {
           not_zero = is.not_zero;
           from_is = is.from_is;
@@ -140,7 +143,7 @@ by_kept ids facts object class bytes fields references are edge = (there, back) 
         not_zero = is.not_zero;
         from_is = is.from_is;
         via_is = is.via_is;
-        there = (kept_are stays references (record { place = edge.position; to = edge.to })).1
+        there = (kept_are (stays fields) references (record { place = edge.position; to = edge.to })).1
             ((are.each (record { place = edge.position; to = edge.to })).1 is.reference, ap not both.1);
       })
 
@@ -159,10 +162,10 @@ module _ (ids : IdSize) (facts : List FactValue) (table : List FieldPlace) where
   all_stay fields id trace class bytes edge are none = (
     λ both. both.0,
     λ is. (
-        is,
-        λ out. nothing_there _ (subst (λ (l : List FieldPlace). Contains l (record { class = class; place = edge.position })) none
-            ((are (record { class = class; place = edge.position })).1 (out.1, refl))),
-        ),
+      is,
+      λ out. nothing_there _ (subst (λ (l : List FieldPlace). Contains l (record { class = class; place = edge.position })) none
+          ((are (record { class = class; place = edge.position })).1 (out.1, refl))),
+    ),
   )
 
   pub instance_kept : (fields : List FieldPlace) (id trace class : ℕ) (bytes : List ℕ) (edge : Edge)
@@ -218,9 +221,9 @@ module _ (ids : IdSize) (facts : List FactValue) (table : List FieldPlace) where
       ↔ (IsObjectEdge ids facts fact edge × ¬ IsLeftOutOf table fact edge)
   kept_of_only object fact is edge = (
     λ given. (
-        (of_only ids facts object fact is edge).0 (given.0, given.1),
-        λ out. given.2 (is_left_out fact edge (subst (λ (n : ℕ). IsOnlyObject facts n fact) (sym given.0) is) out),
-        ),
+      (of_only ids facts object fact is edge).0 (given.0, given.1),
+      λ out. given.2 (is_left_out fact edge (subst (λ (n : ℕ). IsOnlyObject facts n fact) (sym given.0) is) out),
+    ),
     λ gives. (
         let both = (of_only ids facts object fact is edge).1 gives.0 in (
           both.0,
