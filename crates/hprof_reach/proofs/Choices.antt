@@ -1,5 +1,5 @@
 -- Where edges that are chosen in one way are chosen in another, what the ones lead to the others lead to.
-use Rattle.std.specs.Prelude.{◌↔◌, ◌≤◌, ◌+◌, ◌<◌, length, slice_index}
+use Rattle.std.specs.Prelude.{◌↔◌, ◌≤◌, ◌+◌, slice_index}
 use Rattle.std.proofs.Common.{ℕ, List, Option, Some, None}
 use Rattle.hprof_values.specs.declared.ids.IdSize.{IdSize}
 use Rattle.hprof_items.specs.FactValue.{FactValue}

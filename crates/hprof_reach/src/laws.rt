@@ -8,7 +8,9 @@ ghost use Rattle.hprof_search.specs.Walks.{IsLeastBefore, IsWalk};
 ghost use Rattle.hprof_values.specs.declared.root.Root.{Root};
 ghost use Rattle.hprof_rows.specs.Order.{IsCanonicalOrder};
 ghost use Rattle.hprof_edges.specs.declared.edge.Edge.{Edge};
+ghost use Rattle.hprof_edges.specs.declared.field_place.FieldPlace.{FieldPlace};
 ghost use Rattle.hprof_edges.specs.Edges.{IsEdge};
+ghost use Rattle.hprof_edges.specs.LeftOut.{IsKept};
 ghost use Rattle.hprof_reach.specs.declared.reach.Reach.{Reach};
 ghost use Rattle.hprof_reach.specs.Reaching.{IsDistanceBy, IsDistanceFromRoots, IsPathBy, IsPathFromRoots, IsReachBy, IsStart, IsStep};
 ghost use Rattle.hprof_reach.specs.Reaching.{IsStepBy};
@@ -54,6 +56,14 @@ pub fn some_distance_and_path()
         → (distance : Option ℕ) × IsDistanceFromRoots ids facts id distance }
     ensures path { (ids : IdSize) (facts : List FactValue) (id : ℕ) → IsConsistent facts
         → (path : Option (List ℕ)) × IsPathFromRoots ids facts id path }
+{}
+
+/// If facts agree, each identifier has such results by the edges that are kept without those by any fields.
+pub fn some_kept_distance_and_path()
+    ensures distance { (ids : IdSize) (facts : List FactValue) (fields : List FieldPlace) (id : ℕ) → IsConsistent facts
+        → (distance : Option ℕ) × IsDistanceBy (IsKept fields facts) ids facts id distance }
+    ensures path { (ids : IdSize) (facts : List FactValue) (fields : List FieldPlace) (id : ℕ) → IsConsistent facts
+        → (path : Option (List ℕ)) × IsPathBy (IsKept fields facts) ids facts id path }
 {}
 
 /// An object has at most one list of roots, and exactly one if the facts are in canonical order.

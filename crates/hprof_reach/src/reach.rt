@@ -70,7 +70,8 @@ impl Reach {
 pub fn reach_of(alloc: Global, heap: &Heap) -> Result<Reach, AllocError>
     ensures { IfOk result (IsReach (size_of heap.now) (facts_of heap.now)) }
 {
-    reach_without(alloc, heap, &LeftOut::none(alloc))
+    let reach = reach_without(alloc, heap, &LeftOut::none(alloc))?;
+    Ok(reach)
 }
 
 /// Searches a heap from its GC roots, as [`reach_of`] does, without the edges by the fields in `left_out`.
