@@ -1,6 +1,6 @@
 //! The edges of an object without those by left-out fields.
 
-ghost use Rattle.std.specs.Prelude.{◌≡◌, ◌↔◌, Bool, false, not, List, IsTrue, filter, OnOk};
+ghost use Rattle.std.specs.Prelude.{◌≡◌, false, not, List, filter, OnOk};
 ghost use Rattle.hprof_values.specs.declared.ids.IdSize.{IdSize};
 ghost use Rattle.hprof_items.specs.FactValue.{FactValue};
 ghost use Rattle.hprof_heap.specs.ObjectDump.{fact_of_object};

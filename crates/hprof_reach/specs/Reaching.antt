@@ -72,17 +72,22 @@ IsReachBy P ids facts reach = IsSearch (IsStart facts) (IsStepBy P ids facts) re
 
 -- ---- by all edges
 
+-- an edge leads from the one identifier to the other
 abbrev pub Leads : IdSize → List FactValue → ℕ → ℕ → Type 0
 Leads ids facts from to = LeadsBy AnyEdge ids facts from to
 
+-- they lead on to nodes
 abbrev pub IsStep : IdSize → List FactValue → ℕ → ℕ → Type 0
 IsStep ids facts from to = IsStepBy AnyEdge ids facts from to
 
+-- how many edges lead to an identifier from a root, and no fewer; none where none do
 abbrev pub IsDistanceFromRoots : IdSize → List FactValue → ℕ → Option ℕ → Type 0
 IsDistanceFromRoots ids facts id distance = IsDistanceBy AnyEdge ids facts id distance
 
+-- the path to an identifier from a root, by the least node each time
 abbrev pub IsPathFromRoots : IdSize → List FactValue → ℕ → Option (List ℕ) → Type 0
 IsPathFromRoots ids facts id path = IsPathBy AnyEdge ids facts id path
 
+-- what is kept is a search from roots
 abbrev pub IsReach : IdSize → List FactValue → Reach → Type 0
 IsReach ids facts reach = IsReachBy AnyEdge ids facts reach

@@ -26,7 +26,7 @@ impl ChosenEdges for AllEdges {
     ghost chosen = { λ told ids facts. AnyEdge };
 }
 
-/// The edges that are kept without those by the fields of a table.
+/// The edges that are by none of the fields of a table.
 pub struct KeptEdges;
 
 impl ChosenEdges for KeptEdges {
