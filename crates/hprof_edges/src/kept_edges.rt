@@ -13,7 +13,7 @@ ghost use Rattle.hprof_edges.specs.LeftOut.{IsLeftOutOf, fields_in, has_place};
 use crate::collect::Collect;
 use crate::field_place::FieldPlace;
 use crate::left_out::LeftOut;
-use crate::of_object::{edge_to_class, object_edges};
+use crate::of_object::{edge_to_class, field_edges, object_edges};
 use crate::putting::put_references;
 use hprof_heap::ObjectDump;
 use hprof_layouts::{KnownLayouts, Reference};
@@ -80,12 +80,12 @@ pub(crate) fn kept_object_edges<C: Collect>(
         object_edges(known, dump, ids, references, into)?;
         return Ok(());
     };
+    edge_to_class(id, class, into)?;
     let fields = left_out.of(class);
     if fields.is_empty() {
-        object_edges(known, dump, ids, references, into)?;
+        field_edges(known, id, class, bytes, ids, references, into)?;
         return Ok(());
     }
-    edge_to_class(id, class, into)?;
     kept_field_edges(known, id, class, bytes, ids, fields, references, into)?;
     Ok(())
 }
