@@ -19,7 +19,8 @@ module _ (fields : List FieldPlace) (sorted : IsNonDecreasingBy (λ (field : Fie
 
   module _ (start count : ℕ) (within : start ≤ length fields) (count_within : count ≤ length (drop start fields))
       (first : IsPartitionPoint (λ field. nat_lt field.class class ≡ true) (λ field. nat_lt field.class class ≡ false) fields start)
-      (last : IsPartitionPoint (λ field. nat_le field.class class ≡ true) (λ field. nat_le field.class class ≡ false) (drop start fields) count) where
+      (last : IsPartitionPoint (λ field. nat_le field.class class ≡ true) (λ field. nat_le field.class class ≡ false) (drop start fields)
+      count) where
     abbrev run : List FieldPlace
     run = take count (drop start fields)
 

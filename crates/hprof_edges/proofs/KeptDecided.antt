@@ -32,7 +32,8 @@ among_decided (first ∷ fields) field = go (field_decided first field) (among_d
   go : (first ≡ field) ⊎ (first ≡ field → ⊥) → Contains fields field ⊎ (Contains fields field → ⊥)
       → Contains (first ∷ fields) field ⊎ (Contains (first ∷ fields) field → ⊥)
   go here (inl later) = inl (Contains-append_right (first ∷ []) fields field later)
-  go (inl same) (inr none) = inl (Contains-append_left (first ∷ []) fields field (subst (Contains (first ∷ [])) same (Contains-push [] first)))
+  go (inl same) (inr none) =
+      inl (Contains-append_left (first ∷ []) fields field (subst (Contains (first ∷ [])) same (Contains-push [] first)))
   go (inr apart) (inr none) = inr (λ has. elim (Contains-append_cases (first ∷ []) fields field has) [
     | inl here ↦ apart (one_there first field here)
     | inr later ↦ none later
@@ -58,7 +59,7 @@ kept_decided ids facts agree fields edge = elim (objects.look_up facts edge.from
   | objects.NotFound none ↦ inl (λ out. none (Instance edge.from out.instance.trace out.class out.bytes) out.instance.has refl)
   | objects.Found fact has is ↦
       let only : IsOnlyObject facts edge.from fact =
-      record { has = has; id = is; only = λ other has_other is_other. agree (keys.Object edge.from) fact other has has_other is is_other } in
+      record { has = has; id = is; only = λ other has_it is_it. agree (keys.Object edge.from) fact other has has_it is is_it } in
       elim (of_decided fields fact edge) [
         | inl out ↦ inr (λ kept. kept (is_left_out ids facts fields fact edge only out))
         | inr none ↦ inl (λ out. none (left_out_of ids facts fields fact edge only out))

@@ -56,5 +56,6 @@ pub fn no_fields_keep_all()
 /// Two choices that agree on the edges of the facts have the same least edge between two identifiers.
 pub fn same_edges_one_least<C: TwoChoices>()
     ensures { (ids : IdSize) (facts : List FactValue) → ((edge : Edge) → IsEdge ids facts edge → C.one edge ↔ C.other edge)
-        → (from to : ℕ) (found : Option Edge) → IsLeastEdgeBy C.one ids facts from to found → IsLeastEdgeBy C.other ids facts from to found }
+        → (from to : ℕ) (found : Option Edge) → IsLeastEdgeBy C.one ids facts from to found
+        → IsLeastEdgeBy C.other ids facts from to found }
 {}

@@ -10,7 +10,8 @@ use Rattle.hprof_reach.specs.declared.reach.Reach.{Reach}
 use Rattle.hprof_reach.specs.Reaching.{IsDistanceBy, IsPathBy, IsReachBy, IsStart, IsStepBy, LeadsBy}
 use Rattle.hprof_reach.proofs.SameWalks.{has_distance_too, path_too, reaches_too, same_search}
 
-module _ (P Q : Edge → Type 0) (ids : IdSize) (facts : List FactValue) (more : (edge : Edge) → IsEdge ids facts edge → P edge → Q edge) where
+module _ (P Q : Edge → Type 0) (ids : IdSize) (facts : List FactValue)
+    (more : (edge : Edge) → IsEdge ids facts edge → P edge → Q edge) where
   pub leads_more : (from to : ℕ) → LeadsBy P ids facts from to → LeadsBy Q ids facts from to
   leads_more from to leads = record {
     via = leads.via;
@@ -44,7 +45,8 @@ module _ (P Q : Edge → Type 0) (ids : IdSize) (facts : List FactValue) (more :
   pub no_farther : (id far near : ℕ) → IsDistanceBy P ids facts id (Some far) → IsDistanceBy Q ids facts id (Some near) → near ≤ far
   no_farther id far near is too = too.least far (reaches_more far id is.reaches)
 
-module _ (P Q : Edge → Type 0) (ids : IdSize) (facts : List FactValue) (same : (edge : Edge) → IsEdge ids facts edge → P edge ↔ Q edge) where
+module _ (P Q : Edge → Type 0) (ids : IdSize) (facts : List FactValue)
+    (same : (edge : Edge) → IsEdge ids facts edge → P edge ↔ Q edge) where
   steps_same : (from to : ℕ) → IsStepBy P ids facts from to ↔ IsStepBy Q ids facts from to
   steps_same from to = (
     step_more P Q ids facts (λ edge is. (same edge is).0) from to,

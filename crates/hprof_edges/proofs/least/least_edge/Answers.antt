@@ -18,6 +18,6 @@ returns-clause-all c = λ knows none.
     let ids = size_of c.args.heap.now in
     let facts = facts_of c.args.heap.now in
     let least = c.known_edges.new.into in
-    least_of_same (IsKept fields facts) AnyEdge ids facts (λ edge is. (λ kept. tt, λ any. all_kept fields facts edge none)) c.args.from c.args.to
-    least.edge (least_by (IsKept fields facts) ids facts c.args.from c.args.to least
+    least_of_same (IsKept fields facts) AnyEdge ids facts (λ edge is. (λ kept. tt, λ any. all_kept fields facts edge none))
+    c.args.from c.args.to least.edge (least_by (IsKept fields facts) ids facts c.args.from c.args.to least
     (c.in_ok-known_edges.ensures.holds [] knows (keeps_none c.args.to)) c.in_ok-known_edges.ensures.keeps)

@@ -23,5 +23,6 @@ returns c =
     (λ from to. LeadsBy (IsKept (fields_in table) (facts_of heap)) (size_of heap) (facts_of heap) from to × Contains nodes to) search)
     c.in_ok-graph.ensures.left_out
     (subst (λ (of : Heap). IsSearch (λ node. Contains nodes node × Contains starts node)
-    (λ from to. LeadsBy (IsKept (fields_in graph.left_out.now) (facts_of of)) (size_of of) (facts_of of) from to × Contains nodes to) search)
+    (λ from to. LeadsBy (IsKept (fields_in graph.left_out.now) (facts_of of)) (size_of of) (facts_of of) from to × Contains nodes to)
+    search)
     c.in_ok-graph.ensures.heap c.in_ok-search.ensures))

@@ -17,7 +17,8 @@ loop-place-init c = record {
       let facts = facts_of c.args.heap.now in
       let after = SetOf c.known_edges.new.into in
       rw c.start-first.ensures (put_zero ids facts sources (start_of sources c.args.id) after
-      (all_put ids facts (fields_in c.none-none.result) c.none-none.ensures after [] 0 (c.in_ok-known_edges.ensures.holds [] is_index.knows empty)));
+      (all_put ids facts (fields_in c.none-none.result) c.none-none.ensures after [] 0
+      (c.in_ok-known_edges.ensures.holds [] is_index.knows empty)));
   keeps = c.in_ok-known_edges.ensures.keeps;
 }
 
