@@ -85,7 +85,7 @@ pub fn more_edges_reach_more<C: TwoChoices>()
         → (id far near : ℕ) → IsDistanceBy C.one ids facts id (Some far) → IsDistanceBy C.other ids facts id (Some near) → near ≤ far }
 {}
 
-/// Two choices that agree on the edges of the facts give the same distances and the same paths, and a search by one is a search by the other.
+/// Two choices that agree on the edges of the facts give the same distances and the same paths. A search by one is a search by the other.
 pub fn same_edges_same_paths<C: TwoChoices>()
     ensures distance { (ids : IdSize) (facts : List FactValue) → ((edge : Edge) → IsEdge ids facts edge → C.one edge ↔ C.other edge)
         → (id : ℕ) (distance : Option ℕ) → IsDistanceBy C.one ids facts id distance → IsDistanceBy C.other ids facts id distance }
