@@ -7,6 +7,7 @@ use Rattle.std.proofs.Common.{ltb-true, ltb-false}
 use Rattle.std.proofs.lemmas.Bool.{cases_lt, leb-true, leb-false}
 use Rattle.std.proofs.lemmas.List.Sorted.{IsNonDecreasingBy-drop, IsPartitionedBy-leb, IsPartitionedBy-ltb}
 use Rattle.hprof_edges.specs.declared.field_place.FieldPlace.{FieldPlace}
+use Rattle.hprof_edges.proofs.PlacesAscend.{IsNotBefore}
 
 module _ (fields : List FieldPlace) (sorted : IsNonDecreasingBy (λ (field : FieldPlace). field.class) fields) (class : ℕ) where
   pub cut_below : IsPartitionedBy (λ field. nat_lt field.class class) fields
@@ -86,3 +87,17 @@ module _ (fields : List FieldPlace) (sorted : IsNonDecreasingBy (λ (field : Fie
 
     pub run_exact : (field : FieldPlace) → Contains run field ↔ (Contains fields field × (field.class ≡ class))
     run_exact field = (there field, back field)
+
+    -- they ascend by place
+    pub run_ascends : ((i j : ℕ) (d : FieldPlace) → i ≤ j → j < length fields → IsNotBefore (get_or fields i d) (get_or fields j d))
+        → IsNonDecreasingBy (λ (field : FieldPlace). field.place) run
+    run_ascends order i j d le within =
+        let counted = long.0 in
+        let room = long.1 in
+        let last : j < count = omega (arith, counted, within) in
+        let first : i < count = omega (arith, last, le) in
+        let one = ap (λ (f : FieldPlace). f.place) (at_run i d first) in
+        let other = ap (λ (f : FieldPlace). f.place) (at_run j d last) in
+        let same : (get_or fields (start + i) d).class ≡ (get_or fields (start + j) d).class = of_it i d first ∙ sym (of_it j d last) in
+        let rises = (order (start + i) (start + j) d (omega (arith, le)) (omega (arith, last, room))).place same in
+        omega (arith, one, other, rises)

@@ -1,7 +1,7 @@
 //! A field of the instances of a class.
 
-/// A field of the instances of a class, by its place.
-#[derive(Clone, Copy, Debug, PartialEq, Eq)]
+/// A field of the instances of a class, by its place. Ordered by class, then by place.
+#[derive(Clone, Copy, Debug, PartialEq, Eq, PartialOrd, Ord)]
 pub struct FieldPlace {
     /// The class.
     pub class: u64,

@@ -1,7 +1,7 @@
 //! A table of fields whose references are left out.
 
 ghost use Rattle.std.specs.Prelude.{◌≡◌, ◌↔◌, [], Contains};
-ghost use Rattle.std.specs.List.Sorted.{IsNonDecreasingBy};
+ghost use Rattle.std.specs.List.Sorted.{IsNonDecreasingBy, IsSorted};
 ghost use Rattle.hprof_edges.specs.declared.field_place.FieldPlace.{FieldPlace};
 
 use crate::field_place::FieldPlace;
@@ -11,13 +11,14 @@ use std::alloc::Global;
 #[derive(Drop)]
 pub struct LeftOut {
     fields: Vec<FieldPlace>,
-    ghost sorted: { IsNonDecreasingBy (λ (field : FieldPlace). field.class) fields.items },
+    ghost sorted: { IsSorted ⟦<FieldPlace as Ord>⟧.cmp fields.items },
 }
 
-/// Returns the fields of a class, by binary search. `fields` is sorted by class.
+/// Returns the fields of a class, by binary search. They ascend by place. `fields` is sorted.
 fn fields_of(fields: &[FieldPlace], class: u64) -> &[FieldPlace]
-    requires { IsNonDecreasingBy (λ (field : FieldPlace). field.class) fields.now }
-    ensures { (field : FieldPlace) → Contains result.now field ↔ (Contains fields.now field × (field.class ≡ class)) }
+    requires { IsSorted ⟦<FieldPlace as Ord>⟧.cmp fields.now }
+    ensures exact { (field : FieldPlace) → Contains result.now field ↔ (Contains fields.now field × (field.class ≡ class)) }
+    ensures ascend { IsNonDecreasingBy (λ (field : FieldPlace). field.place) result.now }
 {
     let start = fields.partition_point(|field| field.class < class);
     let (_, rest) = fields.split_at(start);
@@ -43,14 +44,15 @@ impl LeftOut {
         ensures { (field : FieldPlace) → Contains (fields_in result) field ↔ Contains fields.items field }
     {
         let mut sorted = fields;
-        sorted.sort_unstable_by_key(|field| field.class);
+        sorted.sort_unstable();
         LeftOut { fields: sorted }
     }
 
-    /// Returns the fields of a class that are left out. In a table of no fields none is looked up.
+    /// Returns the fields of a class that are left out, which ascend by place. In a table of no fields none is looked up.
     #[inline(always)]
     pub fn of(&self, class: u64) -> &[FieldPlace]
-        ensures { (field : FieldPlace) → Contains result.now field ↔ (Contains (fields_in self.now) field × (field.class ≡ class)) }
+        ensures exact { (field : FieldPlace) → Contains result.now field ↔ (Contains (fields_in self.now) field × (field.class ≡ class)) }
+        ensures ascend { IsNonDecreasingBy (λ (field : FieldPlace). field.place) result.now }
     {
         if self.fields.is_empty() {
             return &self.fields;

@@ -24,7 +24,7 @@ returns-then-is_empty-clause-holds g c = λ facts edges knows held.
     (put_both edges (g.C.Collect.holds c.edge_to_class.new.into) after (IsEdgeToClass at.id at.class)
     (IsFieldEdge ids facts at.id at.class at.bytes.now) _ (c.in_ok-edge_to_class.ensures.holds edges held)
     (λ longer held_more. c.in_ok-field_edges.ensures.holds facts longer knows held_more)
-    (λ edge. all_stay ids facts table fields at.id at.trace at.class at.bytes.now edge c.of-fields.ensures none))
+    (λ edge. all_stay ids facts table fields at.id at.trace at.class at.bytes.now edge c.of-fields.ensures.exact none))
 
 pub returns-clause-holds : goal.returns-clause-holds
 returns-clause-holds g c = λ facts edges knows held.
@@ -39,4 +39,4 @@ returns-clause-holds g c = λ facts edges knows held.
     (λ (edge : Edge). IsFieldEdge ids facts at.id at.class at.bytes.now edge × (has_place fields edge.position ≡ false)) _
     (c.in_ok-edge_to_class.ensures.holds edges held)
     (λ longer held_more. c.in_ok-kept_field_edges.ensures.holds facts longer knows held_more)
-    (λ edge. instance_kept ids facts table fields at.id at.trace at.class at.bytes.now edge c.of-fields.ensures))
+    (λ edge. instance_kept ids facts table fields at.id at.trace at.class at.bytes.now edge c.of-fields.ensures.exact))
