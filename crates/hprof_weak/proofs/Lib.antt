@@ -1,0 +1,4 @@
+pub mod Labels
+pub mod FlagLists
+pub mod SlotPlaces
+pub mod LinkLists

@@ -1,5 +1,5 @@
 -- Lists of referents that share their ends; no public contract speaks of them.
-use Rattle.std.specs.Prelude.{◌≡◌, ◌↔◌, ◌⊎◌, ⊤, ℕ, ◌<◌, min, Bool, true, false, List, [], ◌∷◌, ◌++◌, length, Option, Some, None, slice_get}
+use Rattle.std.specs.Prelude.{◌≡◌, ◌↔◌, ◌⊎◌, ⊤, ℕ, ◌+◌, ◌<◌, min, Bool, true, false, List, [], ◌∷◌, ◌++◌, length, Option, Some, None, slice_get}
 use Rattle.std.specs.Prelude.{IsTrue, Contains}
 use Rattle.std.specs.List.{AllByRecursion}
 use Rattle.hprof_items.specs.FactValue.{FactValue}
@@ -23,6 +23,10 @@ NoReferent facts slots = AllByRecursion (λ slot. ¬ IsReferent facts slot) slot
 -- the links from one referent to the next
 abbrev pub nexts_in : Links → List (Option Link)
 nexts_in links = links.nexts.items
+
+-- the link with one field more before it
+abbrev pub link_behind : Link → Link
+link_behind link = record { before = min (link.before + 1) most; number = link.number }
 
 -- there are more links
 pub record Extends (nexts longer : List (Option Link)) : Type 0 where

@@ -1,10 +1,11 @@
 //! The referents of layouts, as lists that share their ends: a class has its own before those of its superclass.
 
-ghost use Rattle.std.specs.Prelude.{◌≡◌, ◌++◌, List, IfOk};
+ghost use Rattle.std.specs.Prelude.{◌≡◌, ◌++◌, List, Option, Some, IfOk, option_map, slice_get};
 ghost use Rattle.hprof_items.specs.FactValue.{FactValue};
 ghost use Rattle.hprof_layouts.specs.declared.slot.Slot.{Slot};
 ghost use Rattle.hprof_edges.specs.declared.field_place.FieldPlace.{FieldPlace};
-ghost use Rattle.hprof_weak.specs.Links.{AreFlags, Extends, Leads, PushesReferents, nexts_in};
+ghost use Rattle.hprof_weak.specs.declared.links.Link.{Link};
+ghost use Rattle.hprof_weak.specs.Links.{AreFlags, Extends, Leads, PushesReferents, link_behind, nexts_in};
 
 use hprof_edges::FieldPlace;
 use std::alloc::{AllocError, Global};
@@ -18,14 +19,15 @@ pub(crate) struct Link {
     pub(crate) number: usize,
 }
 
-impl Link {
-    /// Returns the link with one field more before it.
-    fn behind_one(self) -> Link {
-        Link {
-            before: self.before.saturating_add(1),
-            number: self.number,
-        }
-    }
+/// Returns the first referent of a layout with one more field, which is none, before all others.
+fn behind_one(first: Option<Link>) -> Option<Link>
+    ensures { result ≡ option_map link_behind first }
+{
+    let link = first?;
+    Some(Link {
+        before: link.before.saturating_add(1),
+        number: link.number,
+    })
 }
 
 /// For each referent the link to the next one, counted from the field behind it, or `None` behind the last.
@@ -54,10 +56,18 @@ impl Links {
                 self.nexts.push(first)?;
                 first = Some(Link { before: 0, number });
             } else {
-                first = first.map(|link| link.behind_one());
+                first = behind_one(first);
             }
         }
         Ok(first)
+    }
+
+    /// Returns the link to the next referent, or `None` behind the last.
+    fn next(&self, number: usize) -> Option<Link>
+        ensures { (next : Option Link) → slice_get (nexts_in self.now) number ≡ Some next → result ≡ next }
+    {
+        let next = self.nexts.get(number)?;
+        *next
     }
 
     /// Appends the referents of a layout whose places are below `room`, as fields of the class. Returns whether all referents are below.
@@ -75,7 +85,7 @@ impl Links {
         let mut number = first.number;
         while place < room {
             fields.push(FieldPlace { class, place })?;
-            let Some(Some(next)) = self.nexts.get(number).copied() else {
+            let Some(next) = self.next(number) else {
                 return Ok(true);
             };
             place = place.saturating_add(1).saturating_add(next.before);
