@@ -2,3 +2,4 @@ pub mod Labels
 pub mod FlagLists
 pub mod SlotPlaces
 pub mod LinkLists
+pub mod SubclassLists

@@ -1,5 +1,5 @@
 -- Links that lead from one referent to the next.
-use Rattle.std.specs.Prelude.{◌↔◌, ⊤, IsTrue, option_map, slice_get, Contains}
+use Rattle.std.specs.Prelude.{◌↔◌, ⊤, IsTrue, option_map, slice_get, Contains, MatchOption}
 use Rattle.std.proofs.lemmas.List.Elements.{Contains-append_left, Contains-push, Contains-push_cases}
 use Rattle.std.proofs.Common.{◌≡◌, ◌⊎◌, ℕ, zero, suc, ◌+◌, ◌<◌, ◌≤◌, min, Bool, true, false, List, [], ◌∷◌, ◌++◌, length, Option, Some, None}
 use Rattle.std.proofs.Common.{refl, sym, ap, subst, ◌∙◌, inl, inr, arith, append_assoc, length-append}
@@ -10,7 +10,7 @@ use Rattle.hprof_edges.specs.declared.field_place.FieldPlace.{FieldPlace}
 use Rattle.hprof_weak.specs.declared.links.Link.{Link}
 use Rattle.hprof_weak.specs.Links.{AreFlags, Extends, IsReferentOf, Leads, NoMore, NoReferent, OneMore, PushesReferents, link_behind}
 use Rattle.hprof_weak.specs.Weak.{IsReferent}
-use Rattle.hprof_weak.proofs.FlagLists.{flags_end}
+use Rattle.hprof_weak.proofs.FlagLists.{FlagsEnd, flags_end}
 use Rattle.hprof_weak.proofs.SlotPlaces.{at_front, at_seam, in_either}
 
 -- ---- more links
@@ -71,7 +71,7 @@ module _ (facts : List FactValue) where
 
   module _ (nexts : List (Option Link)) (flags rest : List Bool) (flag : Bool) (own slots : List Slot) (first : Option Link)
       (was : LeadsBehind nexts flags own slots first) (next : flags ≡ rest ++ flag ∷ []) where
-    abbrev last : _
+    last : FlagsEnd facts rest flag was.front
     last = flags_end facts rest flag was.front (subst (λ (l : List Bool). AreFlags facts l was.front) next was.flags_are)
 
     parts_are : own ≡ last.front ++ last.slot ∷ was.back
@@ -80,21 +80,21 @@ module _ (facts : List FactValue) where
 
     pub behind_referent : flag ≡ true
         → LeadsBehind (nexts ++ first ∷ []) rest own slots (Some (record { before = 0; number = length nexts }))
-    behind_referent yes = record {
+    behind_referent on = record {
       front = last.front;
       back = last.slot ∷ was.back;
       own_are = parts_are;
       flags_are = last.flags_are;
-      leads = leads_to nexts last.slot (last.is.0 yes) first (was.back ++ slots) was.leads;
+      leads = leads_to nexts last.slot (last.is.0 on) first (was.back ++ slots) was.leads;
     }
 
     pub behind_other : flag ≡ false → LeadsBehind nexts rest own slots (option_map link_behind first)
-    behind_other no = record {
+    behind_other off = record {
       front = last.front;
       back = last.slot ∷ was.back;
       own_are = parts_are;
       flags_are = last.flags_are;
-      leads = leads_behind nexts last.slot (λ is. let yes = last.is.1 is in absurd cc) first (was.back ++ slots) was.leads;
+      leads = leads_behind nexts last.slot (λ is. let on = last.is.1 is in absurd cc) first (was.back ++ slots) was.leads;
     }
 
   pub all_behind : (nexts : List (Option Link)) (flags : List Bool) (own slots : List Slot) (first : Option Link) → flags ≡ []
@@ -106,3 +106,9 @@ module _ (facts : List FactValue) where
     no_front : (front : List Slot) → AreFlags facts [] front → front ≡ []
     no_front [] are = refl
     no_front (slot ∷ front) are = absurd are
+
+-- what holds where nothing came out of a list
+pub nothing_popped : (flag : Option Bool) (P : Type 0) (Q : Bool → Type 0) → MatchOption flag P Q → ((there : Bool) → flag ≡ Some there → ⊥)
+    → P
+nothing_popped None P Q is none = is
+nothing_popped (Some there) P Q is none = absurd (none there refl)
