@@ -3,3 +3,5 @@ pub mod FlagLists
 pub mod SlotPlaces
 pub mod LinkLists
 pub mod SubclassLists
+pub mod Clearings
+pub mod Pushing

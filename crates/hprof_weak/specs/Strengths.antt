@@ -1,5 +1,5 @@
 -- What is known of classes whose layouts are known; no public contract speaks of it.
-use Rattle.std.specs.Prelude.{◌≡◌, ◌≢◌, ◌↔◌, ◌⊎◌, ℕ, List, [], ◌∷◌, ◌++◌, map, drop, Option, IsTrue, Contains}
+use Rattle.std.specs.Prelude.{◌≡◌, ◌≢◌, ◌↔◌, ◌⊎◌, ℕ, List, [], ◌∷◌, ◌++◌, map, drop, Option, None, false, IsTrue, Contains}
 use Rattle.hprof_items.specs.FactValue.{FactValue}
 use Rattle.hprof_heap.specs.Classes.{ClassValue, HasDump}
 use Rattle.hprof_layouts.specs.declared.slot.Slot.{Slot}
@@ -24,6 +24,10 @@ pub record IsStrength (facts : List FactValue) (nexts : List (Option Link)) (str
   pub known : IsKnown facts strength.class slots
   pub leads : Leads facts nexts strength.first slots
   pub cleared : IsTrue strength.is_cleared ↔ IsCleared facts strength.class
+
+-- class 0, whose layout has no fields
+abbrev pub class_zero : Strength
+class_zero = record { class = 0; is_cleared = false; first = None }
 
 -- the classes, in order
 abbrev pub strengths_in : Strengths → List Strength

@@ -1,19 +1,19 @@
 //! What is known of each class whose layout is known: whether its referents are cleared, and where they stand.
 
-ghost use Rattle.std.specs.Prelude.{◌≡◌, ◌≢◌, ◌+◌, ◌<◌, OnOk, IfOk, length};
+ghost use Rattle.std.specs.Prelude.{◌≡◌, ◌≢◌, ◌+◌, ◌<◌, [], ◌∷◌, OnOk, IfOk, length};
 ghost use Rattle.hprof_heap.specs.Classes.{HasDump};
 ghost use Rattle.hprof_heap.specs.ClassDump.{class_value};
 ghost use Rattle.hprof_heap.specs.HeapFacts.{facts_of};
 ghost use Rattle.hprof_layouts.specs.WaitingLists.{number_in, waiting_for};
 ghost use Rattle.hprof_naming.specs.ClassNames.{AreClassNames};
-ghost use Rattle.hprof_weak.specs.Strengths.{AddsClass, AreStrengths, IsStanding, IsStrength, strengths_in};
+ghost use Rattle.hprof_weak.specs.Strengths.{AddsClass, AreStrengths, IsStanding, IsStrength, class_zero, strengths_in};
 ghost use Rattle.hprof_weak.specs.Links.{nexts_in};
 
 use crate::called::is_clearing;
 use crate::flags::referent_flags;
 use crate::links::{Link, Links};
 use crate::subclasses::subclasses_of;
-use hprof_heap::{ClassDump, Heap, find_class};
+use hprof_heap::{ClassDump, Heap, find_class, holds_of_heap};
 use hprof_layouts::WaitingLists;
 use hprof_naming::ClassNames;
 use std::alloc::{AllocError, Global};
@@ -39,7 +39,9 @@ pub(crate) struct Strengths {
 
 impl Strengths {
     /// Returns class 0 alone.
-    fn new(alloc: Global) -> Result<Strengths, AllocError> {
+    fn new(alloc: Global) -> Result<Strengths, AllocError>
+        ensures { IfOk result (λ strengths. strengths_in strengths ≡ class_zero ∷ []) }
+    {
         let mut order = Vec::new(alloc);
         order.push(Strength {
             class: 0,
@@ -71,6 +73,7 @@ impl Strengths {
         requires above { IsStrength (facts_of heap.now) (nexts_in self.old.links) above }
         ensures { OnOk result (AddsClass (facts_of heap.now) self.old self.new dump.now.id) }
     {
+        holds_of_heap(heap);
         let is_cleared = above.is_cleared || is_clearing(heap, names, dump.id);
         let flags = referent_flags(self.alloc, heap, names, dump)?;
         let first = self.links.put_own(flags, above.first)?;
