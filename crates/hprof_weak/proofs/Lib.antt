@@ -5,3 +5,5 @@ pub mod LinkLists
 pub mod SubclassLists
 pub mod Clearings
 pub mod Pushing
+pub mod Members
+pub mod Standing

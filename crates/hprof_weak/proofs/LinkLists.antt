@@ -53,7 +53,7 @@ module _ (facts : List FactValue) where
     pub leads_nowhere : (slots : List Slot) → Leads facts nexts None slots → NoReferent facts slots
     leads_nowhere _ (NoMore slots none) = none
 
-  none_at : (slots : List Slot) (place : ℕ) (slot : Slot) → NoReferent facts slots → slice_get slots place ≡ Some slot
+  pub none_at : (slots : List Slot) (place : ℕ) (slot : Slot) → NoReferent facts slots → slice_get slots place ≡ Some slot
       → IsReferent facts slot → ⊥
   none_at [] place slot none e is = absurd cc
   none_at (first ∷ slots) zero slot none e is = let same : first ≡ slot = cc in none.0 (subst (IsReferent facts) (sym same) is)

@@ -1,8 +1,8 @@
 -- Referents of a layout that are put into a table, one behind the other.
 use Rattle.std.specs.Prelude.{IsTrue, slice_get, Contains}
 use Rattle.std.proofs.lemmas.List.Elements.{Contains-append_left, Contains-push, Contains-push_cases}
-use Rattle.std.proofs.Common.{◌≡◌, ◌⊎◌, ℕ, zero, suc, ◌+◌, ◌<◌, ◌≤◌, min, Bool, true, false, List, [], ◌∷◌, ◌++◌, length, Option, Some, None}
-use Rattle.std.proofs.Common.{refl, sym, ap, subst, ◌∙◌, inl, inr, arith, append_assoc, length-append}
+use Rattle.std.proofs.Common.{◌≡◌, ◌⊎◌, ℕ, zero, suc, ◌+◌, ◌^◌, ◌<◌, ◌≤◌, min, Bool, true, false, List, [], ◌∷◌, ◌++◌, length, Option, Some}
+use Rattle.std.proofs.Common.{None, refl, sym, ap, subst, ◌∙◌, inl, inr, arith, append_assoc, length-append}
 use Rattle.hprof_items.specs.FactValue.{FactValue}
 use Rattle.hprof_layouts.specs.declared.slot.Slot.{Slot}
 use Rattle.hprof_layouts.specs.Plan.{most}
@@ -150,3 +150,8 @@ module _ (facts : List FactValue) (nexts : List (Option Link)) (class : ℕ) (sl
               leads = leads;
               put = put_more front none;
             })
+
+-- what is not found is none
+pub no_next : (found next : Option Link) → found ≡ next → ((link : Link) → found ≡ Some link → ⊥) → next ≡ None
+no_next found None e none = refl
+no_next found (Some link) e none = absurd (none link e)

@@ -16,7 +16,7 @@ returns c =
     let dump = class_value c.args.dump.now in
     let above = c.args.above in
     let cleared : IsTrue c.if-above.is_cleared ↔ (IsClearing facts dump.id ⊎ IsTrue above.is_cleared) = elim c.if-above.branch [
-      | then-above w ↦ (λ on. inr w.if-above.true, λ is. w.is_cleared-is)
+      | then-above w ↦ (λ on. inr w.if-above.true, λ is. w.is_cleared-is ∙ w.if-above.true)
       | else-above w ↦ (
         λ on. inl (w.is_clearing-is_cleared.ensures.0 (sym w.is_cleared-is ∙ on)),
         λ is. elim is [
