@@ -7,3 +7,6 @@ pub mod Clearings
 pub mod Pushing
 pub mod Members
 pub mod Standing
+pub mod WeakFirsts
+pub mod WeakPuts
+pub mod WeakEdges

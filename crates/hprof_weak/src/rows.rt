@@ -8,7 +8,7 @@ ghost use Rattle.hprof_weak.specs.Rows.{AreWeakRows, PutsWeak};
 
 use crate::weak_classes::WeakClasses;
 use hprof_edges::FieldPlace;
-use hprof_heap::{Heap, Table, table_facts};
+use hprof_heap::{Heap, Table, holds_of_heap, table_facts};
 use hprof_items::Fact;
 use std::alloc::{AllocError, Global};
 
@@ -43,6 +43,7 @@ pub(crate) fn weak_rows(
     requires { AreWeakClasses (facts_of heap.now) classes }
     ensures { IfOk result (λ fields. AreWeakRows (size_of heap.now) (facts_of heap.now) fields.items) }
 {
+    holds_of_heap(heap);
     let mut left = classes;
     let mut fields = Vec::new(alloc);
     for fact in table_facts(heap, Table::Objects) {

@@ -2,6 +2,7 @@
 
 ghost use Rattle.std.specs.Prelude.{IfOk, List};
 ghost use Rattle.hprof_items.specs.FactValue.{FactValue};
+ghost use Rattle.hprof_rows.specs.Conflict.{IsConsistent};
 ghost use Rattle.hprof_weak.specs.Strengths.{AreStrengths};
 ghost use Rattle.hprof_weak.specs.WeakClasses.{AreWeakClasses};
 
@@ -19,7 +20,8 @@ pub(crate) struct WeakClasses {
 
 /// Returns those of the classes whose referents are cleared and that have one.
 pub(crate) fn weak_classes(alloc: Global, strengths: Strengths) -> Result<WeakClasses, AllocError>
-    ensures { IfOk result (λ classes. (facts : List FactValue) → AreStrengths facts strengths → AreWeakClasses facts classes) }
+    ensures { IfOk result (λ classes. (facts : List FactValue) → IsConsistent facts → AreStrengths facts strengths
+        → AreWeakClasses facts classes) }
 {
     let mut firsts = BTreeMap::new(alloc);
     for strength in strengths.order.iter() {
