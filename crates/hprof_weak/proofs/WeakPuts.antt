@@ -127,11 +127,11 @@ rows_of_none facts all left classes fields e none are = record {
 }
 
 -- what an instance says
-abbrev class_in : FactValue → ℕ
+abbrev pub class_in : FactValue → ℕ
 class_in (Instance object trace class bytes) = class
 class_in fact = 0
 
-abbrev bytes_in : FactValue → List ℕ
+abbrev pub bytes_in : FactValue → List ℕ
 bytes_in (Instance object trace class bytes) = bytes
 bytes_in fact = []
 

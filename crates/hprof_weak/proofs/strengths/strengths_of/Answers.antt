@@ -20,7 +20,7 @@ returns c =
     let len = strengths.order.ok.0 in
     let len_is = c.len.ensures in
     let test = c.loop-place-test.false in
-    let counted = length-map (λ (s : Strength). s.class) (strengths_in strengths) in
+    let counted = length-map (strengths_in strengths) (λ (s : Strength). s.class) in
     let past : length (classes_in strengths) ≤ c.loop-place.place = omega (arith, counted) in
     stands_last (facts_of c.args.heap.now) strengths (waiting_for c.loop-place.subclasses) c.loop-place.place c.loop-place.invariant
     (drop_all c.loop-place.place (classes_in strengths) past)
