@@ -103,9 +103,9 @@ module _ (facts : List FactValue) where
       let front_is = no_front was.front (subst (λ (l : List Bool). AreFlags facts l was.front) none was.flags_are) in
       let same : own ≡ was.back = was.own_are ∙ ap (λ (l : List Slot). l ++ was.back) front_is in
       subst (λ (l : List Slot). Leads facts nexts first (l ++ slots)) (sym same) was.leads where
-    no_front : (front : List Slot) → AreFlags facts [] front → front ≡ []
-    no_front [] are = refl
-    no_front (slot ∷ front) are = absurd are
+        no_front : (front : List Slot) → AreFlags facts [] front → front ≡ []
+        no_front [] are = refl
+        no_front (slot ∷ front) are = absurd are
 
 -- what holds where nothing came out of a list
 pub nothing_popped : (flag : Option Bool) (P : Type 0) (Q : Bool → Type 0) → MatchOption flag P Q → ((there : Bool) → flag ≡ Some there → ⊥)

@@ -110,9 +110,9 @@ module _ (facts : List FactValue) where
     waits_or superclass other there = elim (cases_eq superclass above.class) [
       | inl same ↦ elim (front_or_later class later other
           (subst (λ (l : List ℕ). Contains l other) (put-here waits above.class left superclass same ∙ next) there)) [
-        | inl is ↦ inl is
-        | inr more ↦ inr (subst (λ (l : List ℕ). Contains l other) (sym (put-here waits above.class later superclass same)) more)
-      ]
+            | inl is ↦ inl is
+            | inr more ↦ inr (subst (λ (l : List ℕ). Contains l other) (sym (put-here waits above.class later superclass same)) more)
+          ]
       | inr apart ↦ inr (subst (λ (l : List ℕ). Contains l other)
           (put-other waits above.class left superclass apart ∙ sym (put-other waits above.class later superclass apart)) there)
     ]
@@ -142,16 +142,16 @@ module _ (facts : List FactValue) where
     right_more : (strength : Strength) → Contains (strengths_in new) strength → IsStrength facts (nexts_in new.links) strength
     right_more strength has = elim (Contains-push_cases (strengths_in old) adds.strength strength
         (subst (λ (l : List Strength). Contains l strength) adds.strengths_are has)) [
-      | inl was ↦
-          let is = hand.stands.right strength was in
-          record {
-            slots = is.slots;
-            known = is.known;
-            leads = leads_more facts (nexts_in old.links) (nexts_in new.links) adds.extends strength.first is.slots is.leads;
-            cleared = is.cleared;
-          }
-      | inr same ↦ subst (IsStrength facts (nexts_in new.links)) same adds.right
-    ]
+          | inl was ↦
+              let is = hand.stands.right strength was in
+              record {
+                slots = is.slots;
+                known = is.known;
+                leads = leads_more facts (nexts_in old.links) (nexts_in new.links) adds.extends strength.first is.slots is.leads;
+                cleared = is.cleared;
+              }
+          | inr same ↦ subst (IsStrength facts (nexts_in new.links)) same adds.right
+        ]
 
     closed_more : (superclass other : ℕ) → Contains (put waits above.class later superclass) other
         → Contains (drop place (classes_in new)) superclass ⊎ (¬ Contains (classes_in new) superclass)
@@ -164,9 +164,9 @@ module _ (facts : List FactValue) where
             (Contains-push (drop place (classes_in old)) class)))
         | inr apart ↦ inr (λ has. elim (Contains-push_cases (classes_in old) class superclass
             (subst (λ (l : List ℕ). Contains l superclass) classes_are has)) [
-          | inl was ↦ not was
-          | inr is ↦ apart (sym is)
-        ])
+              | inl was ↦ not was
+              | inr is ↦ apart (sym is)
+            ])
       ]
     ]
 
@@ -225,10 +225,10 @@ module _ (facts : List FactValue) where
           | inr not ↦ inr not
           | inl coming ↦ elim (front_or_later above.class (drop (place + 1) classes) superclass
               (subst (λ (l : List ℕ). Contains l superclass) cut coming)) [
-            | inr later ↦ inl later
-            | inl same_class ↦ absurd (nothing_there class
-                (subst (λ (l : List ℕ). Contains l class) (ap waits (sym same_class) ∙ hand.taken) there))
-          ]
+                | inr later ↦ inl later
+                | inl same_class ↦ absurd (nothing_there class
+                    (subst (λ (l : List ℕ). Contains l class) (ap waits (sym same_class) ∙ hand.taken) there))
+              ]
         ];
       }
 

@@ -29,8 +29,8 @@ loop-fact-preserved-else-dump-ne0 c =
     subclasses_of_same (facts_of_table tables.Classes (facts_of c.args.heap.now)) (facts_left c.loop-fact.fact-iterator)
     (facts_left c.next.new.self) (waiting_for c.loop-fact.lists) (value_of c.in-Some.fact) c.in-Some.ensures.steps.0
     c.loop-fact.invariant (λ dump not_zero is.
-      let same = ap dump_in (is ∙ sym c.in-Some-to_class_dump.ensures.found) in
-      not_zero (ap (λ (d : ClassValue). d.id) same ∙ c.if-dump-ne0.false))
+    let same = ap dump_in (is ∙ sym c.in-Some-to_class_dump.ensures.found) in
+    not_zero (ap (λ (d : ClassValue). d.id) same ∙ c.if-dump-ne0.false))
 
 pub loop-fact-preserved : goal.loop-fact-preserved
 loop-fact-preserved c =
