@@ -1,0 +1,6 @@
+pub mod KeyedFacts
+pub mod FirstRoots
+pub mod ThreadAnswers
+pub mod FrameAnswers
+pub mod FirstHolding
+pub mod NameAnswers
