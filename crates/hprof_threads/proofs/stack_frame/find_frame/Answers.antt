@@ -1,4 +1,5 @@
-use Rattle.std.proofs.Common.{refl}
+use Rattle.std.proofs.Common.{refl, rules, w32}
+use Rattle.std.proofs.lemmas.Int.{to_z-of_z}
 use Rattle.hprof_items.specs.FactValue.{value_of, Frame}
 use Rattle.hprof_rows.specs.declared.key.Key.TheVariants as keys
 use Rattle.hprof_heap.specs.HeapFacts.{facts_of}
@@ -20,4 +21,6 @@ unreachable-requires c =
 pub returns : goal.returns
 returns c =
     let it = c.in-Frame in
-    frame_there (facts_of c.args.heap.now) c.args.id it.id it.method it.signature it.source it.class_serial it.line c.in_ok-method.field-0 c.in_ok-method.ensures it.is
+    rw (to_z-of_z w32 it.line (search rules))
+    (frame_there (facts_of c.args.heap.now) c.args.id it.id it.method it.signature it.source it.class_serial it.line c.in_ok-method.field-0
+    c.in_ok-method.ensures it.is)
