@@ -1,7 +1,7 @@
 -- A stack frame has one line.
 use Rattle.std.specs.Prelude.{ℤ, pos, IfOk, string_bytes}
 use Rattle.std.specs.List.{find}
-use Rattle.std.proofs.Common.{◌≡◌, ℕ, List, Option, Some, None, Result, refl, ap, subst, ◌∙◌, sym}
+use Rattle.std.proofs.Common.{◌≡◌, ℕ, List, ◌++◌, Option, Some, None, Result, String, Global, codes, refl, ap, subst, ◌∙◌, sym, append_assoc}
 use Rattle.hprof_items.specs.declared.fact.Fact.{Fact}
 use Rattle.hprof_items.specs.declared.fact.Fact.TheVariants as handed
 use Rattle.hprof_items.specs.FactValue.{FactValue, value_of, Frame, Load}
@@ -9,9 +9,11 @@ use Rattle.hprof_rows.specs.declared.key.Key.TheVariants as keys
 use Rattle.hprof_rows.specs.Conflict.{IsConsistent}
 use Rattle.hprof_rows.specs.Facts.{Has}
 use Rattle.hprof_rows.specs.Key.{has_key}
-use Rattle.hprof_naming.specs.Naming.{Naming}
+use Rattle.hprof_naming.specs.Naming.{IsNaming, Naming}
+use Rattle.hprof_naming.proofs.Namings.{of_text}
 use Rattle.hprof_threads.specs.declared.stack_frame.StackFrame.{StackFrame}
 use Rattle.hprof_threads.specs.Frames.{HasFrame, IsClassOfFrame, IsFrameFound, IsFrameLine, IsLoadFound, IsLoaded, frame_line}
+use Rattle.hprof_threads.specs.Frames.{class_text, place_text}
 use Rattle.hprof_threads.proofs.KeyedFacts.{Found, NotFound, is_of_key, keyed, look_up}
 
 -- ---- what is found
@@ -112,3 +114,35 @@ module _ (facts : List FactValue) (agree : IsConsistent facts) where
       (subst (λ (f : Option StackFrame). IsClassOfFrame facts f is.class) frame is.class_found) too.class_found in
       is.is ∙ ap (λ (f : Option StackFrame). frame_line naming id f is.class) frame
       ∙ ap (λ (c : Option ℕ). frame_line naming id too.frame c) class ∙ sym too.is
+
+-- ---- the line of its parts
+
+grouped : (a b c d e f : List ℕ) → a ++ (b ++ (c ++ (d ++ (e ++ f)))) ≡ a ++ b ++ c ++ d ++ e ++ f
+grouped a b c d e f =
+    sym (append_assoc (a ++ b ++ c ++ d) e f ∙ append_assoc (a ++ b ++ c) d (e ++ f) ∙ append_assoc (a ++ b) c (d ++ (e ++ f))
+    ∙ append_assoc a b (c ++ (d ++ (e ++ f))))
+
+pub line_of_parts : (naming : Naming) (id : ℕ) (frame : StackFrame) (name : Option ℕ) (class method place : List ℕ)
+    → class ≡ class_text naming name → method ≡ naming.name_text frame.method → place ≡ place_text naming frame.source frame.line
+    → class ++ (codes "." ++ (method ++ (codes "(" ++ (place ++ codes ")")))) ≡ frame_line naming id (Some frame) name
+line_of_parts naming id frame name class method place classes methods places =
+    grouped class (codes ".") method (codes "(") place (codes ")")
+    ∙ ap (λ (c : List ℕ). c ++ codes "." ++ method ++ codes "(" ++ place ++ codes ")") classes
+    ∙ ap (λ (m : List ℕ). class_text naming name ++ codes "." ++ m ++ codes "(" ++ place ++ codes ")") methods
+    ∙ ap (λ (p : List ℕ). class_text naming name ++ codes "." ++ naming.name_text frame.method ++ codes "(" ++ p ++ codes ")") places
+
+-- ---- a text that is the line
+
+module _ {E : Type 0} (facts : List FactValue) (agree : IsConsistent facts) (id : ℕ) (frame : StackFrame) (class : Option ℕ)
+    (frame_found : IsFrameFound facts id (Some frame)) (class_found : IsLoadFound facts frame.class_serial class) (r : Result (String Global) E)
+    (are : (naming : Naming) → IsNaming facts naming → IfOk r (λ text. string_bytes text ≡ frame_line naming id (Some frame) class)) where
+  pub line_is : (naming : Naming) → IsNaming facts naming → IfOk r (λ text. IsFrameLine facts naming id (string_bytes text))
+  line_is naming is =
+      of_text (λ text. string_bytes text ≡ frame_line naming id (Some frame) class) (λ text. IsFrameLine facts naming id (string_bytes text)) r
+      (λ text e. record { frame = Some frame; frame_found = frame_found; class = class; class_found = class_found; is = e }) (are naming is)
+
+  pub only_line : (naming : Naming) (line : List ℕ) → IsNaming facts naming → IsFrameLine facts naming id line
+      → IfOk r (λ text. string_bytes text ≡ line)
+  only_line naming line is is_line =
+      of_text (λ text. IsFrameLine facts naming id (string_bytes text)) (λ text. string_bytes text ≡ line) r
+      (λ text form. line_once facts agree naming id (string_bytes text) line form is_line) (line_is naming is)
