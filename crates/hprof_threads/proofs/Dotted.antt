@@ -1,10 +1,7 @@
 -- Names with `.` in the place of each `/` are text.
-use Rattle.std.proofs.Common.{◌≡◌, inl, inr, ℕ, ◌<◌, ◌^◌, ◌==◌, suc, Bool, true, false, cond, List, [], ◌∷◌, ◌++◌, codes, refl, sym, arith, rules}
-use Rattle.std.specs.List.{list_all}
-use Rattle.std.specs.Prelude.{nat_lt}
+use Rattle.std.proofs.Common.{inl, inr, ℕ, ◌<◌, ◌^◌, ◌==◌, suc, Bool, true, false, cond, List, [], ◌∷◌, codes, arith}
 use Rattle.std.specs.Str.{IsAscii}
 use Rattle.std.proofs.lemmas.List.Elements.{All-weaker}
-use Rattle.std.proofs.lemmas.List.Sums.{AllPass-from_list_all}
 use Rattle.std.proofs.lemmas.Str.{IsAscii-append}
 use Rattle.std.proofs.lemmas.Str.Ascii.{IsAscii-nil, IsAscii-cons, IsAscii-from_all}
 use Rattle.hprof_text.specs.Identifier.{IsLowerDigit, id_digits}

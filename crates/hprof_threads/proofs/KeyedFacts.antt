@@ -1,7 +1,7 @@
 -- Facts that are found by their keys: a fact with the key of a load, a frame, a stack trace or a thread is one.
 use Rattle.std.specs.Prelude.{ℤ}
 use Rattle.std.specs.List.{find}
-use Rattle.std.proofs.Common.{◌≡◌, ℕ, true, List, Option, Some, None, refl, sym, ap, subst, ◌∙◌}
+use Rattle.std.proofs.Common.{◌≡◌, ℕ, List, Option, Some, None, refl, sym, subst}
 use Rattle.hprof_values.specs.declared.lists.ids.IdList.{IdList}
 use Rattle.hprof_items.specs.declared.fact.Fact.{Fact}
 use Rattle.hprof_items.specs.declared.fact.Fact.TheVariants as facts

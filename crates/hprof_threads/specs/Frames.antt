@@ -1,6 +1,6 @@
 -- The line of a stack frame, as java.lang.StackTraceElement prints it: heapDumper.cpp, "HPROF binary format", HPROF_FRAME and
 -- HPROF_LOAD_CLASS.
-use Rattle.std.specs.Prelude.{◌≡◌, ◌==◌, ℕ, ℤ, pos, negsuc, nat_lt, List, [], ◌++◌, map, Option, Some, None, codes, if◌then◌else◌}
+use Rattle.std.specs.Prelude.{◌≡◌, ◌==◌, ℕ, ℤ, pos, negsuc, List, [], ◌++◌, map, Option, Some, None, codes, if◌then◌else◌}
 use Rattle.std.specs.Fmt.{decimal}
 use Rattle.std.specs.Ordering.{int_eq}
 use Rattle.hprof_text.specs.Identifier.{id_digits}

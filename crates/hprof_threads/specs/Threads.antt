@@ -1,6 +1,6 @@
 -- The root of a thread, its object, and its stack: heapDumper.cpp, "HPROF binary format", HPROF_GC_ROOT_THREAD_OBJ, HPROF_START_THREAD and
 -- HPROF_TRACE. Which root speaks for a thread is this project's own rule.
-use Rattle.std.specs.Prelude.{◌≡◌, ◌≢◌, ◌==◌, ℕ, List, [], Option, Some, None, if◌then◌else◌}
+use Rattle.std.specs.Prelude.{◌≡◌, ◌≢◌, ◌==◌, ℕ, List, Option, Some, None, if◌then◌else◌}
 use Rattle.hprof_values.specs.declared.root.Root.TheVariants as roots
 use Rattle.hprof_items.specs.FactValue.{FactValue, Rooted, Start, Trace}
 use Rattle.hprof_rows.specs.Facts.{Has}

@@ -1,5 +1,3 @@
-use Rattle.std.proofs.Common.{◌≡◌, Some, Option, subst}
-use Rattle.hprof_heap.specs.ClassName.{NamesClass}
 use Rattle.hprof_heap.specs.HeapFacts.{facts_of}
 use Rattle.hprof_threads.proofs.FirstHolding.{not_thread_class}
 use Rattle.hprof_threads.proofs.thread_names.is_thread_class.Goals as goal

@@ -1,6 +1,6 @@
 use Rattle.hprof_heap.specs.HeapFacts.{facts_of, size_of}
 use Rattle.hprof_layouts.specs.Fields.{fields_value}
-use Rattle.hprof_threads.proofs.NameAnswers.{name_of_field, name_of_no_values, no_values}
+use Rattle.hprof_threads.proofs.NameAnswers.{name_of_no_values, no_values}
 use Rattle.hprof_threads.proofs.thread_names.thread_name.Goals as goal
 
 pub returns-in_default : goal.returns-in_default
