@@ -23,8 +23,8 @@ IsAscii-id_digits id small =
 pub IsAscii-name_text : (facts : List FactValue) (name : ℕ) (text : List ℕ) → name < 2 ^ 64 → IsNameText facts name text → IsAscii text
 IsAscii-name_text facts name text small (inl is) = IsAscii-printed is.0 text is.2
 IsAscii-name_text facts name text small (inr none) =
-    rw none.1 (IsAscii-append (codes "\\?") (id_digits name) (IsAscii-cons 92 (63 ∷ []) (omega arith) (IsAscii-cons 63 [] (omega arith) IsAscii-nil))
-    (IsAscii-id_digits name small))
+    let mark : IsAscii (codes "\\?") = IsAscii-cons 92 (63 ∷ []) (omega arith) (IsAscii-cons 63 [] (omega arith) IsAscii-nil) in
+    rw none.1 (IsAscii-append (codes "\\?") (id_digits name) mark (IsAscii-id_digits name small))
 
 -- and so it is with dots
 pub IsAscii-dotted : (text : List ℕ) → IsAscii text → IsAscii (dotted text)

@@ -70,7 +70,8 @@ module _ (facts : List FactValue) where
       (field ∷ is.0, is.1, ap (λ (l : List FieldValue). field ∷ l) is.2, is.3, (apart, is.4))
   first_later field fields None apart none = (apart, none)
 
-  pub first_here : (field : FieldValue) (fields : List FieldValue) → HoldsName facts field → IsFirstHolding facts (field ∷ fields) (Some field)
+  pub first_here : (field : FieldValue) (fields : List FieldValue) → HoldsName facts field
+      → IsFirstHolding facts (field ∷ fields) (Some field)
   first_here field fields is = ([], fields, refl, is, tt)
 
   -- some fields have a first, or none holds the name

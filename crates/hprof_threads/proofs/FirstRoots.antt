@@ -155,6 +155,7 @@ module _ (facts more : List FactValue) (serial : ℕ) where
           by_test : (b : Bool) → (old == 0) ≡ b → (b && not (new == 0)) ≡ true → old ≡ 0
           by_test true is_zero e = eqb-true old 0 is_zero
           by_test false is_zero e = absurd cc
+
         an_object : (old new : ℕ) → ((old == 0) && not (new == 0)) ≡ true → new ≢ 0
         an_object old new e zero = by_test (old == 0) (new == 0) (eq-eqb new 0 zero) e where
           by_test : (a b : Bool) → b ≡ true → (a && not b) ≡ true → ⊥
@@ -295,14 +296,17 @@ roots_of_all facts left gathered none so_far serial =
 abbrev SomeRoot : List FactValue → ℕ → Type 0
 SomeRoot facts serial = (root : Option ThreadRoot) × IsRootOfThread facts serial root
 
-module _ (serial : ℕ) (taken : List FactValue) (fact : FactValue) (behind : (other : FactValue) → Has taken other → IsBefore other fact) where
+module _ (serial : ℕ) (taken : List FactValue) (fact : FactValue)
+    (behind : (other : FactValue) → Has taken other → IsBefore other fact) where
   with_root : (first : Option ThreadRoot) (root : ThreadRoot) → fact ≡ fact_of_root serial root → IsRootOfThread taken serial first
       → SomeRoot (taken ++ fact ∷ []) serial
   with_root first root same is = by_test (gives_way first root.object) refl where
     last_behind : (other : FactValue) → Has taken other → IsBefore other (fact_of_root serial root)
     last_behind other has = subst (λ (f : FactValue). IsBefore other f) same (behind other has)
+
     one : IsOneMore taken (taken ++ fact ∷ []) (fact_of_root serial root)
     one = subst (λ (f : FactValue). IsOneMore taken (taken ++ fact ∷ []) f) same (one_behind taken fact)
+
     by_test : (gives : Bool) → gives_way first root.object ≡ gives → SomeRoot (taken ++ fact ∷ []) serial
     by_test true e = (Some root, last_comes taken (taken ++ fact ∷ []) serial root one last_behind first e is)
     by_test false e = (first, first_keeps taken (taken ++ fact ∷ []) serial root one last_behind first e is)
@@ -310,17 +314,24 @@ module _ (serial : ℕ) (taken : List FactValue) (fact : FactValue) (behind : (o
   with_fact : SomeRoot taken serial → SomeRoot (taken ++ fact ∷ []) serial
   with_fact some = by_root (thread_root_in fact) refl where
     by_root : (found : Option (ℕ × ThreadRoot)) → thread_root_in fact ≡ found → SomeRoot (taken ++ fact ∷ []) serial
-    by_root None none = (some.0, other_stays taken (taken ++ fact ∷ []) serial fact some.0 (one_behind taken fact)
-        (λ root e. no_thread_root fact serial root none e) some.1)
+    by_root None none = (
+      some.0,
+      other_stays taken (taken ++ fact ∷ []) serial fact some.0 (one_behind taken fact)
+          (λ root e. no_thread_root fact serial root none e) some.1,
+    )
     by_root (Some (own, root)) e =
         let same = is_thread_root fact own root e in
         elim (cases_eq serial own) [
           | inl serials ↦ with_root some.0 root (subst (λ (n : ℕ). fact ≡ fact_of_root n root) (sym serials) same) some.1
-          | inr differ ↦ (some.0, other_stays taken (taken ++ fact ∷ []) serial fact some.0 (one_behind taken fact)
-              (λ other is. other_thread serial own differ other root (is ∙ same)) some.1)
+          | inr differ ↦ (
+            some.0,
+            other_stays taken (taken ++ fact ∷ []) serial fact some.0 (one_behind taken fact)
+                (λ other is. other_thread serial own differ other root (is ∙ same)) some.1,
+          )
         ]
 
-along : (serial : ℕ) (left taken : List FactValue) → IsCanonicalOrder (taken ++ left) → SomeRoot taken serial → SomeRoot (taken ++ left) serial
+along : (serial : ℕ) (left taken : List FactValue) → IsCanonicalOrder (taken ++ left) → SomeRoot taken serial
+    → SomeRoot (taken ++ left) serial
 along serial [] taken ordered some = subst (λ (l : List FactValue). SomeRoot l serial) (sym (append-nil taken)) some
 along serial (fact ∷ left) taken ordered some =
     let parts : (taken ++ fact ∷ []) ++ left ≡ taken ++ fact ∷ left = append_assoc taken (fact ∷ []) left in

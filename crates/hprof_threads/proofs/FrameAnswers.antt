@@ -1,7 +1,8 @@
 -- A stack frame has one line.
 use Rattle.std.specs.Prelude.{ℤ, pos, IfOk, string_bytes}
 use Rattle.std.specs.List.{find}
-use Rattle.std.proofs.Common.{◌≡◌, ℕ, List, ◌++◌, Option, Some, None, Result, String, Global, codes, refl, ap, subst, ◌∙◌, sym, append_assoc}
+use Rattle.std.proofs.Common.{◌≡◌, ℕ, List, ◌++◌, Option, Some, None, Result, String, Global, codes}
+use Rattle.std.proofs.Common.{refl, ap, subst, ◌∙◌, sym, append_assoc}
 use Rattle.hprof_items.specs.declared.fact.Fact.{Fact}
 use Rattle.hprof_items.specs.declared.fact.Fact.TheVariants as handed
 use Rattle.hprof_items.specs.FactValue.{FactValue, value_of, Frame, Load}
@@ -47,9 +48,9 @@ frame_exists facts id = elim (look_up facts (keys.Frame id)) [
       let frame : StackFrame = record { method = of.0; source = of.2; class_serial = of.3; line = of.4 } in
       (Some frame, record { signature = of.1; has = subst (Has facts) of.5 is.has })
   | NotFound none ↦ (
-      None,
-      λ frame is. none (Frame id frame.method is.signature frame.source frame.class_serial frame.line) is.has refl,
-    )
+    None,
+    λ frame is. none (Frame id frame.method is.signature frame.source frame.class_serial frame.line) is.has refl,
+  )
 ]
 
 load_exists : (facts : List FactValue) (serial : ℕ) → (name : Option ℕ) × IsLoadFound facts serial name
@@ -134,11 +135,13 @@ line_of_parts naming id frame name class method place classes methods places =
 -- ---- a text that is the line
 
 module _ {E : Type 0} (facts : List FactValue) (agree : IsConsistent facts) (id : ℕ) (frame : StackFrame) (class : Option ℕ)
-    (frame_found : IsFrameFound facts id (Some frame)) (class_found : IsLoadFound facts frame.class_serial class) (r : Result (String Global) E)
+    (frame_found : IsFrameFound facts id (Some frame)) (class_found : IsLoadFound facts frame.class_serial class)
+    (r : Result (String Global) E)
     (are : (naming : Naming) → IsNaming facts naming → IfOk r (λ text. string_bytes text ≡ frame_line naming id (Some frame) class)) where
   pub line_is : (naming : Naming) → IsNaming facts naming → IfOk r (λ text. IsFrameLine facts naming id (string_bytes text))
   line_is naming is =
-      of_text (λ text. string_bytes text ≡ frame_line naming id (Some frame) class) (λ text. IsFrameLine facts naming id (string_bytes text)) r
+      of_text (λ text. string_bytes text ≡ frame_line naming id (Some frame) class)
+      (λ text. IsFrameLine facts naming id (string_bytes text)) r
       (λ text e. record { frame = Some frame; frame_found = frame_found; class = class; class_found = class_found; is = e }) (are naming is)
 
   pub only_line : (naming : Naming) (line : List ℕ) → IsNaming facts naming → IsFrameLine facts naming id line

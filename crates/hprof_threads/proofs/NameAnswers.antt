@@ -14,7 +14,6 @@ use Rattle.hprof_naming.specs.declared.text.Text.{Text}
 use Rattle.hprof_naming.specs.declared.text.Text.TheVariants as handed
 use Rattle.hprof_naming.specs.declared.text.Units.{Units}
 use Rattle.hprof_naming.specs.Texts.{IsText, TextValue, target_of_field, text_value}
-use Rattle.hprof_naming.proofs.Namings.{of_text}
 use Rattle.hprof_naming.proofs.OneText.{text_exists, text_once}
 use Rattle.hprof_threads.specs.ThreadNames.{IsFirstHolding, IsNameOf, IsThreadName, units_in, units_value, values_of}
 use Rattle.hprof_threads.proofs.FirstHolding.{first_exists, first_once}
@@ -62,21 +61,6 @@ no_values given.NoObject other = refl
 
 module _ (ids : IdSize) (facts : List FactValue) (object : ℕ) (fields : FieldsValue)
     (are_fields : AreFields ids facts object fields) where
-  -- the text of its field
-  pub name_of_field : {E : Type 0} (field : Option FieldValue) (target : ℕ) (r : Result (Option Units) E) → IsFirstHolding facts (values_of fields) field
-      → target ≡ target_of_field field → IfOk r (λ name. IsNameOf ids facts target (option_map units_value name))
-      → IfOk r (λ name. IsThreadName ids facts object (option_map units_value name))
-  name_of_field field target r is_field same is =
-      of_text (λ name. IsNameOf ids facts target (option_map units_value name))
-      (λ name. IsThreadName ids facts object (option_map units_value name)) r
-      (λ name of. record {
-        fields = fields;
-        are_fields = are_fields;
-        field = field;
-        is_field = is_field;
-        is = subst (λ (id : ℕ). IsNameOf ids facts id (option_map units_value name)) same of;
-      }) is
-
   -- none without values
   pub name_of_no_values : values_of fields ≡ [] → IsThreadName ids facts object None
   name_of_no_values none = record {

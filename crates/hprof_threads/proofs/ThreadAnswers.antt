@@ -143,7 +143,8 @@ module _ (facts : List FactValue) (agree : IsConsistent facts) where
   trace_once serial None (Some other) is too = absurd (is other too)
   trace_once serial (Some one) None is too = absurd (too one is)
   trace_once serial (Some one) (Some other) is too =
-      ap Some (ap frames_in (agree (keys.Trace serial) (Trace serial is.thread one) (Trace serial too.thread other) is.has too.has refl refl))
+      ap Some (ap frames_in (agree (keys.Trace serial) (Trace serial is.thread one) (Trace serial too.thread other)
+      is.has too.has refl refl))
 
   pub object_once : (serial one other : ℕ) → IsThreadObject facts serial one → IsThreadObject facts serial other → one ≡ other
   object_once serial one other is too =

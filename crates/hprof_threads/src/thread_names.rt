@@ -46,11 +46,7 @@ fn holds_name(heap: &Heap, classes: &ClassNames, field: &FieldValue) -> bool
 }
 
 /// Returns the first of the fields that holds the name of a thread, or `None` if none does.
-fn first_holding(
-    heap: &Heap,
-    classes: &ClassNames,
-    values: &[FieldValue],
-) -> Option<FieldValue>
+fn first_holding(heap: &Heap, classes: &ClassNames, values: &[FieldValue]) -> Option<FieldValue>
     ensures { AreClassNames (facts_of heap.now) classes.now → IsFirstHolding (facts_of heap.now) values.now result }
 {
     for value in values {

@@ -16,7 +16,7 @@ returns c = λ id naming is.
     ≡ string_bytes class ++ (codes "." ++ (string_bytes method ++ (codes "(" ++ (string_bytes place ++ codes ")")))))
     (λ text. string_bytes text ≡ frame_line naming id (Some c.args.frame) c.args.class) c.format.result
     (λ text e. e ∙ line_of_parts naming id c.args.frame c.args.class (string_bytes class) (string_bytes method) (string_bytes place)
-    (c.in_ok-class.ensures naming is) (c.in_ok-method.ensures.named naming is) 
+    (c.in_ok-class.ensures naming is) (c.in_ok-method.ensures.named naming is)
     (c.in_ok-place.ensures naming is
     ∙ ap (λ (line : ℤ). place_text naming c.args.frame.source line) (to_z-of_z w32 c.args.frame.line (search rules))))
     c.format.ensures.ok

@@ -20,4 +20,5 @@ unreachable-requires c =
 pub returns : goal.returns
 returns c =
     let it = c.in-Start in
-    start_there (facts_of c.args.heap.now) c.args.serial it.thread it.object it.trace it.name it.group it.parent_group c.in_ok-object.field-0 c.in_ok-object.ensures it.is
+    start_there (facts_of c.args.heap.now) c.args.serial it.thread it.object it.trace it.name it.group it.parent_group
+    c.in_ok-object.field-0 c.in_ok-object.ensures it.is
