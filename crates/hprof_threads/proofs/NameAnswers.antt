@@ -1,7 +1,6 @@
 -- A thread has one name.
-use Rattle.std.specs.Prelude.{IfOk, if◌then◌else◌, ◌==◌}
-use Rattle.std.specs.Option.{option_map}
-use Rattle.std.proofs.Common.{◌≡◌, ℕ, Bool, true, false, List, [], Option, None, Result, Vec, Global, refl, sym, ap, ◌∙◌, subst}
+use Rattle.std.specs.Prelude.{if◌then◌else◌, ◌==◌}
+use Rattle.std.proofs.Common.{◌≡◌, ℕ, Bool, true, false, List, [], Option, None, Vec, Global, refl, sym, ap, ◌∙◌, subst}
 use Rattle.hprof_values.specs.declared.ids.IdSize.{IdSize}
 use Rattle.hprof_items.specs.FactValue.{FactValue}
 use Rattle.hprof_rows.specs.Conflict.{IsConsistent}
@@ -15,7 +14,7 @@ use Rattle.hprof_naming.specs.declared.text.Text.TheVariants as handed
 use Rattle.hprof_naming.specs.declared.text.Units.{Units}
 use Rattle.hprof_naming.specs.Texts.{IsText, TextValue, target_of_field, text_value}
 use Rattle.hprof_naming.proofs.OneText.{text_exists, text_once}
-use Rattle.hprof_threads.specs.ThreadNames.{IsFirstHolding, IsNameOf, IsThreadName, units_in, units_value, values_of}
+use Rattle.hprof_threads.specs.ThreadNames.{IsFirstHolding, IsNameOf, IsThreadName, units_in, values_of}
 use Rattle.hprof_threads.proofs.FirstHolding.{first_exists, first_once}
 
 -- ---- the text of an identifier

@@ -52,12 +52,12 @@ class_text naming None = codes "\\?"
 abbrev pub source_text : Naming → ℕ → List ℕ
 source_text naming source = if source == 0 then codes "Unknown Source" else naming.name_text source
 
--- what stands behind the source: the line, if it is above 0; -2 is a compiled method
+-- what stands behind the source: the line, if it is above 0; that the method is compiled, for -2, which is `negsuc 1`; else nothing
 abbrev pub line_text : ℤ → List ℕ
 line_text (pos line) = if line == 0 then [] else codes ":" ++ decimal line
 line_text (negsuc below) = if below == 1 then codes ", compiled" else []
 
--- the place in the source; -3 is a native method
+-- the place in the source; -3, which is `negsuc 2`, is a native method
 abbrev pub place_text : Naming → ℕ → ℤ → List ℕ
 place_text naming source line = if int_eq line (negsuc 2) then codes "Native Method" else source_text naming source ++ line_text line
 

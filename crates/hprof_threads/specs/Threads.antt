@@ -9,7 +9,7 @@ use Rattle.hprof_threads.specs.declared.thread_root.ThreadRoot.{ThreadRoot}
 
 -- ---- the root
 
--- the fact that it is
+-- the fact that a root of the thread is
 abbrev pub fact_of_root : ℕ → ThreadRoot → FactValue
 fact_of_root serial root = Rooted (roots.ThreadObject root.object serial root.trace)
 

@@ -114,7 +114,7 @@ fn missing_frame(alloc: Global, id: u64) -> Result<String, AllocError>
 ///
 /// - The class: the name of the load with the frame's class serial, with `.` for `/`, or `\?` if there is no such load.
 /// - The source: `Native Method` for line -3. Otherwise the name of the source file, or `Unknown Source` if that is 0; behind it `:` and a
-///   line above 0, or `, compiled` for line -2.
+///   line above 0, `, compiled` for line -2, and nothing for every other line.
 /// - A frame without a FRAME: `\?` and its identifier, as a name that the heap does not have.
 ///
 /// The fields are those of heapDumper.cpp, HPROF_FRAME. The signature of the method is not printed.
