@@ -1,0 +1,5 @@
+pub mod Weak
+pub mod Links
+pub mod Strengths
+pub mod WeakClasses
+pub mod Rows
