@@ -13,9 +13,9 @@ use Rattle.hprof_edges.specs.declared.least.LeastEdge.{LeastEdge}
 use Rattle.hprof_edges.specs.contracts.edge.EdgeOrd.TheImpl as edge_ord
 use Rattle.hprof_edges.specs.contracts.edge.EdgeOrd.TheImpl.Laws.{total-law}
 use Rattle.hprof_edges.specs.Collecting.{PutBehind}
-use Rattle.hprof_edges.specs.Edges.{IsEdge}
-use Rattle.hprof_edges.specs.LeastEdge.{IsEdgeBetween, IsLeastEdge, IsLeastOf, IsOneTo, KeepsLeast, leads_to}
-use Rattle.hprof_edges.proofs.PutTogether.{nothing_there}
+use Rattle.hprof_edges.specs.Edges.{AnyEdge, IsEdge}
+use Rattle.hprof_edges.specs.LeastEdge.{IsEdgeBetween, IsLeastEdge, IsLeastEdgeBy, IsLeastOf, IsOneTo, KeepsLeast, leads_to}
+use Rattle.hprof_edges.proofs.PutTogether.{nothing_there, put_same}
 
 -- an edge does not come behind one that does not come behind a third
 not_behind : (one other more : Edge) → (edge_ord.ghosts).cmp one other ≢ Greater → (edge_ord.ghosts).cmp other more ≢ Greater
@@ -101,15 +101,33 @@ least_same : (P Q : Edge → Type 0) (found : Option Edge) → ((edge : Edge) �
 least_same P Q (Some edge) are least = ((are edge).0 least.0, λ other has. least.1 other ((are other).1 has))
 least_same P Q None are none = λ edge has. none edge ((are edge).1 has)
 
+pub least_by : (P : Edge → Type 0) (ids : IdSize) (facts : List FactValue) (from to : ℕ) (least : LeastEdge)
+    → PutBehind (KeepsLeast least) [] (λ edge. IsEdge ids facts edge × (edge.from ≡ from) × P edge)
+    → leads_to least ≡ leads_to (record { to = to; edge = None }) → IsLeastEdgeBy P ids facts from to least.edge
+least_by P ids facts from to least put keeps =
+    least_same (IsOneTo least put.more) (IsEdgeBetween P ids facts from to) least.edge (λ edge.
+    let same = ap (λ (test : Edge → Bool). test edge) keeps in (
+      λ one. (
+          let is = (put.exact edge).0 one.0 in
+          record { edge_is = is.0; from_is = is.1; to_is = eqb-true edge.to to (sym same ∙ one.1); holds = is.2 }
+          ),
+      λ is. ((put.exact edge).1 (is.edge_is, is.from_is, is.holds), same ∙ eq-eqb edge.to to is.to_is),
+    )) put.holds_more
+
 pub least_between : (ids : IdSize) (facts : List FactValue) (from to : ℕ) (least : LeastEdge)
     → PutBehind (KeepsLeast least) [] (λ edge. IsEdge ids facts edge × (edge.from ≡ from))
     → leads_to least ≡ leads_to (record { to = to; edge = None }) → IsLeastEdge ids facts from to least.edge
 least_between ids facts from to least put keeps =
-    least_same (IsOneTo least put.more) (IsEdgeBetween ids facts from to) least.edge (λ edge.
-    let same = ap (λ (test : Edge → Bool). test edge) keeps in (
-      λ one. (
-          let is = (put.exact edge).0 one.0 in
-          record { edge_is = is.0; from_is = is.1; to_is = eqb-true edge.to to (sym same ∙ one.1) }
-          ),
-      λ is. ((put.exact edge).1 (is.edge_is, is.from_is), same ∙ eq-eqb edge.to to is.to_is),
-    )) put.holds_more
+    least_by AnyEdge ids facts from to least
+    (put_same [] (KeepsLeast least) (λ edge. IsEdge ids facts edge × (edge.from ≡ from)) _ put
+    (λ edge. (λ is. (is.0, is.1), λ is. (is.0, is.1, tt)))) keeps
+
+-- where two things hold of the same edges of the facts, the least edge is the same
+pub least_of_same : (P Q : Edge → Type 0) (ids : IdSize) (facts : List FactValue)
+    → ((edge : Edge) → IsEdge ids facts edge → P edge ↔ Q edge) → (from to : ℕ) (found : Option Edge)
+    → IsLeastEdgeBy P ids facts from to found → IsLeastEdgeBy Q ids facts from to found
+least_of_same P Q ids facts same from to found =
+    least_same (IsEdgeBetween P ids facts from to) (IsEdgeBetween Q ids facts from to) found (λ edge. (
+      λ is. record { edge_is = is.edge_is; from_is = is.from_is; to_is = is.to_is; holds = (same edge is.edge_is).0 is.holds },
+      λ is. record { edge_is = is.edge_is; from_is = is.from_is; to_is = is.to_is; holds = (same edge is.edge_is).1 is.holds },
+    ))

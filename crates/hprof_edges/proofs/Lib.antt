@@ -13,3 +13,7 @@ pub mod OnlyDumps
 pub mod TableEdges
 pub mod WantedEdges
 pub mod LeastEdges
+pub mod PlacesAscend
+pub mod FieldsOf
+pub mod LeftOutEdges
+pub mod KeptDecided

@@ -1,6 +1,6 @@
 -- References between classes and objects, by what refers: heapDumper.cpp, "HPROF binary format". Each clause names the sub-record
 -- that has the reference, and its field.
-use Rattle.std.specs.Prelude.{◌≡◌, ◌≢◌, ◌⊎◌, ◌↔◌, ℕ, List, Some, slice_get, true, Contains}
+use Rattle.std.specs.Prelude.{◌≡◌, ◌≢◌, ◌⊎◌, ◌↔◌, ⊤, ℕ, List, Some, slice_get, true, Contains}
 use Rattle.std.specs.List.Sorted.{IsStrictlySortedBy}
 use Rattle.hprof_values.specs.declared.ids.IdSize.{IdSize}
 use Rattle.hprof_values.specs.declared.entry.Entry.{Entry}
@@ -67,6 +67,10 @@ Refers ids facts from vias.Element position to = ElementRefers facts from positi
 -- an edge refers to something: 0 is no identifier of anything
 abbrev pub IsEdge : IdSize → List FactValue → Edge → Type 0
 IsEdge ids facts edge = (edge.to ≢ 0) × Refers ids facts edge.from edge.via edge.position edge.to
+
+-- every edge
+abbrev pub AnyEdge : Edge → Type 0
+AnyEdge edge = ⊤
 
 -- the list ascends by from, via, position, to, and has exactly the edges of which that holds
 pub record AreEdges (ids : IdSize) (facts : List FactValue) (P : Edge → Type 0) (edges : List Edge) : Type 0 where

@@ -6,13 +6,14 @@ use Rattle.hprof_items.specs.FactValue.{FactValue}
 use Rattle.hprof_edges.specs.contracts.edge.EdgeOrd.TheImpl as edge_ord
 use Rattle.hprof_edges.specs.declared.edge.Edge.{Edge}
 use Rattle.hprof_edges.specs.declared.least.LeastEdge.{LeastEdge}
-use Rattle.hprof_edges.specs.Edges.{IsEdge}
+use Rattle.hprof_edges.specs.Edges.{AnyEdge, IsEdge}
 
--- it is an edge from the one identifier to the other
-pub record IsEdgeBetween (ids : IdSize) (facts : List FactValue) (from to : ℕ) (edge : Edge) : Type 0 where
+-- it is an edge from the one identifier to the other, of which that holds
+pub record IsEdgeBetween (P : Edge → Type 0) (ids : IdSize) (facts : List FactValue) (from to : ℕ) (edge : Edge) : Type 0 where
   pub edge_is : IsEdge ids facts edge
   pub from_is : edge.from ≡ from
   pub to_is : edge.to ≡ to
+  pub holds : P edge
 
 -- no edge comes before it of those of which that holds
 abbrev pub IsLeast : (Edge → Type 0) → Edge → Type 0
@@ -23,9 +24,13 @@ abbrev pub IsLeastOf : (Edge → Type 0) → Option Edge → Type 0
 IsLeastOf P (Some edge) = IsLeast P edge
 IsLeastOf P None = (edge : Edge) → P edge → ⊥
 
--- the least edge from the one identifier to the other, if there is one
+-- the least edge from the one identifier to the other of which that holds, if there is one
+abbrev pub IsLeastEdgeBy : (Edge → Type 0) → IdSize → List FactValue → (from to : ℕ) → Option Edge → Type 0
+IsLeastEdgeBy P ids facts from to edge = IsLeastOf (IsEdgeBetween P ids facts from to) edge
+
+-- the least of all edges from the one to the other, if there is one
 abbrev pub IsLeastEdge : IdSize → List FactValue → (from to : ℕ) → Option Edge → Type 0
-IsLeastEdge ids facts from to edge = IsLeastOf (IsEdgeBetween ids facts from to) edge
+IsLeastEdge ids facts from to edge = IsLeastEdgeBy AnyEdge ids facts from to edge
 
 -- ---- what is kept
 

@@ -1,6 +1,7 @@
 pub mod Edges
 pub mod EdgeOrder
 pub mod DumpEdges
+pub mod LeftOut
 pub mod Collecting
 pub mod KeptMembers
 pub mod EdgeSet

@@ -8,10 +8,12 @@ ghost use Rattle.hprof_edges.specs.declared.edge.Edge.{Edge};
 ghost use Rattle.hprof_edges.specs.Collecting.{PutBehind};
 ghost use Rattle.hprof_edges.specs.DumpEdges.{GivenByObject};
 ghost use Rattle.hprof_edges.specs.Edges.{IsEdge};
+ghost use Rattle.hprof_edges.specs.LeftOut.{IsKept, fields_in};
 
 use crate::collect::Collect;
+use crate::kept_edges::kept_object_edges;
+use crate::left_out::LeftOut;
 use crate::of_identifier::put_of_class;
-use crate::of_object::object_edges;
 use hprof_heap::{Finger, Heap, find_object_near, id_size};
 use hprof_layouts::{KnownLayouts, Reference};
 use std::alloc::AllocError;
@@ -39,27 +41,29 @@ impl Near {
     }
 }
 
-/// Puts the edges from an identifier's object dump, if it has one.
+/// Puts the edges from an identifier's object dump, if it has one, without those by left-out fields.
 fn put_of_known_object<C: Collect>(
     heap: &Heap,
     known: &KnownLayouts,
     id: u64,
+    left_out: &LeftOut,
     near: &mut Finger,
     references: &mut Vec<Reference>,
     into: &mut C,
 ) -> Result<(), AllocError>
     ensures holds { OnOk result ((edges : List Edge) → Knows (size_of heap.now) (facts_of heap.now) known.now → C.holds into.old edges
-        → PutBehind (C.holds into.new) edges (λ edge. (edge.from ≡ id) × GivenByObject (size_of heap.now) (facts_of heap.now) edge)) }
+        → PutBehind (C.holds into.new) edges (λ edge. (edge.from ≡ id) × GivenByObject (size_of heap.now) (facts_of heap.now) edge
+        × IsKept (fields_in left_out.now) (facts_of heap.now) edge)) }
     ensures keeps { OnOk result (C.keeps into.new ≡ C.keeps into.old) }
 {
     let Some(dump) = find_object_near(heap, id, near) else {
         return Ok(());
     };
-    object_edges(known, &dump, id_size(heap), references, into)?;
+    kept_object_edges(known, &dump, id_size(heap), left_out, references, into)?;
     Ok(())
 }
 
-/// Puts all edges from an identifier into `into`. `known` has the layouts of the heap's classes.
+/// Puts all edges from an identifier into `into`, without those by the fields in `left_out`. `known` has the layouts of the heap's classes.
 ///
 /// The class dump and the object dump of the identifier are looked up, near the places of the last ones. `references` is scratch space. If
 /// memory runs out, the answer is `AllocError` and `into` is unspecified.
@@ -67,16 +71,26 @@ pub fn known_edges<C: Collect>(
     heap: &Heap,
     known: &KnownLayouts,
     id: u64,
+    left_out: &LeftOut,
     near: &mut Near,
     references: &mut Vec<Reference>,
     into: &mut C,
 ) -> Result<(), AllocError>
     ensures holds { OnOk result ((edges : List Edge) → Knows (size_of heap.now) (facts_of heap.now) known.now → C.holds into.old edges
-        → PutBehind (C.holds into.new) edges (λ edge. IsEdge (size_of heap.now) (facts_of heap.now) edge × (edge.from ≡ id))) }
+        → PutBehind (C.holds into.new) edges (λ edge. IsEdge (size_of heap.now) (facts_of heap.now) edge × (edge.from ≡ id)
+        × IsKept (fields_in left_out.now) (facts_of heap.now) edge)) }
     ensures keeps { OnOk result (C.keeps into.new ≡ C.keeps into.old) }
 {
     put_of_class(heap, id, &mut near.class, into)?;
-    put_of_known_object(heap, known, id, &mut near.object, references, into)?;
+    put_of_known_object(
+        heap,
+        known,
+        id,
+        left_out,
+        &mut near.object,
+        references,
+        into,
+    )?;
     Ok(())
 }
 
@@ -85,15 +99,17 @@ pub fn known_object_edges<C: Collect>(
     heap: &Heap,
     known: &KnownLayouts,
     id: u64,
+    left_out: &LeftOut,
     near: &mut Finger,
     references: &mut Vec<Reference>,
     into: &mut C,
 ) -> Result<(), AllocError>
     requires { HasNoDump (facts_of heap.now) id }
     ensures holds { OnOk result ((edges : List Edge) → Knows (size_of heap.now) (facts_of heap.now) known.now → C.holds into.old edges
-        → PutBehind (C.holds into.new) edges (λ edge. IsEdge (size_of heap.now) (facts_of heap.now) edge × (edge.from ≡ id))) }
+        → PutBehind (C.holds into.new) edges (λ edge. IsEdge (size_of heap.now) (facts_of heap.now) edge × (edge.from ≡ id)
+        × IsKept (fields_in left_out.now) (facts_of heap.now) edge)) }
     ensures keeps { OnOk result (C.keeps into.new ≡ C.keeps into.old) }
 {
-    put_of_known_object(heap, known, id, near, references, into)?;
+    put_of_known_object(heap, known, id, left_out, near, references, into)?;
     Ok(())
 }

@@ -1,14 +1,16 @@
 //! The least edge between two identifiers.
 
-ghost use Rattle.std.specs.Prelude.{◌≡◌, ◌≢◌, ◌⊎◌, IfOk, IfSome, Some};
+ghost use Rattle.std.specs.Prelude.{◌≡◌, ◌≢◌, ◌⊎◌, [], IfOk, IfSome, Some};
 ghost use Rattle.std.specs.declared.cmp.Ordering.TheVariants.{Greater};
 ghost use Rattle.hprof_heap.specs.HeapFacts.{facts_of, size_of};
 ghost use Rattle.hprof_layouts.specs.Known.{Knows};
-ghost use Rattle.hprof_edges.specs.LeastEdge.{IsLeastEdge};
+ghost use Rattle.hprof_edges.specs.LeastEdge.{IsLeastEdge, IsLeastEdgeBy};
+ghost use Rattle.hprof_edges.specs.LeftOut.{IsKept, fields_in};
 
 use crate::collect::Collect;
 use crate::edge::Edge;
 use crate::from_known::{Near, known_edges};
+use crate::left_out::LeftOut;
 use hprof_heap::Heap;
 use hprof_layouts::{KnownLayouts, Reference, Wanted};
 use std::alloc::AllocError;
@@ -60,7 +62,7 @@ impl Collect for LeastEdge {
 }
 
 /// Returns the least edge from one identifier to another, ordered by the kind of the reference and then by its position, or `None` if there
-/// is none. `known` has the layouts of the heap's classes.
+/// is none. Edges by the fields in `left_out` do not count. `known` has the layouts of the heap's classes.
 ///
 /// The class dump and the object dump of the first identifier are looked up, near the places of the last ones. `references` is scratch
 /// space. If memory runs out, the answer is `AllocError`.
@@ -69,13 +71,16 @@ pub fn least_edge(
     known: &KnownLayouts,
     from: u64,
     to: u64,
+    left_out: &LeftOut,
     near: &mut Near,
     references: &mut Vec<Reference>,
 ) -> Result<Option<Edge>, AllocError>
-    ensures { Knows (size_of heap.now) (facts_of heap.now) known.now
+    ensures kept { Knows (size_of heap.now) (facts_of heap.now) known.now
+        → IfOk result (IsLeastEdgeBy (IsKept (fields_in left_out.now) (facts_of heap.now)) (size_of heap.now) (facts_of heap.now) from to) }
+    ensures all { Knows (size_of heap.now) (facts_of heap.now) known.now → fields_in left_out.now ≡ []
         → IfOk result (IsLeastEdge (size_of heap.now) (facts_of heap.now) from to) }
 {
     let mut least = LeastEdge { to, edge: None };
-    known_edges(heap, known, from, near, references, &mut least)?;
+    known_edges(heap, known, from, left_out, near, references, &mut least)?;
     Ok(least.edge)
 }

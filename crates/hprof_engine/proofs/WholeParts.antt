@@ -1,17 +1,17 @@
 -- What is saved of parts that have no fault, and what stands before a fault.
 use Rattle.std.proofs.Common.{◌≡◌, ℕ, false, List, [], ◌∷◌, length, map, take, Option, Some, None, Result, Ok, Err, refl, sym}
-use Rattle.std.proofs.Common.{subst, ◌∙◌, append-nil}
+use Rattle.std.proofs.Common.{subst, ◌∙◌, append-nil, is_ok}
 use Rattle.std.specs.List.{AllByRecursion}
 use Rattle.std.proofs.Math.Seq.{take-length}
 use Rattle.hprof_items.specs.declared.header.Header.{Header}
-use Rattle.hprof_items.specs.declared.step.Step.{Step}
-use Rattle.hprof_items.specs.declared.step.Step.TheVariants.{Whole, Short, TooLong, Fault}
+use Rattle.hprof_values.specs.declared.stop.Stop.{Stop}
+use Rattle.hprof_values.specs.declared.stop.Stop.TheVariants.{Short, TooLong, Fault}
 use Rattle.hprof_items.specs.FactValue.{FactValue}
 use Rattle.hprof_stream.specs.declared.limits.Limits.{Limits}
 use Rattle.hprof_stream.specs.declared.part_fault.PartFault.{PartFault}
 use Rattle.hprof_stream.specs.Part.{all_bytes, all_facts, IsWritten}
 use Rattle.hprof_stream.specs.Item.{Found, header_before, item_at}
-use Rattle.hprof_stream.specs.Fault.{is_whole, fault_at, HasNoFault, IsFirstFault, StatesSoFar}
+use Rattle.hprof_stream.specs.Fault.{fault_at, HasNoFault, IsFirstFault, StatesSoFar}
 use Rattle.hprof_stream.proofs.Faults.{none_stops, states_once}
 use Rattle.hprof_stream.proofs.Grammar.{items_spelled}
 use Rattle.hprof_rows.specs.HeapValue.{HeapValue}
@@ -24,11 +24,9 @@ use Rattle.hprof_engine.specs.Saved.{Saved, IsSaved, given_with, given_of, AreSa
 use Rattle.hprof_engine.specs.Sound.{JoinsTo, StandsBefore, IsAllOf}
 
 -- where a step is at fault it is not whole
-at_fault : (offset : ℕ) (step : Step Found) (fault : PartFault) → fault_at offset step ≡ Some fault → is_whole step ≡ false
-at_fault offset (Whole found n) fault e = absurd cc
-at_fault offset Short fault e = refl
-at_fault offset TooLong fault e = refl
-at_fault offset (Fault reason) fault e = refl
+at_fault : (offset : ℕ) (step : Result (Found × ℕ) Stop) (fault : PartFault) → fault_at offset step ≡ Some fault → is_ok step ≡ false
+at_fault offset (Ok (found, n)) fault e = absurd cc
+at_fault offset (Err stop) fault e = refl
 
 -- what is saved stands before the first fault
 pub stands_before : (longest : ℕ) (bytes : List ℕ) (header : Option Header) (facts : List FactValue) (fault : PartFault)

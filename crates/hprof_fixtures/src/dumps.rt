@@ -3,7 +3,7 @@
 ghost use Rattle.std.specs.Prelude.{◌≡◌};
 
 use hprof_devices::Device;
-use hprof_items::{Fact, Header, IdSize, Step, Version, read_sub};
+use hprof_items::{Fact, Header, IdSize, Version, read_sub};
 use hprof_stream::{Sink, SinkFault};
 use hprof_values::{Basic, ConstantList, FieldList, IdList, StaticList};
 use hprof_writing::{fits, write_fact};
@@ -139,7 +139,7 @@ fn give_fact<S: Sink>(alloc: Global, sink: &mut S, fact: &Fact<'_>) -> Result<()
         return Err(AllocError.into());
     }
     let bytes = device.into_inner();
-    let Step::Whole(read, len) = read_sub(&bytes, u32::MAX, u32::MAX, ids) else {
+    let Ok((read, len)) = read_sub(&bytes, u32::MAX, u32::MAX, ids) else {
         return Err("no sub-record".into());
     };
     let (spelled, _) = bytes.split_at(len);

@@ -11,10 +11,12 @@ pub fn call_laws() {
     hprof_edges::laws::edges_in_order();
     hprof_edges::laws::one_list_of_edges();
     hprof_edges::laws::more_facts_keep_edges();
+    hprof_edges::laws::no_fields_keep_all();
     hprof_graph::laws::referrers_only_grow();
     hprof_graph::laws::answers_are_of_parts();
     hprof_reach::laws::one_distance_and_path();
     hprof_reach::laws::path_is_shortest();
     hprof_reach::laws::no_distance_no_walk();
     hprof_reach::laws::some_distance_and_path();
+    hprof_reach::laws::some_kept_distance_and_path();
 }

@@ -22,6 +22,8 @@ mod late;
 mod laws;
 #[cfg(test)]
 mod laying;
+#[cfg(test)]
+mod left_out;
 pub mod one_fact;
 #[cfg(test)]
 mod orders;

@@ -12,7 +12,7 @@ use hprof_edges::Edge;
 use hprof_graph::laws::answers_are_of_parts;
 use hprof_graph::{Index, Live, LiveHeap};
 use hprof_heap::{Heap, Refusal};
-use hprof_items::{Fact, Header, Step, read_sub};
+use hprof_items::{Fact, Header, read_sub};
 use hprof_layouts::Layout;
 use hprof_stream::{Sink, SinkFault};
 use std::alloc::Global;
@@ -75,9 +75,7 @@ pub fn answers_of_one_fact(
     ensures { IfSome result (λ answers. AreOfParts (one_fact header (value_of answers.fact)) id answers) }
 {
     answers_are_of_parts();
-    let Step::Whole(fact, len) = read_sub(bytes, u32::MAX, u32::MAX, header.ids) else {
-        return None;
-    };
+    let (fact, len) = read_sub(bytes, u32::MAX, u32::MAX, header.ids).ok()?;
     let (spelled, _) = bytes.split_at(len);
     let Ok(mut live) = give_one(alloc, header, &fact, spelled) else {
         return None;

@@ -5,7 +5,7 @@ use Rattle.hprof_values.specs.declared.ids.IdSize.{IdSize}
 use Rattle.hprof_items.specs.FactValue.{FactValue, Rooted}
 use Rattle.hprof_tables.specs.SideBySide.{LacksOne}
 use Rattle.hprof_tables.specs.SortedRows.{IsAscending}
-use Rattle.hprof_tables.specs.Spans.{the_bytes}
+use Rattle.hprof_byte_tables.specs.Spans.{the_bytes}
 use Rattle.hprof_tables.specs.Union.{AreUnion}
 use Rattle.hprof_rows.specs.declared.table.Table.{Table}
 use Rattle.hprof_rows.specs.declared.table.Table.TheVariants as tables

@@ -1,6 +1,6 @@
 -- What the tables of a heap show.
 use Rattle.std.specs.Prelude.{◌≡◌, ℕ, Option, None}
-use Rattle.hprof_tables.specs.BytesTable.{byte_rows, byte_rows_left}
+use Rattle.hprof_byte_tables.specs.BytesTable.{byte_rows, byte_rows_left}
 use Rattle.hprof_tables.specs.Relation.{rows_of}
 use Rattle.hprof_tables.specs.Rows.{rows_left}
 use Rattle.hprof_rows.specs.declared.table.Table.{Table}

@@ -11,9 +11,10 @@ ghost use Rattle.hprof_rows.specs.Order.{IsCanonicalOrder};
 ghost use Rattle.hprof_heap.specs.Tables.{rows_in_tables};
 
 use crate::tables::Tables;
+use hprof_byte_tables::BytesTable;
 use hprof_items::Fact;
 use hprof_rows::{Facts, RootSet, SubRows, Table, kept_fact, kept_trace, spelled_fact};
-use hprof_tables::{BytesTable, Finger, Relation};
+use hprof_tables::{Finger, Relation};
 use hprof_values::IdSize;
 use std::alloc::Global;
 

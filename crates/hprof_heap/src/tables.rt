@@ -4,8 +4,9 @@ ghost use Rattle.std.specs.Prelude.{◌≡◌};
 ghost use Rattle.hprof_rows.specs.EachTable.{count_at};
 ghost use Rattle.hprof_heap.specs.Tables.{rows_in_tables, AreRowsOf};
 
+use hprof_byte_tables::BytesTable;
 use hprof_rows::{FrameRow, KeyRow, LoadRow, RootSet, StartRow, Table, TableRows};
-use hprof_tables::{BytesTable, Relation};
+use hprof_tables::Relation;
 use hprof_values::IdSize;
 
 mod comparing;

@@ -6,7 +6,7 @@ ghost use Rattle.hprof_heap.specs.Gathering.{gathered};
 use crate::expecting::equal;
 use crate::samples::{Part, begun, given};
 use hprof_heap::{Gatherer, Key, Refusal, Standing};
-use hprof_items::{Header, IdSize, Step, Version, read_sub};
+use hprof_items::{Header, IdSize, Version, read_sub};
 use hprof_stream::Sink;
 use hprof_tables::Stated;
 use std::alloc::Global;
@@ -80,7 +80,7 @@ fn check_stated(
     requires { (gathered gatherer.old).begun ≡ Some ids }
     ensures { OnOk result ((gathered gatherer.new).begun ≡ Some ids) }
 {
-    let Step::Whole(fact, len) = read_sub(bytes, u32::MAX, u32::MAX, ids) else {
+    let Ok((fact, len)) = read_sub(bytes, u32::MAX, u32::MAX, ids) else {
         return Err(Fail::from("no sub-record"));
     };
     let (spelled, _) = bytes.split_at(len);

@@ -8,7 +8,7 @@ ghost use Rattle.hprof_heap.specs.Gathering.{gathered};
 use crate::expecting::equal;
 use hprof_devices::Device;
 use hprof_heap::{Gatherer, Heap};
-use hprof_items::{Fact, Header, IdSize, Step, Version, read_sub};
+use hprof_items::{Fact, Header, IdSize, Version, read_sub};
 use hprof_stream::{Sink, SinkFault};
 use hprof_tables::Stated;
 use hprof_values::{Basic, ConstantList, FieldList, IdList, StaticList};
@@ -107,7 +107,7 @@ pub(crate) fn state_sub(
     requires { (gathered gatherer.old).begun ≡ Some ids }
     ensures { OnOk result ((gathered gatherer.new).begun ≡ Some ids) }
 {
-    let Step::Whole(fact, len) = read_sub(bytes, u32::MAX, u32::MAX, ids) else {
+    let Ok((fact, len)) = read_sub(bytes, u32::MAX, u32::MAX, ids) else {
         return Ok(None);
     };
     let (spelled, _) = bytes.split_at(len);

@@ -1,6 +1,6 @@
 -- A header that is read is the header that was written, and what was written is read again.
 use Rattle.std.proofs.Common.{◌≡◌, ℕ, ◌<◌, ◌≤◌, Bool, true, false, cond, ltb, eqb, inl, inr, ◌⊎◌, List, ◌++◌, length, take, drop, Option}
-use Rattle.std.proofs.Common.{Some, None, refl, sym, ap, subst, ◌∙◌, append_assoc, arith}
+use Rattle.std.proofs.Common.{Some, None, refl, sym, ap, subst, ◌∙◌, append_assoc, arith, Ok, Err}
 use Rattle.std.proofs.lemmas.Bool.{cond-false, le-ltb, eqb-true}
 use Rattle.std.proofs.lemmas.List.{take-append-drop, length-append}
 use Rattle.std.proofs.lemmas.Slice.Eq.{bytes_eq-Decides}
@@ -12,13 +12,12 @@ use Rattle.hprof_values.specs.declared.ids.IdSize.TheVariants.{Four, Eight}
 use Rattle.hprof_items.specs.declared.header.Header.{Header}
 use Rattle.hprof_items.specs.declared.header.Version.{Version}
 use Rattle.hprof_items.specs.declared.header.Version.TheVariants.{V101, V102}
-use Rattle.hprof_values.specs.declared.reason.Reason.TheVariants.{BadMagic, BadIdSize}
-use Rattle.hprof_items.specs.declared.step.Step.TheVariants.{Whole, Short}
+use Rattle.hprof_values.specs.declared.stop.Stop.TheVariants.{Short}
 use Rattle.hprof_values.specs.Ids.{width_of, IsBytes}
 use Rattle.hprof_items.specs.Header.{text_of, header_bytes, IsMillis}
 use Rattle.hprof_items.specs.Reading.{version_of, ids_of, timed_header, sized_header, header_at}
 use Rattle.hprof_values.proofs.Numbers.{IsBytes-drop, number_parts_at}
-use Rattle.hprof_items.proofs.Steps.{long_enough, fault_is_not_whole, whole_parts}
+use Rattle.hprof_items.proofs.Steps.{long_enough, whole_parts}
 
 -- a value that a test gives, or else a later test
 some_first : {A : Type 0} (t : Bool) (x : A) (o : Option A) (v : A) → cond t (Some x) o ≡ Some v → ((t ≡ true) × (x ≡ v)) ⊎ (o ≡ Some v)
@@ -52,20 +51,20 @@ timed : Version → IdSize → List ℕ → Header
 timed version ids bytes = record { version = version; ids = ids; millis = big_number 8 (drop 23 bytes) }
 
 -- what a size that was taken says of the rest
-timed_found : (version : Version) (size : Option IdSize) (bytes : List ℕ) (h : Header) (n : ℕ) → timed_header version size bytes ≡ Whole h n
+timed_found : (version : Version) (size : Option IdSize) (bytes : List ℕ) (h : Header) (n : ℕ) → timed_header version size bytes ≡ Ok (h, n)
     → (ids : IdSize) × (size ≡ Some ids) × (31 ≤ length bytes) × (timed version ids bytes ≡ h) × (31 ≡ n)
 unfolding timed
-timed_found version None bytes h n e = absurd (fault_is_not_whole BadIdSize h n e)
+timed_found version None bytes h n e = absurd cc
 timed_found version (Some ids) bytes h n e =
-    let g = long_enough (length bytes) 31 (Whole (record { version = version; ids = ids; millis = big_number 8 (drop 23 bytes) }) 31) h
+    let g = long_enough (length bytes) 31 (Ok (record { version = version; ids = ids; millis = big_number 8 (drop 23 bytes) }, 31)) h
     n e in
     let p = whole_parts (record { version = version; ids = ids; millis = big_number 8 (drop 23 bytes) }) h 31 n g.1 in
     (ids, refl, g.0, p.0, p.1)
 
 -- what a text that was taken says of the rest
-sized_found : (text : Option Version) (bytes : List ℕ) (h : Header) (n : ℕ) → sized_header text bytes ≡ Whole h n
-    → (version : Version) × (text ≡ Some version) × (timed_header version (ids_of (big_number 4 (drop 19 bytes))) bytes ≡ Whole h n)
-sized_found None bytes h n e = absurd (fault_is_not_whole BadMagic h n e)
+sized_found : (text : Option Version) (bytes : List ℕ) (h : Header) (n : ℕ) → sized_header text bytes ≡ Ok (h, n)
+    → (version : Version) × (text ≡ Some version) × (timed_header version (ids_of (big_number 4 (drop 19 bytes))) bytes ≡ Ok (h, n))
+sized_found None bytes h n e = absurd cc
 sized_found (Some version) bytes h n e =
     let g = long_enough (length bytes) 23 (timed_header version (ids_of (big_number 4 (drop 19 bytes))) bytes) h n e in
     (version, refl, g.1)
@@ -88,7 +87,7 @@ fields_found bytes version ids are long text size =
     ∙ sym (append_assoc (text_of version) (big_bytes 4 (width_of ids) ++ big_bytes 8 (big_number 8 (drop 23 bytes))) (drop 31 bytes))
 
 -- what is read is spelled so
-pub header_found : (bytes : List ℕ) (h : Header) (n : ℕ) → IsBytes bytes → header_at bytes ≡ Whole h n
+pub header_found : (bytes : List ℕ) (h : Header) (n : ℕ) → IsBytes bytes → header_at bytes ≡ Ok (h, n)
     → (bytes ≡ header_bytes h ++ drop n bytes) × (n ≡ 31) × IsMillis h.millis
 unfolding header_at timed
 header_found bytes h n are e =
@@ -106,16 +105,15 @@ header_found bytes h n are e =
 -- bytes whose text and size are right, and which are long enough
 pub header_made : (bytes : List ℕ) (version : Version) (ids : IdSize) → 31 ≤ length bytes → version_of (take 19 bytes) ≡ Some version
     → ids_of (big_number 4 (drop 19 bytes)) ≡ Some ids
-    → header_at bytes ≡ Whole (record { version = version; ids = ids; millis = big_number 8 (drop 23 bytes) }) 31
+    → header_at bytes ≡ Ok (record { version = version; ids = ids; millis = big_number 8 (drop 23 bytes) }, 31)
 unfolding header_at
 header_made bytes version ids long text size =
-    cond-false (ltb (length bytes) 19) Short (sized_header (version_of (take 19 bytes)) bytes) (le-ltb _ _ (omega arith))
+    cond-false (ltb (length bytes) 19) (Err Short) (sized_header (version_of (take 19 bytes)) bytes) (le-ltb _ _ (omega arith))
     ∙ ap (λ (o : Option Version). sized_header o bytes) text
-    ∙ cond-false (ltb (length bytes) 23) Short (timed_header version (ids_of (big_number 4 (drop 19 bytes))) bytes)
+    ∙ cond-false (ltb (length bytes) 23) (Err Short) (timed_header version (ids_of (big_number 4 (drop 19 bytes))) bytes)
     (le-ltb _ _ (omega arith))
     ∙ ap (λ (o : Option IdSize). timed_header version o bytes) size
-    ∙ cond-false (ltb (length bytes) 31) Short (Whole (record { version = version; ids = ids; millis = big_number 8 (drop 23 bytes) })
-    31) (le-ltb _ _ (omega arith))
+    ∙ cond-false (ltb (length bytes) 31) (Err Short) (Ok (record { version = version; ids = ids; millis = big_number 8 (drop 23 bytes) }, 31)) (le-ltb _ _ (omega arith))
 
 -- where a version's text stands in front
 text_front : (version : Version) (rest : List ℕ) → (version_of (take 19 (text_of version ++ rest)) ≡ Some version)
@@ -134,7 +132,7 @@ length-text V101 = refl
 length-text V102 = refl
 
 -- what is spelled so is read, whatever follows
-pub header_again : (h : Header) (rest : List ℕ) → IsMillis h.millis → header_at (header_bytes h ++ rest) ≡ Whole h 31
+pub header_again : (h : Header) (rest : List ℕ) → IsMillis h.millis → header_at (header_bytes h ++ rest) ≡ Ok (h, 31)
 unfolding header_at
 header_again h rest fits =
     let back : List ℕ = big_bytes 4 (width_of h.ids) ++ (big_bytes 8 h.millis ++ rest) in
@@ -158,4 +156,4 @@ header_again h rest fits =
     let time : big_number 8 (drop 23 bytes) ≡ h.millis =
     ap (big_number 8) (ap (drop 23) parts ∙ front.2) ∙ big_number-reads_back 8 h.millis rest fits in
     header_made bytes h.version h.ids long text sized
-    ∙ ap (λ (m : ℕ). Whole (record { version = h.version; ids = h.ids; millis = m }) 31) time
+    ∙ ap (λ (m : ℕ). Ok (record { version = h.version; ids = h.ids; millis = m }, 31)) time

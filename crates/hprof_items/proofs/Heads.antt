@@ -1,6 +1,6 @@
 -- A head that is read is the head that was written, and what was written is read again.
 use Rattle.std.proofs.Common.{◌≡◌, ℕ, ◌≤◌, inl, inr, Bool, true, false, cond, eqb, ltb, ◌||◌, List, ◌++◌, length, drop, Option, Some, refl}
-use Rattle.std.proofs.Common.{sym, ap, subst, ◌∙◌, arith, ◌∷◌, append_assoc}
+use Rattle.std.proofs.Common.{sym, ap, subst, ◌∙◌, arith, ◌∷◌, append_assoc, Result, Ok, Err}
 use Rattle.std.proofs.lemmas.Bool.{cond-false, cond-true, le-ltb, eqb-true, or_cases}
 use Rattle.byteorder.specs.Endian.{big_bytes, big_number}
 use Rattle.byteorder.specs.Numbers.{big_from-lt, big_number-reads_back}
@@ -13,13 +13,13 @@ use Rattle.hprof_values.specs.RecordTag.{code_of_record, record_of_code}
 use Rattle.hprof_values.proofs.Numbers.{IsBytes-drop, number_parts_at}
 use Rattle.hprof_items.specs.declared.head.Head.{Head}
 use Rattle.hprof_items.specs.declared.head.HeadKind.TheVariants.{FactRecord, HeapDump, DumpEnd, Skipped}
-use Rattle.hprof_items.specs.declared.step.Step.{Step}
-use Rattle.hprof_items.specs.declared.step.Step.TheVariants.{Whole, Short, TooLong, Fault}
+use Rattle.hprof_values.specs.declared.stop.Stop.{Stop}
+use Rattle.hprof_values.specs.declared.stop.Stop.TheVariants.{Short, TooLong, Fault}
 use Rattle.hprof_items.specs.Head.{head_bytes, is_fact_tag, is_dump_tag, is_end_tag, kind_of}
 use Rattle.hprof_items.specs.Reading.{is_too_long, is_legal, judged_head, head_at, IsRightHead, is_legal_as}
 use Rattle.hprof_items.specs.RecordBody.{is_legal_body}
 use Rattle.hprof_items.proofs.RecordBodies.{record_code_again}
-use Rattle.hprof_items.proofs.Steps.{went_on, held, long_enough, fault_is_not_whole, too_long_is_not_whole, whole_parts}
+use Rattle.hprof_items.proofs.Steps.{went_on, held, long_enough, whole_parts}
 use Rattle.std.proofs.Math.Seq.{drop-cons}
 use Rattle.std.specs.Prelude.{slice_index}
 
@@ -42,25 +42,25 @@ fields_found bytes are long =
     (sym (append_assoc (big_bytes 4 (big_number 4 (drop 1 bytes))) (big_bytes 4 (big_number 4 (drop 5 bytes))) (drop 9 bytes)))
 
 -- the tests that a head passed
-judged_found : (ids : IdSize) (longest : ℕ) (x head : Head) (n : ℕ) → judged_head ids longest x ≡ Whole head n
+judged_found : (ids : IdSize) (longest : ℕ) (x head : Head) (n : ℕ) → judged_head ids longest x ≡ Ok (head, n)
     → (is_legal ids x.tag x.length ≡ true) × (is_too_long longest x ≡ false) × (x ≡ head) × (9 ≡ n)
 judged_found ids longest x head n e =
-    let last : Step Head = cond (is_too_long longest x) TooLong (Whole x 9) in
-    let legal = held (is_legal ids x.tag x.length) last (Fault BadLength) (Whole head n) (fault_is_not_whole BadLength head n) e in
-    let taken = went_on (is_too_long longest x) TooLong (Whole x 9) (Whole head n) (too_long_is_not_whole head n) legal.1 in
+    let last : Result (Head × ℕ) Stop = cond (is_too_long longest x) (Err TooLong) (Ok (x, 9)) in
+    let legal = held (is_legal ids x.tag x.length) last (Err (Fault BadLength)) (Ok (head, n)) (λ h. cc) e in
+    let taken = went_on (is_too_long longest x) (Err TooLong) (Ok (x, 9)) (Ok (head, n)) (λ h. cc) legal.1 in
     let same = whole_parts x head 9 n taken.1 in
     (legal.0, taken.0, same.0, same.1)
 
 -- a head that passes them
-judged_again : (ids : IdSize) (longest : ℕ) (head : Head) → IsRightHead ids longest head → judged_head ids longest head ≡ Whole head 9
+judged_again : (ids : IdSize) (longest : ℕ) (head : Head) → IsRightHead ids longest head → judged_head ids longest head ≡ Ok (head, 9)
 judged_again ids longest head right =
-    let last : Step Head = cond (is_too_long longest head) TooLong (Whole head 9) in
-    cond-true (is_legal ids head.tag head.length) last (Fault BadLength) right.legal
-    ∙ cond-false (is_too_long longest head) TooLong (Whole head 9) right.taken
+    let last : Result (Head × ℕ) Stop = cond (is_too_long longest head) (Err TooLong) (Ok (head, 9)) in
+    cond-true (is_legal ids head.tag head.length) last (Err (Fault BadLength)) right.legal
+    ∙ cond-false (is_too_long longest head) (Err TooLong) (Ok (head, 9)) right.taken
 
 -- what is read is spelled so, and right
 pub head_found : (ids : IdSize) (longest : ℕ) (bytes : List ℕ) (head : Head) (n : ℕ) → IsBytes bytes → head_at ids longest bytes
-    ≡ Whole head n
+    ≡ Ok (head, n)
     → (bytes ≡ head_bytes head.tag head.time head.length ++ drop n bytes) × (n ≡ 9) × IsRightHead ids longest head
 unfolding head_at fields
 head_found ids longest bytes head n are e =
@@ -81,7 +81,7 @@ head_found ids longest bytes head n are e =
 
 -- what is spelled so and right is read, whatever follows
 pub head_again : (ids : IdSize) (longest : ℕ) (head : Head) (rest : List ℕ) → IsRightHead ids longest head
-    → head_at ids longest (head_bytes head.tag head.time head.length ++ rest) ≡ Whole head 9
+    → head_at ids longest (head_bytes head.tag head.time head.length ++ rest) ≡ Ok (head, 9)
 unfolding head_at
 head_again ids longest head rest right =
     let bytes : List ℕ = head_bytes head.tag head.time head.length ++ rest in
@@ -89,7 +89,7 @@ head_again ids longest head rest right =
     let long : 9 ≤ length bytes = omega arith in
     let time : big_number 4 (drop 1 bytes) ≡ head.time = big_number-reads_back 4 head.time (big_bytes 4 head.length ++ rest) right.time in
     let len : big_number 4 (drop 5 bytes) ≡ head.length = big_number-reads_back 4 head.length rest right.length in
-    cond-false (ltb (length bytes) 9) Short (judged_head ids longest (read (big_number 4 (drop 1 bytes)) (big_number 4 (drop 5 bytes))))
+    cond-false (ltb (length bytes) 9) (Err Short) (judged_head ids longest (read (big_number 4 (drop 1 bytes)) (big_number 4 (drop 5 bytes))))
     (le-ltb _ _ long)
     ∙ ap (λ (m : ℕ). judged_head ids longest (read m (big_number 4 (drop 5 bytes)))) time
     ∙ ap (λ (m : ℕ). judged_head ids longest (read head.time m)) len

@@ -1,16 +1,15 @@
 //! Reading the head of a record.
 
-ghost use Rattle.std.specs.Prelude.{◌≡◌, ℕ, ◌++◌, List, drop};
+ghost use Rattle.std.specs.Prelude.{◌≡◌, ℕ, ◌++◌, List, drop, Ok};
 ghost use Rattle.hprof_items.specs.declared.head.Head.{Head};
 ghost use Rattle.hprof_items.specs.Head.{head_bytes};
 ghost use Rattle.hprof_items.specs.RecordBody.{is_legal_body};
 ghost use Rattle.hprof_items.specs.Reading.{is_legal, judged_head, head_at, IsRightHead};
 
 use crate::head::{HEAD_LEN, Head, HeadKind};
-use crate::step::Step;
 use crate::tag;
 use byteorder::{BigEndian, ByteOrder};
-use hprof_values::{IdSize, Reason, RecordTag};
+use hprof_values::{IdSize, Reason, RecordTag, Stop};
 
 /// Returns whether a record that states one fact may have this length.
 fn may_have_body(known: RecordTag, len: usize, ids: IdSize) -> bool
@@ -36,25 +35,26 @@ fn may_have_len(tag: u8, len: u32, ids: IdSize) -> bool
     }
 }
 
-fn judge_head(head: Head, ids: IdSize, longest: u32) -> Step<Head>
+/// Returns the answer of `read_head`, where the fields of the head are there.
+fn judge_head(head: Head, ids: IdSize, longest: u32) -> Result<(Head, usize), Stop>
     ensures { result ≡ judged_head ids longest head }
 {
     if !may_have_len(head.tag, head.length, ids) {
-        return Step::Fault(Reason::BadLength);
+        return Err(Stop::Fault(Reason::BadLength));
     }
     if head.kind() == HeadKind::FactRecord && longest < head.length {
-        return Step::TooLong;
+        return Err(Stop::TooLong);
     }
-    Step::Whole(head, HEAD_LEN)
+    Ok((head, HEAD_LEN))
 }
 
 /// Returns the result of `read_head`.
 #[tactic(auto, unfolding(crate::specs::Reading::head_at))]
-fn head_step(bytes: &[u8], ids: IdSize, longest: u32) -> Step<Head>
+fn head_in(bytes: &[u8], ids: IdSize, longest: u32) -> Result<(Head, usize), Stop>
     ensures { result ≡ head_at ids longest bytes.now }
 {
     if bytes.len() < HEAD_LEN {
-        return Step::Short;
+        return Err(Stop::Short);
     }
     let head = Head {
         tag: bytes[0],
@@ -64,19 +64,19 @@ fn head_step(bytes: &[u8], ids: IdSize, longest: u32) -> Step<Head>
     judge_head(head, ids, longest)
 }
 
-/// Reads the head of any record at the front.
+/// Reads the head of any record at the front, and returns it with the number of its bytes.
 ///
 /// The tests, in order: its nine bytes are there, the record may have its length, and a record that states one fact has at most `longest`
 /// bytes after its head.
-pub fn read_head(bytes: &[u8], ids: IdSize, longest: u32) -> Step<Head>
-    // Which step it is.
+pub fn read_head(bytes: &[u8], ids: IdSize, longest: u32) -> Result<(Head, usize), Stop>
+    // Which head it is, or what stopped it.
     ensures exact { result ≡ head_at ids longest bytes.now }
     // What is read is spelled so, and right.
-    ensures found { (head : Head) (n : ℕ) → result ≡ Step.Whole head n
+    ensures found { (head : Head) (n : ℕ) → result ≡ Ok (head, n)
         → (bytes.now ≡ head_bytes head.tag head.time head.length ++ drop n bytes.now) × (n ≡ 9) × IsRightHead ids longest head }
     // What is spelled so and right is read, whatever follows.
     ensures only { (head : Head) (rest : List ℕ) → IsRightHead ids longest head
-        → bytes.now ≡ head_bytes head.tag head.time head.length ++ rest → result ≡ Step.Whole head 9 }
+        → bytes.now ≡ head_bytes head.tag head.time head.length ++ rest → result ≡ Ok (head, 9) }
 {
-    head_step(bytes, ids, longest)
+    head_in(bytes, ids, longest)
 }

@@ -1,14 +1,13 @@
 //! Reading the header of a dump.
 
-ghost use Rattle.std.specs.Prelude.{◌≡◌, ℕ, ◌++◌, List, drop};
+ghost use Rattle.std.specs.Prelude.{◌≡◌, ℕ, ◌++◌, List, drop, Ok};
 ghost use Rattle.hprof_items.specs.declared.header.Header.{Header};
 ghost use Rattle.hprof_items.specs.Header.{header_bytes, IsMillis};
 ghost use Rattle.hprof_items.specs.Reading.{version_of, ids_of, header_at};
 
 use crate::header::{HEADER_LEN, Header, Version};
-use crate::step::Step;
 use byteorder::{BigEndian, ByteOrder};
-use hprof_values::{IdSize, Reason};
+use hprof_values::{IdSize, Reason, Stop};
 
 /// The text at the start of a 1.0.1 dump, with its zero byte.
 pub const TEXT_V101: &[u8; 19] = b"JAVA PROFILE 1.0.1\0";
@@ -46,45 +45,44 @@ fn ids_in(size: u32) -> Option<IdSize>
 
 /// Returns the result of `read_header`.
 #[tactic(auto, unfolding(crate::specs::Reading::header_at))]
-fn header_step(bytes: &[u8]) -> Step<Header>
+fn header_in(bytes: &[u8]) -> Result<(Header, usize), Stop>
     ensures { result ≡ header_at bytes.now }
 {
     if bytes.len() < TEXT_LEN {
-        return Step::Short;
+        return Err(Stop::Short);
     }
     let Some(version) = version_in(&bytes[..TEXT_LEN]) else {
-        return Step::Fault(Reason::BadMagic);
+        return Err(Stop::Fault(Reason::BadMagic));
     };
     if bytes.len() < SIZED_LEN {
-        return Step::Short;
+        return Err(Stop::Short);
     }
     let Some(ids) = ids_in(BigEndian::read_u32(&bytes[TEXT_LEN..])) else {
-        return Step::Fault(Reason::BadIdSize);
+        return Err(Stop::Fault(Reason::BadIdSize));
     };
     if bytes.len() < HEADER_LEN {
-        return Step::Short;
+        return Err(Stop::Short);
     }
     let millis = BigEndian::read_u64(&bytes[SIZED_LEN..]);
-    Step::Whole(
-        Header {
-            version,
-            ids,
-            millis,
-        },
-        HEADER_LEN,
-    )
+    let header = Header {
+        version,
+        ids,
+        millis,
+    };
+    Ok((header, HEADER_LEN))
 }
 
-/// Reads the header at the front: the text, then the identifier size, then the time. A field is tested once all its bytes are there.
-pub fn read_header(bytes: &[u8]) -> Step<Header>
-    // Which step it is.
+/// Reads the header at the front, and returns it with the number of its bytes: the text, then the identifier size, then the time. A field is
+/// tested once all its bytes are there.
+pub fn read_header(bytes: &[u8]) -> Result<(Header, usize), Stop>
+    // Which header it is, or what stopped it.
     ensures exact { result ≡ header_at bytes.now }
     // What is read is spelled so.
-    ensures found { (header : Header) (n : ℕ) → result ≡ Step.Whole header n
+    ensures found { (header : Header) (n : ℕ) → result ≡ Ok (header, n)
         → (bytes.now ≡ header_bytes header ++ drop n bytes.now) × (n ≡ 31) × IsMillis header.millis }
     // What is spelled so is read, whatever follows.
     ensures only { (header : Header) (rest : List ℕ) → IsMillis header.millis
-        → bytes.now ≡ header_bytes header ++ rest → result ≡ Step.Whole header 31 }
+        → bytes.now ≡ header_bytes header ++ rest → result ≡ Ok (header, 31) }
 {
-    header_step(bytes)
+    header_in(bytes)
 }

@@ -10,7 +10,6 @@ ghost use Rattle.hprof_values.specs.FieldGroups.{Bounds, IsWithin, with_more};
 ghost use Rattle.hprof_items.specs.declared.header.Header.{Header};
 ghost use Rattle.hprof_items.specs.declared.head.Head.{Head};
 ghost use Rattle.hprof_items.specs.declared.head.HeadKind.TheVariants as kinds;
-ghost use Rattle.hprof_items.specs.declared.step.Step.TheVariants.{Whole};
 ghost use Rattle.hprof_items.specs.Header.{header_bytes, IsMillis};
 ghost use Rattle.hprof_items.specs.Head.{head_bytes, record_bytes, kind_of};
 ghost use Rattle.hprof_items.specs.FactValue.{FactValue};
@@ -21,8 +20,8 @@ ghost use Rattle.hprof_items.specs.Reading.{header_at, head_at, IsRightHead};
 
 /// A header that is written reads back, whatever follows, and a header that is read writes the same bytes.
 pub fn headers_read_back()
-    ensures { ((header : Header) (rest : List ℕ) → IsMillis header.millis → header_at (header_bytes header ++ rest) ≡ Whole header 31)
-        × ((bytes : List ℕ) (header : Header) (n : ℕ) → IsBytes bytes → header_at bytes ≡ Whole header n
+    ensures { ((header : Header) (rest : List ℕ) → IsMillis header.millis → header_at (header_bytes header ++ rest) ≡ Ok (header, 31))
+        × ((bytes : List ℕ) (header : Header) (n : ℕ) → IsBytes bytes → header_at bytes ≡ Ok (header, n)
         → (bytes ≡ header_bytes header ++ drop n bytes) × (n ≡ 31) × IsMillis header.millis) }
 {}
 
@@ -69,9 +68,9 @@ pub fn one_spelling_in_each_family()
 /// states one fact, its body may have the length in the head.
 pub fn heads_read_back()
     ensures again { (ids : IdSize) (longest : ℕ) (head : Head) (rest : List ℕ) → IsRightHead ids longest head
-        → head_at ids longest (head_bytes head.tag head.time head.length ++ rest) ≡ Whole head 9 }
+        → head_at ids longest (head_bytes head.tag head.time head.length ++ rest) ≡ Ok (head, 9) }
     ensures found { (ids : IdSize) (longest : ℕ) (bytes : List ℕ) (head : Head) (n : ℕ) → IsBytes bytes
-        → head_at ids longest bytes ≡ Whole head n
+        → head_at ids longest bytes ≡ Ok (head, n)
         → (bytes ≡ head_bytes head.tag head.time head.length ++ drop n bytes) × (n ≡ 9) × IsRightHead ids longest head }
     ensures facts { (ids : IdSize) (longest : ℕ) (head : Head) → IsRightHead ids longest head → kind_of head.tag ≡ kinds.FactRecord
         → (known : RecordTag) × (record_of_code head.tag ≡ Some known) × (is_legal_body ids known head.length ≡ true) }

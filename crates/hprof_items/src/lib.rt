@@ -13,7 +13,6 @@ pub mod laws;
 mod object_reading;
 mod record_reading;
 mod root_reading;
-mod step;
 mod sub_reading;
 pub mod tag;
 mod walk;
@@ -29,6 +28,5 @@ pub use hprof_values::{
     Value,
 };
 pub use record_reading::{read_body, read_body_into};
-pub use step::Step;
 pub use sub_reading::{read_sub, read_sub_into};
 pub use walk::{Walk, go_on};

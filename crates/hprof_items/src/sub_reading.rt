@@ -4,13 +4,12 @@ ghost use Rattle.std.specs.Prelude.{◌≡◌, ℕ, ◌≤◌, ◌++◌, List, l
 ghost use Rattle.hprof_values.specs.BoundedBytes.{bounds_of};
 ghost use Rattle.hprof_items.specs.FactValue.{FactValue, value_of, ListsHave};
 ghost use Rattle.hprof_items.specs.SubRecord.{dump_at, tag_at, sub_at, dump_bytes, DumpFits};
-ghost use Rattle.hprof_items.specs.SubReading.{bounds_within, IsStepOf, IsSubRead, IsReadOf, IsWholeOf};
+ghost use Rattle.hprof_items.specs.SubReading.{bounds_within, IsSubRead};
 
 use crate::class_reading::read_class;
 use crate::fact::Fact;
 use crate::object_reading::{read_instance, read_obj_array, read_prim_array};
 use crate::root_reading::read_root;
-use crate::step::Step;
 use hprof_values::{BoundedBytes, IdSize, Reason, Stop, SubTag};
 
 /// Reads a sub-record after its tag, and stores its fact in `fact`.
@@ -94,27 +93,31 @@ pub fn read_sub_into<'a>(
     read_item(&item, ids, fact)
 }
 
-/// Reads the sub-record at the front of the `room` bytes that its record has left. It may have at most `longest` bytes.
+/// Reads the sub-record at the front of the `room` bytes that its record has left, and returns its fact with the number of its bytes. It may
+/// have at most `longest` bytes.
 ///
 /// Fields are tested from left to right: each must end within the record, then within `longest`, then its bytes must be there, then it must
 /// be valid. If there are no bytes, more are needed. The bytes of an instance and the elements of an array are not read.
 #[inline(always)]
-pub fn read_sub(bytes: &[u8], room: u32, longest: u32, ids: IdSize) -> Step<Fact<'_>>
+pub fn read_sub(
+    bytes: &[u8],
+    room: u32,
+    longest: u32,
+    ids: IdSize,
+) -> Result<(Fact<'_>, usize), Stop>
     requires { 1 ≤ room }
-    // Which step it is.
-    ensures exact { IsStepOf result (sub_at ids (bounds_within room longest bytes.now) bytes.now) }
+    // Which fact it is and where it ends, or what stopped it.
+    ensures exact { MatchResult result
+        (λ read. sub_at ids (bounds_within room longest bytes.now) bytes.now ≡ Ok (value_of read.0, read.1))
+        (λ stop. sub_at ids (bounds_within room longest bytes.now) bytes.now ≡ Err stop) }
     // What is read is spelled so, and has lists of that size.
-    ensures found { IsReadOf result (IsSubRead ids room longest bytes.now) }
+    ensures found { IfOk result (λ read. IsSubRead ids room longest bytes.now read.0 read.1) }
     // What is spelled so is read, whatever follows.
     ensures only { (fact : FactValue) (rest : List ℕ) → DumpFits ids fact → bytes.now ≡ dump_bytes ids fact ++ rest
         → length (dump_bytes ids fact) ≤ room → length (dump_bytes ids fact) ≤ longest
-        → IsWholeOf result (λ read n. (value_of read ≡ fact) × (n ≡ length (dump_bytes ids fact))) }
+        → IsOkAnd result (λ read. (value_of read.0 ≡ fact) × (read.1 ≡ length (dump_bytes ids fact))) }
 {
     let mut fact = Fact::End { thread: 0 };
-    match read_sub_into(bytes, room, longest, ids, &mut fact) {
-        Ok(end) => Step::Whole(fact, end),
-        Err(Stop::Short) => Step::Short,
-        Err(Stop::TooLong) => Step::TooLong,
-        Err(Stop::Fault(reason)) => Step::Fault(reason),
-    }
+    let end = read_sub_into(bytes, room, longest, ids, &mut fact)?;
+    Ok((fact, end))
 }

@@ -4,3 +4,8 @@ mod FirstNamed
 pub mod Lookups
 pub mod OneText
 mod Found
+mod Pairs
+mod Slashed
+mod Labels
+mod SlashedWords
+mod Meanings

@@ -1,5 +1,7 @@
 pub mod Naming
 pub mod ClassNames
 pub mod TypeWord
+pub mod TypeNames
+pub mod MeantLabel
 pub mod Units
 pub mod Texts

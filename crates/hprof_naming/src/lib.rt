@@ -3,13 +3,17 @@
 
 mod class_names;
 pub mod laws;
+mod meant_label;
 mod naming;
 mod object_text;
 mod text;
+mod type_names;
 mod types;
 
 pub use class_names::ClassNames;
+pub use meant_label::MeantLabel;
 pub use naming::{class_label, label_of, name_text};
 pub use object_text::text_of;
 pub use text::{Coding, Text, Units};
+pub use type_names::arrays_named;
 pub use types::type_word;

@@ -26,6 +26,11 @@ pub fn call_laws() {
     dump101_laws::dump101_reads_back();
     dump101_laws::equal_dumps101_equal_facts();
     naming_laws::one_naming();
+    naming_laws::plain_words_mean_themselves();
+    naming_laws::descriptors_mean_classes();
+    naming_laws::array_words_mean_arrays();
+    naming_laws::dots_count_as_slashes();
+    naming_laws::all_pairs_count();
     ask_laws::a_report_is_one_text();
     ask_laws::a_line_asks_one_thing();
     ask_laws::answers_over_parts_are_one_text();

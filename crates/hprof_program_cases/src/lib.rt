@@ -1,6 +1,6 @@
 //! Tests of the engine, the reports and the program that do not fit a line in the table of worked cases: the heaps that calls return, parts
-//! that are fed in pieces, counts of pushes, memory that is given back, generated parts, texts of faults that no small part has, and the
-//! real disk.
+//! that are fed in pieces, counts of pushes, memory that is given back, generated parts, texts of faults that no small part has, labels
+//! that words mean, and the real disk.
 #![tactic(auto)]
 
 #[cfg(test)]
@@ -14,6 +14,8 @@ mod generated;
 #[cfg(test)]
 mod handed_back;
 mod laws;
+#[cfg(test)]
+mod meant_labels;
 #[cfg(test)]
 mod old_dumps;
 #[cfg(test)]

@@ -46,7 +46,7 @@ module _ (ids : IdSize) (facts : List FactValue) where
   ]
 
   leads : (edge : Edge) → IsEdge ids facts edge → Leads ids facts edge.from edge.to
-  leads edge is = record { via = edge.via; position = edge.position; edge = is }
+  leads edge is = record { via = edge.via; position = edge.position; edge = is; holds = tt }
 
   -- when all places were gone over
   pub puts_referrers : (holds : List Edge → Type 0) (index : ReferrerIndex) (id place last : ℕ) → IsIndexOf ids facts index

@@ -1,4 +1,5 @@
 pub mod SameWalks
+pub mod Choices
 pub mod Reached
 pub mod TableNodes
 pub mod TargetLists

@@ -8,7 +8,11 @@ use Rattle.hprof_values.specs.declared.ids.IdSize.{IdSize}
 use Rattle.hprof_items.specs.FactValue.{FactValue}
 use Rattle.hprof_edges.specs.declared.edge.Edge.{Edge}
 use Rattle.hprof_edges.specs.Collecting.{PutBehind}
+use Rattle.hprof_edges.specs.declared.field_place.FieldPlace.{FieldPlace}
 use Rattle.hprof_edges.specs.Edges.{IsEdge}
+use Rattle.hprof_edges.specs.LeftOut.{IsKept}
+use Rattle.hprof_edges.proofs.LeftOutEdges.{all_from}
+use Rattle.hprof_edges.proofs.PutTogether as together
 use Rattle.hprof_search.specs.declared.sources.Sources.{Sources}
 use Rattle.hprof_search.specs.Sources.{end_of, nodes_of, number_at}
 use Rattle.hprof_reach.specs.Referring.{PutSoFar, StandsAt}
@@ -26,6 +30,13 @@ pub node_there : (sources : Sources) (id place last : ℕ) (told : Option ℕ) �
     → (node : ℕ) → StandsAt sources place node → node ≡ unwrap_or told last
 node_there sources id place last None within listed node stands = absurd (listed node id within stands.0 stands.1)
 node_there sources id place last (Some one) within listed node stands = sym (listed node id within stands.0 stands.1)
+
+-- where no fields are left out, all edges of a node are put
+pub all_put : (ids : IdSize) (facts : List FactValue) (fields : List FieldPlace) → fields ≡ [] → (holds : List Edge → Type 0)
+    (edges : List Edge) (node : ℕ)
+    → PutBehind holds edges (λ edge. IsEdge ids facts edge × (edge.from ≡ node) × IsKept fields facts edge)
+    → PutBehind holds edges (λ edge. IsEdge ids facts edge × (edge.from ≡ node))
+all_put ids facts fields none holds edges node put = together.put_same edges holds _ _ put (all_from ids facts fields node none)
 
 module _ (ids : IdSize) (facts : List FactValue) (sources : Sources) (start : ℕ) where
   -- those of 0 are put first

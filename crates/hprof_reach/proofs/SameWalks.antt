@@ -1,13 +1,13 @@
 -- Walks over the same starts and steps are the same walks, however these are told.
 use Rattle.std.specs.Prelude.{◌↔◌}
-use Rattle.std.proofs.Common.{ℕ, zero, suc, List}
+use Rattle.std.proofs.Common.{ℕ, zero, suc, List, Option, Some, None, reverse}
 use Rattle.hprof_search.specs.declared.kept_search.Search.{Search}
 use Rattle.hprof_search.specs.Search.{IsSearch, node_at, node_before, nodes_found}
-use Rattle.hprof_search.specs.Walks.{IsDistance, IsFoundFrom, IsLeastBefore, IsOrder, Reaches}
+use Rattle.hprof_search.specs.Walks.{HasDistance, IsDistance, IsFoundFrom, IsLeastBefore, IsOrder, IsPath, IsWayBack, Reaches}
 
 module _ (Starts Others : ℕ → Type 0) (Steps OtherSteps : ℕ → ℕ → Type 0) (starts : (node : ℕ) → Starts node → Others node)
     (steps : (from to : ℕ) → Steps from to → OtherSteps from to) where
-  reaches_too : (count node : ℕ) → Reaches Starts Steps count node → Reaches Others OtherSteps count node
+  pub reaches_too : (count node : ℕ) → Reaches Starts Steps count node → Reaches Others OtherSteps count node
   reaches_too zero node reaches = starts node reaches
   reaches_too (suc count) node reaches =
       (reaches.0, reaches_too count reaches.0 reaches.1, steps reaches.0 node reaches.2)
@@ -65,3 +65,22 @@ module _ (Starts Others : ℕ → Type 0) (Steps OtherSteps : ℕ → ℕ → Ty
         (is.before number count has (distance_back (node_at search number) count distance));
     levels = λ node count distance. is.levels node count (distance_back node count distance);
   }
+
+  -- a node has the same distance over the others
+  pub has_distance_too : (node : ℕ) (distance : Option ℕ) → HasDistance Starts Steps node distance
+      → HasDistance Others OtherSteps node distance
+  has_distance_too node None none = λ count reaches. none count (back count node reaches)
+  has_distance_too node (Some count) is = distance_too node count is
+
+  way_back_too : (count node : ℕ) (nodes : List ℕ) → IsWayBack Starts Steps count node nodes
+      → IsWayBack Others OtherSteps count node nodes
+  way_back_too zero node nodes is = (distance_too node zero is.0, is.1)
+  way_back_too (suc count) node nodes is = (
+    distance_too node (suc count) is.0,
+    (is.1.0, is.1.1, is.1.2, least_too count is.1.0 node is.1.3, way_back_too count is.1.0 is.1.1 is.1.4),
+  )
+
+  -- and the same path
+  pub path_too : (node : ℕ) (path : Option (List ℕ)) → IsPath Starts Steps node path → IsPath Others OtherSteps node path
+  path_too node None none = λ count reaches. none count (back count node reaches)
+  path_too node (Some nodes) is = (is.0, way_back_too is.0 node (reverse nodes) is.1)

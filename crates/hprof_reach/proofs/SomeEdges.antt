@@ -1,6 +1,6 @@
 -- Of facts that agree there is a list of all edges from an identifier.
 use Rattle.std.specs.Prelude.{◌↔◌, Contains}
-use Rattle.std.proofs.Common.{◌≡◌, ◌⊎◌, ℕ, List, [], ◌++◌, sym, ◌∙◌, inl, inr}
+use Rattle.std.proofs.Common.{◌≡◌, ◌⊎◌, ℕ, List, [], ◌∷◌, ◌++◌, sym, subst, ◌∙◌, inl, inr}
 use Rattle.std.proofs.lemmas.List.Elements.{Contains-append_cases, Contains-append_left, Contains-append_right}
 use Rattle.hprof_values.specs.declared.ids.IdSize.{IdSize}
 use Rattle.hprof_items.specs.FactValue.{FactValue, Name, Load, Unload, Frame, Trace, Start, End, Rooted, Class, Instance, ObjArray, PrimArray}
@@ -18,6 +18,7 @@ use Rattle.hprof_edges.specs.DumpEdges.{GivenByClass, GivenByInstance, GivenByOb
 use Rattle.hprof_edges.specs.EdgeLists.{named_edges, numbered, targets_of_constants, targets_of_statics, targets_of_values, unless_zero}
 use Rattle.hprof_edges.specs.Edges.{IsEdge}
 use Rattle.hprof_edges.proofs.ClassDumpEdges.{class_dump_edges}
+use Rattle.hprof_edges.proofs.EdgeMembers.{one_there}
 use Rattle.hprof_edges.proofs.ObjectDumpEdges.{to_class, by_elements, by_values, no_values}
 use Rattle.hprof_edges.proofs.OnlyDumps.{by_array, by_class, by_instance, by_no_class, by_no_object, by_numbers, dumps_from}
 use Rattle.hprof_edges.proofs.PutTogether.{nothing_there}
@@ -54,6 +55,46 @@ listed_same P Q listed same = record {
   edges = listed.edges;
   exact = λ edge. (λ there. (same edge).1 ((listed.exact edge).0 there), λ is. (listed.exact edge).1 ((same edge).0 is));
 }
+
+-- those of them of which something else holds
+listed_both : (P Q : Edge → Type 0) → ((edge : Edge) → Q edge ⊎ (Q edge → ⊥)) → Listed P → Listed (λ edge. P edge × Q edge)
+listed_both P Q decide listed = record {
+  edges = (picked listed.edges).0;
+  exact = λ edge. (
+    λ there. (let both = ((picked listed.edges).1 edge).0 there in ((listed.exact edge).0 both.0, both.1)),
+    λ both. ((picked listed.edges).1 edge).1 ((listed.exact edge).1 both.0, both.1),
+  );
+} where
+  pick : (first : Edge) (rest : List Edge) → Q first ⊎ (Q first → ⊥)
+      → (list : List Edge) × ((edge : Edge) → Contains list edge ↔ (Contains rest edge × Q edge))
+      → (list : List Edge) × ((edge : Edge) → Contains list edge ↔ (Contains (first ∷ rest) edge × Q edge))
+  pick first rest (inl holds) more = (
+    first ∷ more.0,
+    λ edge. (
+      λ there. elim (Contains-append_cases (first ∷ []) more.0 edge there) [
+        | inl here ↦ (Contains-append_left (first ∷ []) rest edge here, subst Q (one_there first edge here) holds)
+        | inr later ↦ let both = (more.1 edge).0 later in (Contains-append_right (first ∷ []) rest edge both.0, both.1)
+      ],
+      λ both. elim (Contains-append_cases (first ∷ []) rest edge both.0) [
+        | inl here ↦ Contains-append_left (first ∷ []) more.0 edge here
+        | inr later ↦ Contains-append_right (first ∷ []) more.0 edge ((more.1 edge).1 (later, both.1))
+      ],
+    ),
+  )
+  pick first rest (inr fails) more = (
+    more.0,
+    λ edge. (
+      λ there. (let both = (more.1 edge).0 there in (Contains-append_right (first ∷ []) rest edge both.0, both.1)),
+      λ both. elim (Contains-append_cases (first ∷ []) rest edge both.0) [
+        | inl here ↦ absurd (fails (subst Q (sym (one_there first edge here)) both.1))
+        | inr later ↦ (more.1 edge).1 (later, both.1)
+      ],
+    ),
+  )
+
+  picked : (edges : List Edge) → (list : List Edge) × ((edge : Edge) → Contains list edge ↔ (Contains edges edge × Q edge))
+  picked [] = ([], λ edge. (λ there. absurd (nothing_there edge there), λ both. both.0))
+  picked (first ∷ rest) = pick first rest (decide first) (picked rest)
 
 -- ---- the edges from an identifier
 
@@ -115,3 +156,10 @@ module _ (ids : IdSize) (facts : List FactValue) (agree : IsConsistent facts) (i
 
   pub edges_exist : Listed (λ edge. IsEdge ids facts edge × (edge.from ≡ id))
   edges_exist = listed_same _ _ (listed_either _ _ by_the_class by_the_object) (dumps_from ids facts id)
+
+  -- those of which something holds
+  pub edges_by : (P : Edge → Type 0) → ((edge : Edge) → P edge ⊎ (P edge → ⊥))
+      → Listed (λ edge. IsEdge ids facts edge × (edge.from ≡ id) × P edge)
+  edges_by P decide =
+      listed_same _ _ (listed_both (λ edge. IsEdge ids facts edge × (edge.from ≡ id)) P decide edges_exist)
+      (λ edge. (λ is. ((is.0, is.1), is.2), λ both. (both.0.0, both.0.1, both.1)))

@@ -12,11 +12,12 @@ use Rattle.hprof_heap.specs.Objects.{IsObject}
 use Rattle.hprof_heap.proofs.ClassFacts as classes
 use Rattle.hprof_heap.proofs.ObjectFacts as objects
 use Rattle.hprof_edges.specs.declared.edge.Edge.{Edge}
-use Rattle.hprof_edges.specs.Edges.{IsEdge}
+use Rattle.hprof_edges.specs.Edges.{AnyEdge, IsEdge}
 use Rattle.hprof_edges.proofs.EdgeMembers.{one_there}
 use Rattle.hprof_edges.proofs.PutTogether.{nothing_there}
-use Rattle.hprof_reach.specs.Reaching.{IsDistanceFromRoots, IsDumped, IsNode, IsPathFromRoots, IsRooted, IsStart, IsStep, Leads, root_id}
-use Rattle.hprof_reach.proofs.SomeEdges.{edges_exist}
+use Rattle.hprof_reach.specs.Reaching.{IsDistanceBy, IsDistanceFromRoots, IsDumped, IsNode, IsPathBy, IsPathFromRoots, IsRooted, IsStart}
+use Rattle.hprof_reach.specs.Reaching.{IsStepBy, LeadsBy, root_id}
+use Rattle.hprof_reach.proofs.SomeEdges.{Listed, edges_by}
 use Rattle.hprof_reach.proofs.SomeWalk.{distance_exists, has, has_append, has_left, has_right, path_exists}
 
 -- ---- what facts give
@@ -183,43 +184,61 @@ module _ (ids : IdSize) (facts : List FactValue) (agree : IsConsistent facts) wh
     λ is. (starts.exact id).1 (gives rooted facts (Rooted is.1.root) id is.1.has (one_has (root_id is.1.root) id is.1.is), is.0),
   )
 
-  -- ---- steps
+  -- ---- steps, by edges of which something holds
 
-  abbrev leads_to : ℕ → List ℕ
-  leads_to from = map (λ edge. edge.to) (edges_exist ids facts agree from).edges
+  module _ (P : Edge → Type 0) (decide : (edge : Edge) → P edge ⊎ (P edge → ⊥)) where
+    leads_from : (from : ℕ) → Listed (λ edge. IsEdge ids facts edge × (edge.from ≡ from) × P edge)
+    leads_from from = edges_by ids facts agree from P decide
 
-  are_led_to : (from to : ℕ) → (has (leads_to from) to ≡ true) ↔ Leads ids facts from to
-  are_led_to from to = (there, back) where
-    there : has (leads_to from) to ≡ true → Leads ids facts from to
-    there e =
-        let edge = has_target (edges_exist ids facts agree from).edges to e in
-        let is = ((edges_exist ids facts agree from).exact edge.0).0 edge.1 in
-        let same : edge.0 ≡ record { from = from; via = edge.0.via; position = edge.0.position; to = to } =
-        λ i. record { from = is.1 i; via = edge.0.via; position = edge.0.position; to = edge.2 i } in
-        record { via = edge.0.via; position = edge.0.position; edge = subst (IsEdge ids facts) same is.0 }
+    abbrev leads_to : ℕ → List ℕ
+    leads_to from = map (λ edge. edge.to) (leads_from from).edges
 
-    back : Leads ids facts from to → has (leads_to from) to ≡ true
-    back is = target_has (edges_exist ids facts agree from).edges (record { from = from; via = is.via; position = is.position; to = to })
-        (((edges_exist ids facts agree from).exact (record { from = from; via = is.via; position = is.position; to = to })).1 (is.edge, refl))
+    are_led_to : (from to : ℕ) → (has (leads_to from) to ≡ true) ↔ LeadsBy P ids facts from to
+    are_led_to from to = (there, back) where
+      there : has (leads_to from) to ≡ true → LeadsBy P ids facts from to
+      there e =
+          let edge = has_target (leads_from from).edges to e in
+          let is = ((leads_from from).exact edge.0).0 edge.1 in
+          let same : edge.0 ≡ record { from = from; via = edge.0.via; position = edge.0.position; to = to } =
+          λ i. record { from = is.1 i; via = edge.0.via; position = edge.0.position; to = edge.2 i } in
+          record {
+            via = edge.0.via;
+            position = edge.0.position;
+            edge = subst (IsEdge ids facts) same is.0;
+            holds = subst P same is.2;
+          }
 
-  steps_to : (from : ℕ) → Picked (IsNode facts) node_decided (leads_to from)
-  steps_to from = picked (IsNode facts) node_decided (leads_to from)
+      back : LeadsBy P ids facts from to → has (leads_to from) to ≡ true
+      back is = target_has (leads_from from).edges (record { from = from; via = is.via; position = is.position; to = to })
+          (((leads_from from).exact (record { from = from; via = is.via; position = is.position; to = to })).1 (is.edge, refl, is.holds))
 
-  abbrev targets : ℕ → List ℕ
-  targets from = (steps_to from).list
+    steps_to : (from : ℕ) → Picked (IsNode facts) node_decided (leads_to from)
+    steps_to from = picked (IsNode facts) node_decided (leads_to from)
 
-  are_targets : (from to : ℕ) → (has (targets from) to ≡ true) ↔ IsStep ids facts from to
-  are_targets from to = (
-    λ e. (let is = ((steps_to from).exact to).0 e in ((are_led_to from to).0 is.0, is.1)),
-    λ is. ((steps_to from).exact to).1 ((are_led_to from to).1 is.0, is.1),
-  )
+    abbrev targets : ℕ → List ℕ
+    targets from = (steps_to from).list
 
-  -- ---- so
+    are_targets : (from to : ℕ) → (has (targets from) to ≡ true) ↔ IsStepBy P ids facts from to
+    are_targets from to = (
+      λ e. (let is = ((steps_to from).exact to).0 e in ((are_led_to from to).0 is.0, is.1)),
+      λ is. ((steps_to from).exact to).1 ((are_led_to from to).1 is.0, is.1),
+    )
+
+    -- ---- so
+
+    pub some_distance_by : (id : ℕ) → (distance : Option ℕ) × IsDistanceBy P ids facts id distance
+    some_distance_by id = distance_exists (IsStart facts) (IsStepBy P ids facts) nodes starts.list targets are_starts are_targets
+        (λ node is. node_there node is.0) (λ from to is. node_there to is.1) id
+
+    pub some_path_by : (id : ℕ) → (path : Option (List ℕ)) × IsPathBy P ids facts id path
+    some_path_by id = path_exists (IsStart facts) (IsStepBy P ids facts) nodes starts.list targets are_starts are_targets
+        (λ node is. node_there node is.0) (λ from to is. node_there to is.1) id
+
+  any_decided : (edge : Edge) → AnyEdge edge ⊎ (AnyEdge edge → ⊥)
+  any_decided edge = inl tt
 
   pub some_distance : (id : ℕ) → (distance : Option ℕ) × IsDistanceFromRoots ids facts id distance
-  some_distance id = distance_exists (IsStart facts) (IsStep ids facts) nodes starts.list targets are_starts are_targets
-      (λ node is. node_there node is.0) (λ from to is. node_there to is.1) id
+  some_distance = some_distance_by AnyEdge any_decided
 
   pub some_path : (id : ℕ) → (path : Option (List ℕ)) × IsPathFromRoots ids facts id path
-  some_path id = path_exists (IsStart facts) (IsStep ids facts) nodes starts.list targets are_starts are_targets
-      (λ node is. node_there node is.0) (λ from to is. node_there to is.1) id
+  some_path = some_path_by AnyEdge any_decided

@@ -7,7 +7,7 @@ use Rattle.hprof_items.specs.FactValue.{FactValue}
 use Rattle.hprof_edges.specs.declared.edge.Edge.{Edge}
 use Rattle.hprof_edges.specs.Edges.{IsEdge}
 use Rattle.hprof_edges.proofs.EdgeMembers.{one_there}
-use Rattle.hprof_reach.specs.Reaching.{Leads}
+use Rattle.hprof_reach.specs.Reaching.{LeadsBy}
 
 -- one of the edges leads there
 abbrev IsTarget : List Edge → ℕ → Type 0
@@ -28,25 +28,27 @@ from_target (first ∷ edges) edge has = elim (Contains-append_cases (first ∷ 
   | inr later ↦ Contains-append_right (first.to ∷ []) (map (λ (e : Edge). e.to) edges) edge.to (from_target edges edge later)
 ]
 
--- the targets of all edges from an identifier
-pub led_to : (ids : IdSize) (facts : List FactValue) (from : ℕ) (edges : List Edge) (targets : List ℕ)
+-- the targets of all edges from an identifier of which that holds
+pub led_to : (P : Edge → Type 0) (ids : IdSize) (facts : List FactValue) (from : ℕ) (edges : List Edge) (targets : List ℕ)
     → targets ≡ map (λ (edge : Edge). edge.to) edges
-    → ((edge : Edge) → Contains edges edge ↔ (IsEdge ids facts edge × (edge.from ≡ from)))
-    → (to : ℕ) → Contains targets to ↔ Leads ids facts from to
-led_to ids facts from edges targets are exact to = (there, back) where
-  there : Contains targets to → Leads ids facts from to
+    → ((edge : Edge) → Contains edges edge ↔ (IsEdge ids facts edge × (edge.from ≡ from) × P edge))
+    → (to : ℕ) → Contains targets to ↔ LeadsBy P ids facts from to
+led_to P ids facts from edges targets are exact to = (there, back) where
+  there : Contains targets to → LeadsBy P ids facts from to
   there has =
       let target = is_target edges to (subst (λ (l : List ℕ). Contains l to) are has) in
       let edge = target.0 in
       let is = (exact edge).0 target.1 in
+      let same : edge ≡ record { from = from; via = edge.via; position = edge.position; to = to } =
+      λ i. record { from = is.1 i; via = edge.via; position = edge.position; to = target.2 i } in
       record {
         via = edge.via;
         position = edge.position;
-        edge = subst (λ (t : ℕ). IsEdge ids facts (record { from = from; via = edge.via; position = edge.position; to = t })) target.2
-            (subst (λ (f : ℕ). IsEdge ids facts (record { from = f; via = edge.via; position = edge.position; to = edge.to })) is.1 is.0);
+        edge = subst (IsEdge ids facts) same is.0;
+        holds = subst P same is.2;
       }
 
-  back : Leads ids facts from to → Contains targets to
+  back : LeadsBy P ids facts from to → Contains targets to
   back leads =
       let edge : Edge = record { from = from; via = leads.via; position = leads.position; to = to } in
-      subst (λ (l : List ℕ). Contains l to) (sym are) (from_target edges edge ((exact edge).1 (leads.edge, refl)))
+      subst (λ (l : List ℕ). Contains l to) (sym are) (from_target edges edge ((exact edge).1 (leads.edge, refl, leads.holds)))

@@ -8,8 +8,9 @@ use Rattle.hprof_items.specs.FactValue.{FactValue, Rooted}
 use Rattle.hprof_rows.specs.Facts.{Has}
 use Rattle.hprof_heap.specs.Classes.{ClassValue, HasDump}
 use Rattle.hprof_heap.specs.Objects.{IsObject}
+use Rattle.hprof_edges.specs.declared.edge.Edge.{Edge}
 use Rattle.hprof_edges.specs.declared.edge.Via.{Via}
-use Rattle.hprof_edges.specs.Edges.{IsEdge}
+use Rattle.hprof_edges.specs.Edges.{AnyEdge, IsEdge}
 use Rattle.hprof_search.specs.Search.{IsSearch}
 use Rattle.hprof_search.specs.Walks.{HasDistance, IsPath}
 use Rattle.hprof_reach.specs.declared.reach.Reach.{Reach}
@@ -44,24 +45,49 @@ pub record IsRooted (facts : List FactValue) (id : ℕ) : Type 0 where
 abbrev pub IsStart : List FactValue → ℕ → Type 0
 IsStart facts id = IsNode facts id × IsRooted facts id
 
--- an edge leads from the one identifier to the other, of whatever kind
-pub record Leads (ids : IdSize) (facts : List FactValue) (from to : ℕ) : Type 0 where
+-- ---- by chosen edges
+
+-- an edge of which that holds leads from the one identifier to the other, of whatever kind
+pub record LeadsBy (P : Edge → Type 0) (ids : IdSize) (facts : List FactValue) (from to : ℕ) : Type 0 where
   pub via : Via
   pub position : ℕ
   pub edge : IsEdge ids facts (record { from = from; via = via; position = position; to = to })
+  pub holds : P (record { from = from; via = via; position = position; to = to })
+
+-- they lead on to nodes
+abbrev pub IsStepBy : (Edge → Type 0) → IdSize → List FactValue → ℕ → ℕ → Type 0
+IsStepBy P ids facts from to = LeadsBy P ids facts from to × IsNode facts to
+
+-- how many such edges lead to an identifier from a root, and no fewer; none where none do
+abbrev pub IsDistanceBy : (Edge → Type 0) → IdSize → List FactValue → ℕ → Option ℕ → Type 0
+IsDistanceBy P ids facts id distance = HasDistance (IsStart facts) (IsStepBy P ids facts) id distance
+
+-- the path to an identifier from a root: from its end back, each is the least node that is one nearer, with such an edge to the next
+abbrev pub IsPathBy : (Edge → Type 0) → IdSize → List FactValue → ℕ → Option (List ℕ) → Type 0
+IsPathBy P ids facts id path = IsPath (IsStart facts) (IsStepBy P ids facts) id path
+
+-- what is kept is a search from roots: each identifier that they lead to, in the order of distances, and from which it was reached
+abbrev pub IsReachBy : (Edge → Type 0) → IdSize → List FactValue → Reach → Type 0
+IsReachBy P ids facts reach = IsSearch (IsStart facts) (IsStepBy P ids facts) reach.search
+
+-- ---- by all edges
+
+-- an edge leads from the one identifier to the other
+abbrev pub Leads : IdSize → List FactValue → ℕ → ℕ → Type 0
+Leads ids facts from to = LeadsBy AnyEdge ids facts from to
 
 -- they lead on to nodes
 abbrev pub IsStep : IdSize → List FactValue → ℕ → ℕ → Type 0
-IsStep ids facts from to = Leads ids facts from to × IsNode facts to
+IsStep ids facts from to = IsStepBy AnyEdge ids facts from to
 
 -- how many edges lead to an identifier from a root, and no fewer; none where none do
 abbrev pub IsDistanceFromRoots : IdSize → List FactValue → ℕ → Option ℕ → Type 0
-IsDistanceFromRoots ids facts id distance = HasDistance (IsStart facts) (IsStep ids facts) id distance
+IsDistanceFromRoots ids facts id distance = IsDistanceBy AnyEdge ids facts id distance
 
--- the path to an identifier from a root: from its end back, each is the least node that is one nearer, with an edge to the next
+-- the path to an identifier from a root, by the least node each time
 abbrev pub IsPathFromRoots : IdSize → List FactValue → ℕ → Option (List ℕ) → Type 0
-IsPathFromRoots ids facts id path = IsPath (IsStart facts) (IsStep ids facts) id path
+IsPathFromRoots ids facts id path = IsPathBy AnyEdge ids facts id path
 
--- what is kept is a search from roots: each identifier that they lead to, in the order of distances, and from which it was reached
+-- what is kept is a search from roots
 abbrev pub IsReach : IdSize → List FactValue → Reach → Type 0
-IsReach ids facts reach = IsSearch (IsStart facts) (IsStep ids facts) reach.search
+IsReach ids facts reach = IsReachBy AnyEdge ids facts reach

@@ -7,7 +7,7 @@ ghost use Rattle.hprof_reach.specs.Index.{IsIndexOf};
 
 use crate::heap_graph::graph_of;
 use crate::nodes::nodes_of;
-use hprof_edges::{Edge, EdgeSet, Near, known_edges, sort_edges};
+use hprof_edges::{Edge, EdgeSet, LeftOut, Near, known_edges, sort_edges};
 use hprof_heap::Heap;
 use hprof_layouts::{KnownLayouts, Wanted, known_layouts};
 use hprof_search::{Numbered, Sources, sources_of};
@@ -38,17 +38,26 @@ impl ReferrerIndex {
             → PutsReferrers (size_of heap.now) (facts_of heap.now) (SetOf set.new) id) }
         ensures keeps { OnOk result (is_edge_wanted (wanted_in set.new) ≡ is_edge_wanted (wanted_in set.old)) }
     {
+        let none = LeftOut::none(alloc);
         let mut near = Near::start();
         let mut references = Vec::new(alloc);
         // A class dump of 0 has edges, and 0 is no node.
-        known_edges(heap, &self.known, 0, &mut near, &mut references, set)?;
+        known_edges(heap, &self.known, 0, &none, &mut near, &mut references, set)?;
         let first = self.sources.start(id);
         let end = self.sources.end(id);
         let mut last = 0;
         for place in first..end {
             let from = self.sources.node_at(place).unwrap_or(last);
             if from != last {
-                known_edges(heap, &self.known, from, &mut near, &mut references, set)?;
+                known_edges(
+                    heap,
+                    &self.known,
+                    from,
+                    &none,
+                    &mut near,
+                    &mut references,
+                    set,
+                )?;
                 last = from;
             }
         }
@@ -79,7 +88,8 @@ pub fn index_referrers(alloc: Global, heap: &Heap) -> Result<ReferrerIndex, Allo
     ensures { IfOk result (IsIndexOf (size_of heap.now) (facts_of heap.now)) }
 {
     let nodes = Numbered::new(alloc, nodes_of(alloc, heap)?)?;
-    let mut graph = graph_of(alloc, heap)?;
+    let none = LeftOut::none(alloc);
+    let mut graph = graph_of(alloc, heap, &none)?;
     let sources = sources_of(alloc, &mut graph, nodes)?;
     let known = known_layouts(alloc, heap)?;
     Ok(ReferrerIndex { sources, known })

@@ -2,6 +2,7 @@
 //! the whole heap.
 #![tactic(auto)]
 
+mod chosen_edges;
 mod from_roots;
 mod heap_graph;
 mod index;
@@ -12,8 +13,9 @@ mod roots;
 mod starts;
 mod targets;
 
+pub use chosen_edges::{AllEdges, ChosenEdges, KeptEdges};
 pub use heap_graph::{HeapGraph, graph_of};
 pub use index::{ReferrerIndex, index_referrers};
 pub use nodes::nodes_of;
-pub use reach::{Reach, reach_of};
+pub use reach::{Reach, reach_of, reach_without};
 pub use roots::roots_of;

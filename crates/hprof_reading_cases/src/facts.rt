@@ -5,7 +5,7 @@ use hprof_devices::Device;
 use hprof_fixtures::Counting;
 use hprof_items::{
     Basic, ConstantList, Fact, FieldList, HEAD_LEN, HeadKind, IdList, IdSize, Reason, Root,
-    StaticList, Step, Stop, read_body, read_body_into, read_head, read_sub, read_sub_into,
+    StaticList, Stop, read_body, read_body_into, read_head, read_sub, read_sub_into,
 };
 use hprof_writing::{fits, spelled_len, write_fact};
 use std::alloc::Global;
@@ -43,7 +43,7 @@ fn facts_in_one_place(rt: HostRuntime) {
 
 // The fact of a record, whose bytes these are. It is the same by itself and in a place.
 fn record_in<'a>(bytes: &'a [u8], ids: IdSize) -> Option<Fact<'a>> {
-    let Step::Whole(head, _) = read_head(bytes, ids, u32::MAX) else {
+    let Ok((head, _)) = read_head(bytes, ids, u32::MAX) else {
         return None;
     };
     let HeadKind::FactRecord = head.kind() else {
@@ -66,7 +66,7 @@ fn record_in<'a>(bytes: &'a [u8], ids: IdSize) -> Option<Fact<'a>> {
 // The fact of a sub-record, whose bytes these are.
 fn sub_in<'a>(bytes: &'a [u8], ids: IdSize) -> Option<Fact<'a>> {
     match read_sub(bytes, 1_000, 1_000, ids) {
-        Step::Whole(fact, len) if len == bytes.len() => Some(fact),
+        Ok((fact, len)) if len == bytes.len() => Some(fact),
         _ => None,
     }
 }

@@ -21,6 +21,7 @@ pub fn call_each() {
     hprof_text::laws::one_printed_form();
     hprof_text::laws::digits_are_shortest();
     hprof_text::laws::digits_are_taken();
+    hprof_text::laws::one_number_of_a_text();
     hprof_values::laws::roots_in_order();
     hprof_values::laws::fields_end_or_stop();
     hprof_values::laws::one_list();

@@ -1,5 +1,6 @@
-//! Tests of the crates that read parts, and of hprof_tables and hprof_search, through public calls: types, lists and iterators, pushes and
-//! pulls, a reader that is fed in pieces, and tables of rows. Tests that fit one line are in the table of hprof_worked.
+//! Tests of the crates that read parts, and of hprof_tables, hprof_byte_tables and hprof_search, through public calls: types, lists and
+//! iterators, pushes and pulls, a reader that is fed in pieces, and tables of rows. Tests that fit one line are in the table of
+//! hprof_worked.
 #![tactic(auto)]
 
 #[cfg(test)]
@@ -8,6 +9,8 @@ mod devices;
 mod expecting;
 #[cfg(test)]
 mod facts;
+#[cfg(test)]
+mod floats;
 #[cfg(test)]
 mod graphs;
 pub mod laws;

@@ -1,8 +1,9 @@
 //! Tables of rows, and maps with hints.
 
 use crate::expecting::{equal, holds};
+use hprof_byte_tables::BytesTable;
 use hprof_rows::LoadRow;
-use hprof_tables::{BytesTable, Content, HintedMap, Relation, Stated};
+use hprof_tables::{Content, HintedMap, Relation, Stated};
 use std::alloc::{AllocError, Global};
 use std::process::Abort;
 use std::test::*;

@@ -11,7 +11,7 @@ ghost use Rattle.hprof_reports.specs.StepLines.{IsStepLine, edge_line};
 use crate::field_names::FieldNames;
 use crate::place_names::place_name;
 use crate::refs::via_word;
-use hprof_edges::{Edge, Near, least_edge};
+use hprof_edges::{Edge, LeftOut, Near, least_edge};
 use hprof_heap::{Heap, holds_of_heap};
 use hprof_layouts::{KnownLayouts, Reference};
 use hprof_naming::name_text;
@@ -80,6 +80,7 @@ pub(crate) fn step_line(
         known,
         from,
         to,
+        &LeftOut::none(alloc),
         &mut steps.near,
         &mut steps.references,
     )?;

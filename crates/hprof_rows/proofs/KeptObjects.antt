@@ -24,7 +24,7 @@ use Rattle.hprof_items.specs.Spelling.{Fits}
 use Rattle.hprof_items.specs.SubRecord.{DumpFits, dump_bytes, tagged_bytes}
 use Rattle.hprof_values.proofs.EntryLists.{code_again}
 use Rattle.hprof_tables.specs.Relation.{States}
-use Rattle.hprof_tables.specs.Spans.{the_bytes}
+use Rattle.hprof_byte_tables.specs.Spans.{the_bytes}
 use Rattle.hprof_tables.specs.declared.relation.Stated.{Stated}
 use Rattle.hprof_rows.specs.Content.{content_of, object_fact, spelled_fact, IsRight}
 use Rattle.hprof_rows.specs.Kept.{without_id, with_id, KeepsObject, instance_kept, obj_array_kept, prim_array_kept}

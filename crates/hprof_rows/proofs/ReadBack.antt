@@ -6,7 +6,7 @@ use Rattle.hprof_items.specs.FactValue.{FactValue}
 use Rattle.hprof_items.specs.Spelling.{Fits}
 use Rattle.hprof_rows.specs.Content.{facts_of_rows, load_fact, unload_fact, trace_fact, start_fact, end_fact, spelled_fact, object_fact}
 use Rattle.hprof_rows.specs.Content.{IsRight, AreRight}
-use Rattle.hprof_tables.specs.Spans.{the_bytes}
+use Rattle.hprof_byte_tables.specs.Spans.{the_bytes}
 use Rattle.hprof_rows.specs.Facts.{Has, AllFit}
 use Rattle.hprof_rows.specs.HeapRows.{HeapRows, AreHeap, tables_of, no_content}
 use Rattle.hprof_rows.specs.NumberRows.{load_numbers, start_numbers}

@@ -4,7 +4,7 @@ use Rattle.std.specs.Prelude.{slice_index}
 use Rattle.hprof_values.specs.declared.ids.IdSize.{IdSize}
 use Rattle.hprof_values.specs.declared.root.Root.{Root}
 use Rattle.hprof_items.specs.FactValue.{FactValue, Rooted}
-use Rattle.hprof_tables.specs.Spans.{the_bytes}
+use Rattle.hprof_byte_tables.specs.Spans.{the_bytes}
 use Rattle.hprof_rows.specs.declared.table.Table.{Table}
 use Rattle.hprof_rows.specs.declared.table.Table.TheVariants as tables
 use Rattle.hprof_rows.specs.Content.{content_of, facts_of_rows, AreRight}

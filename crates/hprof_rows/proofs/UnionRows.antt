@@ -8,7 +8,7 @@ use Rattle.std.specs.Ordering.{is_lt}
 use Rattle.std.proofs.lemmas.Bool.{cases_order, ltb-true, lt-ltb, eq-eqb}
 use Rattle.hprof_values.specs.declared.ids.IdSize.{IdSize}
 use Rattle.hprof_items.specs.FactValue.{FactValue}
-use Rattle.hprof_tables.specs.Spans.{the_bytes}
+use Rattle.hprof_byte_tables.specs.Spans.{the_bytes}
 use Rattle.hprof_tables.specs.Relation.{contents_of}
 use Rattle.hprof_tables.specs.SortedRows.{AreKeys, row_at, IsAscending}
 use Rattle.hprof_tables.specs.Union.{AreUnion}

@@ -11,7 +11,7 @@ use Rattle.hprof_items.specs.FactValue.{PrimArray}
 use Rattle.hprof_tables.specs.declared.relation.Stated.{Stated}
 use Rattle.hprof_tables.specs.Relation.{States, contents_of}
 use Rattle.hprof_tables.specs.SideBySide.{IsFirstDifference, LacksOne}
-use Rattle.hprof_tables.specs.Spans.{the_bytes}
+use Rattle.hprof_byte_tables.specs.Spans.{the_bytes}
 use Rattle.hprof_tables.specs.Union.{AreUnion}
 use Rattle.hprof_rows.specs.declared.key.Key.{Key}
 use Rattle.hprof_rows.specs.declared.key.Key.TheVariants as keys

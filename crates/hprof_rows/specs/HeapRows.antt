@@ -11,7 +11,7 @@ use Rattle.hprof_rows.specs.declared.number_rows.StartRow.{StartRow}
 use Rattle.hprof_rows.specs.declared.number_rows.KeyRow.{KeyRow}
 use Rattle.hprof_rows.specs.Content.{load_fact, unload_fact, frame_fact, trace_fact, start_fact, end_fact, spelled_fact, object_fact, facts_of_rows}
 use Rattle.hprof_rows.specs.Content.{IsRight, AreRight}
-use Rattle.hprof_tables.specs.Spans.{the_bytes}
+use Rattle.hprof_byte_tables.specs.Spans.{the_bytes}
 use Rattle.hprof_rows.specs.HeapValue.{HeapValue, IsHeap, IsHeap-prop}
 use Rattle.hprof_rows.specs.NumberRows.{load_numbers, frame_numbers, start_numbers}
 use Rattle.hprof_tables.specs.Relation.{contents_of}

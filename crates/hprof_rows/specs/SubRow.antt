@@ -10,7 +10,7 @@ use Rattle.hprof_items.specs.Spelling.{Fits}
 use Rattle.hprof_rows.specs.declared.sub_row.SubRow.{SubRow}
 use Rattle.hprof_rows.specs.declared.sub_row.SubRow.TheVariants as rows
 use Rattle.hprof_rows.specs.Content.{spelled_fact, object_fact}
-use Rattle.hprof_tables.specs.Spans.{the_bytes}
+use Rattle.hprof_byte_tables.specs.Spans.{the_bytes}
 use Rattle.hprof_rows.specs.Fitting.{Fits-prop}
 use Rattle.hprof_rows.specs.HeapRows.{root_facts, spelled_facts, object_facts}
 use Rattle.hprof_rows.specs.TableRows.{IsSpelled, AreSpelled, AreSpelled-prop, IsObject, AreObjects, AreObjects-prop, all-prop}

@@ -5,7 +5,7 @@ use Rattle.hprof_values.specs.declared.ids.IdSize.{IdSize}
 use Rattle.hprof_items.specs.FactValue.{FactValue}
 use Rattle.hprof_rows.specs.declared.sub_row.SubRow.{SubRow}
 use Rattle.hprof_rows.specs.declared.sub_rows.SubRows.{SubRows}
-use Rattle.hprof_tables.specs.BytesTable.{byte_rows_left}
+use Rattle.hprof_byte_tables.specs.BytesTable.{byte_rows_left}
 use Rattle.hprof_rows.specs.SubRow.{sub_fact, IsWritable, facts_of_subs}
 
 -- the facts of those that are still to come

@@ -8,12 +8,12 @@ use Rattle.hprof_items.specs.FactValue.{FactValue}
 use Rattle.hprof_rows.specs.declared.table_rows.TableRows.{TableRows}
 use Rattle.hprof_rows.specs.declared.table_rows.TableRows.TheVariants as tables
 use Rattle.hprof_rows.specs.Content.{spelled_fact, object_fact}
-use Rattle.hprof_tables.specs.Spans.{the_bytes}
+use Rattle.hprof_byte_tables.specs.Spans.{the_bytes}
 use Rattle.hprof_rows.specs.Fitting.{DumpFits-prop}
 use Rattle.hprof_rows.specs.HeapRows.{name_facts, load_facts, unload_facts, frame_facts, trace_facts, start_facts, end_facts, root_facts}
 use Rattle.hprof_rows.specs.HeapRows.{spelled_facts, object_facts}
 use Rattle.hprof_tables.specs.Rows.{rows_left}
-use Rattle.hprof_tables.specs.BytesTable.{byte_rows_left}
+use Rattle.hprof_byte_tables.specs.BytesTable.{byte_rows_left}
 use Rattle.hprof_rows.specs.Spelled.{Spells}
 use Rattle.hprof_rows.specs.Kept.{KeepsObject}
 use Rattle.hprof_rows.specs.Trace.{IsTrace}

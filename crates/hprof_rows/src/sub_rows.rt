@@ -1,10 +1,10 @@
 //! An iterator over the sub-records of a heap.
 
-ghost use Rattle.hprof_tables.specs.BytesTable.{byte_rows_left};
+ghost use Rattle.hprof_byte_tables.specs.BytesTable.{byte_rows_left};
 ghost use Rattle.hprof_rows.specs.SubRow.{AreWritable, AreWritable-prop, HasEnded, HasEnded-prop};
 
 use crate::sub_row::SubRow;
-use hprof_tables::BytesRows;
+use hprof_byte_tables::BytesRows;
 use hprof_values::{IdSize, Root};
 use std::collections::btree_set;
 

@@ -7,15 +7,16 @@ ghost use Rattle.hprof_items.specs.FactValue.{ListsHave, value_of};
 ghost use Rattle.hprof_rows.specs.HeapRows.{name_facts, load_facts, unload_facts, frame_facts, trace_facts, start_facts, end_facts};
 ghost use Rattle.hprof_rows.specs.HeapRows.{root_facts, spelled_facts, object_facts};
 ghost use Rattle.hprof_tables.specs.Rows.{rows_left};
-ghost use Rattle.hprof_tables.specs.BytesTable.{byte_rows_left};
+ghost use Rattle.hprof_byte_tables.specs.BytesTable.{byte_rows_left};
 ghost use Rattle.hprof_rows.specs.TableRows.{AreSerials, AreWhole, AreSpelled, AreObjects, AreReadable, facts_in_rows};
 
 use crate::kept::{kept_fact, kept_fact_into};
 use crate::number_rows::{FrameRow, KeyRow, LoadRow, StartRow};
 use crate::spelled::spelled_fact;
 use crate::trace::kept_trace;
+use hprof_byte_tables::BytesRows;
 use hprof_items::Fact;
-use hprof_tables::{BytesRows, Rows};
+use hprof_tables::Rows;
 use hprof_values::{IdSize, Root};
 use std::collections::btree_set;
 

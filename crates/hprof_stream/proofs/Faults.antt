@@ -1,13 +1,13 @@
 -- Bytes are split into items in one way, so the fault with which they are refused is one.
 use Rattle.std.proofs.Common.{◌≡◌, inl, inr, ℕ, true, false, eqb, List, [], ◌++◌, length, Option, Some, refl, sym, ap, subst, ◌∙◌}
-use Rattle.std.proofs.Common.{append_assoc, arith}
+use Rattle.std.proofs.Common.{append_assoc, arith, Result, Ok, Err, is_ok}
 use Rattle.std.proofs.lemmas.Bool.{cases_Bool, eqb-true, both_ways, and_right}
 use Rattle.std.proofs.lemmas.List.{nil_from_length}
 use Rattle.hprof_values.specs.declared.reason.Reason.{Reason}
 use Rattle.hprof_values.specs.declared.reason.Reason.TheVariants.{Truncated}
 use Rattle.hprof_items.specs.declared.header.Header.{Header}
-use Rattle.hprof_items.specs.declared.step.Step.{Step}
-use Rattle.hprof_items.specs.declared.step.Step.TheVariants.{Whole, Short, TooLong, Fault}
+use Rattle.hprof_values.specs.declared.stop.Stop.{Stop}
+use Rattle.hprof_values.specs.declared.stop.Stop.TheVariants.{Short, TooLong, Fault}
 use Rattle.hprof_items.specs.FactValue.{FactValue}
 use Rattle.hprof_values.proofs.Numbers.{same_parts}
 use Rattle.hprof_items.proofs.Steps.{whole_parts}
@@ -16,7 +16,7 @@ use Rattle.hprof_stream.specs.declared.part_fault.PartFault.TheVariants.{Malform
 use Rattle.hprof_stream.specs.Part.{Stated, all_bytes, all_facts}
 use Rattle.hprof_stream.specs.Item.{Place, Start, Between, Within, Found, header_before, may_end, AreItems, none, more, records_begun}
 use Rattle.hprof_stream.specs.Item.{begun_at, IsItem, item_at}
-use Rattle.hprof_stream.specs.Fault.{Splits, is_whole, fault_at, is_done, HasNoFault, IsFirstFault, is_lasting, is_settled}
+use Rattle.hprof_stream.specs.Fault.{Splits, fault_at, is_done, HasNoFault, IsFirstFault, is_lasting, is_settled}
 use Rattle.hprof_stream.specs.Fault.{HasNoSettledFault, StatesSoFar}
 use Rattle.hprof_stream.proofs.Items.{item_again}
 use Rattle.hprof_stream.proofs.Refusals.{item_none, item_lasting}
@@ -26,9 +26,9 @@ use Rattle.hprof_stream.proofs.ItemLists.{AreItems-then, all_bytes-then}
 
 -- bytes that begin with an item are whole there
 front_is_whole : (longest : ℕ) (from mid : Place) (one : Stated) (behind bytes : List ℕ) → IsItem longest from one mid
-    → one.bytes ++ behind ≡ bytes → is_whole (item_at longest from bytes) ≡ true
+    → one.bytes ++ behind ≡ bytes → is_ok (item_at longest from bytes) ≡ true
 front_is_whole longest from mid one behind bytes is e =
-    ap (λ (b : List ℕ). is_whole (item_at longest from b)) (sym e) ∙ ap is_whole (item_again longest from mid one behind is)
+    ap (λ (b : List ℕ). is_ok (item_at longest from b)) (sym e) ∙ ap is_ok (item_again longest from mid one behind is)
 
 -- two items at the front of the same bytes are one
 pub item_once : (longest : ℕ) (from mid next : Place) (one two : Stated) (rest others : List ℕ) → IsItem longest from one mid
@@ -37,7 +37,7 @@ pub item_once : (longest : ℕ) (from mid next : Place) (one two : Stated) (rest
 item_once longest from mid next one two rest others is is_too e =
     let left : Found = record { next = mid; facts = one.facts } in
     let right : Found = record { next = next; facts = two.facts } in
-    let same : Whole left (length one.bytes) ≡ Whole right (length two.bytes) =
+    let same : Ok (left, length one.bytes) ≡ Ok (right, length two.bytes) =
     sym (item_again longest from mid one rest is) ∙ ap (item_at longest from) e ∙ item_again longest from next two others is_too in
     let parts = whole_parts left right (length one.bytes) (length two.bytes) same in
     let bytes = same_parts one.bytes rest two.bytes others parts.1 e in
@@ -50,8 +50,8 @@ item_once longest from mid next one two rest others is is_too e =
 -- items and a rest that does not begin with one are found in one way
 pub items_once : (longest : ℕ) (from to end : Place) (items others : List Stated) (rest left : List ℕ) → AreItems longest from items to
     → AreItems longest from others end
-    → all_bytes items ++ rest ≡ all_bytes others ++ left → is_whole (item_at longest to rest) ≡ false
-    → is_whole (item_at longest end left) ≡ false
+    → all_bytes items ++ rest ≡ all_bytes others ++ left → is_ok (item_at longest to rest) ≡ false
+    → is_ok (item_at longest end left) ≡ false
     → (items ≡ others) × (to ≡ end) × (rest ≡ left)
 items_once longest from to end items others rest left none none e stops stops_too = (refl, refl, e)
 items_once longest from to end items others rest left none (more {mid = mid} {one = one} {items = behind} first next) e stops stops_too =
@@ -71,7 +71,7 @@ items_once longest from to end items others rest left (more {mid = mid} {one = o
 -- bytes are split in one way
 pub splits_once : (longest : ℕ) (bytes : List ℕ) (items others : List Stated) (place end : Place) (rest left : List ℕ)
     → Splits longest bytes items place rest → Splits longest bytes others end left
-    → is_whole (item_at longest place rest) ≡ false → is_whole (item_at longest end left) ≡ false
+    → is_ok (item_at longest place rest) ≡ false → is_ok (item_at longest end left) ≡ false
     → (items ≡ others) × (place ≡ end) × (rest ≡ left)
 splits_once longest bytes items others place end rest left one two stops stops_too =
     items_once longest Start place end items others rest left one.each two.each (sym one.parts ∙ two.parts) stops stops_too
@@ -111,11 +111,9 @@ Splits-then longest bytes piece items others place to held rest splits are parts
 -- ---- one fault
 
 -- where a step is at fault it is not whole
-fault_stops : (offset : ℕ) (step : Step Found) (fault : PartFault) → fault_at offset step ≡ Some fault → is_whole step ≡ false
-fault_stops offset (Whole found n) fault e = absurd cc
-fault_stops offset Short fault e = refl
-fault_stops offset TooLong fault e = refl
-fault_stops offset (Fault reason) fault e = refl
+fault_stops : (offset : ℕ) (step : Result (Found × ℕ) Stop) (fault : PartFault) → fault_at offset step ≡ Some fault → is_ok step ≡ false
+fault_stops offset (Ok (found, n)) fault e = absurd cc
+fault_stops offset (Err stop) fault e = refl
 
 -- the first fault is one
 pub first_fault_once : (longest : ℕ) (bytes : List ℕ) (one two : PartFault) → IsFirstFault longest bytes one
@@ -132,8 +130,8 @@ first_fault_once longest bytes one two first second =
     cc
 
 -- where nothing is left nothing is whole
-pub none_stops : (longest : ℕ) (place : Place) → is_whole (item_at longest place []) ≡ false
-none_stops longest place = ap is_whole (item_none longest place)
+pub none_stops : (longest : ℕ) (place : Place) → is_ok (item_at longest place []) ≡ false
+none_stops longest place = ap is_ok (item_none longest place)
 
 -- where a part may end and nothing is left, it is done
 done_at : (place : Place) → may_end place ≡ true → is_done place [] ≡ true
@@ -152,21 +150,21 @@ no_fault_no_first longest bytes fault sound first =
     both_ways (is_done first.place first.rest) first.undone done
 
 -- a fault of an item that only lacks bytes is settled by none
-short_fault : (offset : ℕ) (fault : PartFault) → fault_at offset Short ≡ Some fault → is_settled fault ≡ false
+short_fault : (offset : ℕ) (fault : PartFault) → fault_at offset (Err Short) ≡ Some fault → is_settled fault ≡ false
 short_fault offset fault e = let same : Malformed offset Truncated ≡ fault = cc in ap is_settled (sym same)
 
 -- where the rest only lacks bytes, no fault is settled
 pub short_unsettled : (longest : ℕ) (bytes : List ℕ) (items : List Stated) (place : Place) (rest : List ℕ)
-    → Splits longest bytes items place rest → item_at longest place rest ≡ Short → HasNoSettledFault longest bytes
+    → Splits longest bytes items place rest → item_at longest place rest ≡ Err Short → HasNoSettledFault longest bytes
 short_unsettled longest bytes items place rest splits short fault first =
-    let same = splits_once longest bytes items first.items place first.place rest first.rest splits first.splits (ap is_whole short)
+    let same = splits_once longest bytes items first.items place first.place rest first.rest splits first.splits (ap is_ok short)
     (fault_stops _ _ fault first.fails) in
-    let here : item_at longest first.place first.rest ≡ Short =
+    let here : item_at longest first.place first.rest ≡ Err Short =
     ap (λ (p : Place). item_at longest p first.rest) (sym same.1) ∙ ap (item_at longest place) (sym same.2) ∙ short in
     short_fault (length (all_bytes first.items)) fault (ap (fault_at (length (all_bytes first.items))) (sym here) ∙ first.fails)
 
 -- what is refused is not done
-pub refused_undone : (longest : ℕ) (place : Place) (rest : List ℕ) → (item_at longest place rest ≡ Short → ⊥) → is_done place rest ≡ false
+pub refused_undone : (longest : ℕ) (place : Place) (rest : List ℕ) → (item_at longest place rest ≡ Err Short → ⊥) → is_done place rest ≡ false
 refused_undone longest place rest never =
     elim (cases_Bool (eqb (length rest) 0)) [
       | inl nothing ↦ absurd (never (ap (item_at longest place) (nil_from_length rest (eqb-true (length rest) 0 nothing))
@@ -175,16 +173,16 @@ refused_undone longest place rest never =
     ]
 
 -- what is at fault does not only lack bytes
-fault_is_long : (reason : Reason) (step : Step Found) → step ≡ Fault reason → step ≡ Short → ⊥
+fault_is_long : (reason : Reason) (step : Result (Found × ℕ) Stop) → step ≡ Err (Fault reason) → step ≡ Err Short → ⊥
 fault_is_long reason step e short = cc
 
 -- what is too long does not only lack bytes
-too_long_is_long : (step : Step Found) → step ≡ TooLong → step ≡ Short → ⊥
+too_long_is_long : (step : Result (Found × ℕ) Stop) → step ≡ Err TooLong → step ≡ Err Short → ⊥
 too_long_is_long step e short = cc
 
 -- an item at fault is a first fault, and settled
 pub fault_is_first : (longest : ℕ) (bytes : List ℕ) (items : List Stated) (place : Place) (rest : List ℕ) (reason : Reason)
-    → Splits longest bytes items place rest → item_at longest place rest ≡ Fault reason
+    → Splits longest bytes items place rest → item_at longest place rest ≡ Err (Fault reason)
     → IsFirstFault longest bytes (Malformed (length (all_bytes items)) reason) × (is_lasting reason ≡ true)
 fault_is_first longest bytes items place rest reason splits e = (
   record {
@@ -200,7 +198,7 @@ fault_is_first longest bytes items place rest reason splits e = (
 
 -- an item that is too long is a first fault
 pub too_long_is_first : (longest : ℕ) (bytes : List ℕ) (items : List Stated) (place : Place) (rest : List ℕ)
-    → Splits longest bytes items place rest → item_at longest place rest ≡ TooLong
+    → Splits longest bytes items place rest → item_at longest place rest ≡ Err TooLong
     → IsFirstFault longest bytes (ItemTooLong (length (all_bytes items)))
 too_long_is_first longest bytes items place rest splits e =
     record {

@@ -1,10 +1,10 @@
 -- What is refused while a piece is fed, and what is kept.
 use Rattle.std.proofs.Common.{◌≡◌, ◌⊎◌, ℕ, ◌<◌, ◌≤◌, Bool, true, false, List, [], ◌++◌, length, take}
-use Rattle.std.proofs.Common.{Option, Some, Result, Ok, Err, inl, inr, refl, sym, ap, subst, ◌∙◌, append_assoc, arith}
+use Rattle.std.proofs.Common.{Option, Some, Result, Ok, Err, inl, inr, refl, sym, ap, subst, ◌∙◌, append_assoc, arith, is_ok}
 use Rattle.std.specs.Prelude.{OnOk, OnErr}
 use Rattle.std.specs.Result.{is_err}
 use Rattle.hprof_items.specs.declared.header.Header.{Header}
-use Rattle.hprof_items.specs.declared.step.Step.TheVariants.{Short, TooLong, Fault}
+use Rattle.hprof_values.specs.declared.stop.Stop.TheVariants.{Short, TooLong, Fault}
 use Rattle.hprof_items.specs.FactValue.{FactValue}
 use Rattle.hprof_stream.specs.declared.limits.Limits.{Limits}
 use Rattle.hprof_stream.specs.declared.part_fault.PartFault.{PartFault}
@@ -15,7 +15,7 @@ use Rattle.hprof_stream.specs.declared.rest.Rest.{Rest}
 use Rattle.hprof_stream.specs.declared.sink.SinkFault.{SinkFault}
 use Rattle.hprof_stream.specs.Item.{Place, IsItem}
 use Rattle.hprof_stream.specs.Item.{held_of, item_at}
-use Rattle.hprof_stream.specs.Fault.{is_whole, IsFirstFault, HasNoSettledFault, is_settled}
+use Rattle.hprof_stream.specs.Fault.{IsFirstFault, HasNoSettledFault, is_settled}
 use Rattle.hprof_stream.specs.Progress.{place_of}
 use Rattle.hprof_stream.specs.Rest.{IsRest}
 use Rattle.hprof_stream.specs.Reader.{header_of, has_failed, HasRead, BeginsWhole, RanOver, RefusesLast, IsFeedFault, Feeds}
@@ -63,10 +63,10 @@ module _ {S : Type 0} (begins : S → Header → S → Type 0) (steps : S → Fa
   unfolding RanUpTo-walked
   IsFeedFault-stopped limits bytes whole facts before told at rest old mid new (faults.Malformed n reason) taken walked stays stop =
       let place : Place = place_of at in
-      let test : item_at limits.max_item place rest ≡ Fault reason =
-      subst (λ (l : Limits). item_at l.max_item place rest ≡ Fault reason) walked.has_limits stop.0 in
+      let test : item_at limits.max_item place rest ≡ Err (Fault reason) =
+      subst (λ (l : Limits). item_at l.max_item place rest ≡ Err (Fault reason)) walked.has_limits stop.0 in
       let first = fault_is_first limits.max_item whole walked.items place rest reason walked.splits test in
-      let ran = RanOver-walked begins steps limits whole facts before at rest old mid walked (ap is_whole test) in
+      let ran = RanOver-walked begins steps limits whole facts before at rest old mid walked (ap is_ok test) in
       subst (λ (b : List ℕ). (IsFirstFault limits.max_item b (faults.Malformed n reason) × (is_settled (faults.Malformed n reason) ≡ true))
       × RanOver begins steps limits.max_item b facts before told old new) taken (
         (subst (λ (k : ℕ). IsFirstFault limits.max_item whole (faults.Malformed k reason)) (sym (stop.1 ∙ walked.offset)) first.0, first.1),
@@ -75,10 +75,10 @@ module _ {S : Type 0} (begins : S → Header → S → Type 0) (steps : S → Fa
       )
   IsFeedFault-stopped limits bytes whole facts before told at rest old mid new (faults.ItemTooLong n) taken walked stays stop =
       let place : Place = place_of at in
-      let test : item_at limits.max_item place rest ≡ TooLong =
-      subst (λ (l : Limits). item_at l.max_item place rest ≡ TooLong) walked.has_limits stop.0 in
+      let test : item_at limits.max_item place rest ≡ Err TooLong =
+      subst (λ (l : Limits). item_at l.max_item place rest ≡ Err TooLong) walked.has_limits stop.0 in
       let first = too_long_is_first limits.max_item whole walked.items place rest walked.splits test in
-      let ran = RanOver-walked begins steps limits whole facts before at rest old mid walked (ap is_whole test) in
+      let ran = RanOver-walked begins steps limits whole facts before at rest old mid walked (ap is_ok test) in
       subst (λ (b : List ℕ). (IsFirstFault limits.max_item b (faults.ItemTooLong n) × (is_settled (faults.ItemTooLong n) ≡ true))
       × RanOver begins steps limits.max_item b facts before told old new) taken (
         (subst (λ (k : ℕ). IsFirstFault limits.max_item whole (faults.ItemTooLong k)) (sym (stop.1 ∙ walked.offset)) first, refl),
@@ -156,11 +156,11 @@ module _ {S : Type 0} (begins : S → Header → S → Type 0) (steps : S → Fa
       let place : Place = place_of at in
       let behind : List ℕ = on.0 ++ left in
       let walked = HasWalked-on begins steps limits bytes taken facts from at behind old new read on.1 in
-      let short : item_at limits.max_item place behind ≡ Short =
-      subst (λ (l : Limits). item_at l.max_item place behind ≡ Short) read.has_limits on.3 in
+      let short : item_at limits.max_item place behind ≡ Err Short =
+      subst (λ (l : Limits). item_at l.max_item place behind ≡ Err Short) read.has_limits on.3 in
       let over : RanOver begins steps limits.max_item (bytes ++ taken) facts (header_of from) told old new =
       subst (λ (h : Option Header). RanOver begins steps limits.max_item (bytes ++ taken) facts (header_of from) h old new) (sym tells)
-      (RanOver-walked begins steps limits (bytes ++ taken) facts (header_of from) at behind old new walked (ap is_whole short)) in
+      (RanOver-walked begins steps limits (bytes ++ taken) facts (header_of from) at behind old new walked (ap is_ok short)) in
       subst (λ (b : List ℕ). ((limits.max_bytes < length (bytes ++ piece)) × HasNoSettledFault limits.max_item b)
       × RanOver begins steps limits.max_item b facts (header_of from) told old new) whole
       ((many, short_unsettled limits.max_item (bytes ++ taken) walked.items place behind walked.splits short), over)
@@ -179,7 +179,7 @@ out_of_memory fault e = cc
 abbrev pub KeepsLeft : Progress → Rest → (left : List ℕ) → Rest → Type 0
 KeepsLeft progress from left to =
     (still : List ℕ) → IsRest progress.limits.max_item (place_of progress) still from
-    → item_at progress.limits.max_item (place_of progress) (still ++ left) ≡ Short → (still ≡ []) ⊎ (left ≡ [])
+    → item_at progress.limits.max_item (place_of progress) (still ++ left) ≡ Err Short → (still ≡ []) ⊎ (left ≡ [])
     → IsRest progress.limits.max_item (place_of progress) (still ++ left) to
 
 -- there was no memory to hold it
@@ -202,16 +202,16 @@ module _ {S : Type 0} (begins : S → Header → S → Type 0) (steps : S → Fa
   walked : HasWalked begins steps limits (bytes ++ piece) facts (header_of from) at (on.0 ++ left) old new
   walked = HasWalked-on begins steps limits bytes piece facts from at (on.0 ++ left) old new read on.1
 
-  short : item_at limits.max_item (place_of at) (on.0 ++ left) ≡ Short
-  short = subst (λ (l : Limits). item_at l.max_item (place_of at) (on.0 ++ left) ≡ Short) read.has_limits on.3
+  short : item_at limits.max_item (place_of at) (on.0 ++ left) ≡ Err Short
+  short = subst (λ (l : Limits). item_at l.max_item (place_of at) (on.0 ++ left) ≡ Err Short) read.has_limits on.3
 
   -- it is kept
   keeps_left : KeepsLeft at rest left to.rest → IsRest limits.max_item (place_of at) (on.0 ++ left) to.rest
   keeps_left kept =
       let here : IsRest at.limits.max_item (place_of at) on.0 rest =
       subst (λ (l : Limits). IsRest l.max_item (place_of at) on.0 rest) (read.has_limits ∙ sym walked.has_limits) on.2 in
-      let still_short : item_at at.limits.max_item (place_of at) (on.0 ++ left) ≡ Short =
-      subst (λ (l : Limits). item_at l.max_item (place_of at) (on.0 ++ left) ≡ Short) (sym walked.has_limits) short in
+      let still_short : item_at at.limits.max_item (place_of at) (on.0 ++ left) ≡ Err Short =
+      subst (λ (l : Limits). item_at l.max_item (place_of at) (on.0 ++ left) ≡ Err Short) (sym walked.has_limits) short in
       subst (λ (l : Limits). IsRest l.max_item (place_of at) (on.0 ++ left) to.rest) walked.has_limits (kept on.0 here still_short on.4)
 
   pub Feeds-kept : (result : Result (Unit {0}) PartFault) → is_err result ≡ false → to.progress ≡ at → has_failed to ≡ false
@@ -235,7 +235,7 @@ module _ {S : Type 0} (begins : S → Header → S → Type 0) (steps : S → Fa
       subst (λ (l : Limits). 0 < length (held_of l.max_item (place_of at) (on.0 ++ left))) walked.has_limits (lacks.2 on.0 on.4) in
       let over : RanOver begins steps limits.max_item (bytes ++ piece) facts (header_of from) (header_of to) old new =
       subst (λ (h : Option Header). RanOver begins steps limits.max_item (bytes ++ piece) facts (header_of from) h old new) (sym tells)
-      (RanOver-walked begins steps limits (bytes ++ piece) facts (header_of from) at (on.0 ++ left) old new walked (ap is_whole short)) in (
+      (RanOver-walked begins steps limits (bytes ++ piece) facts (header_of from) at (on.0 ++ left) old new walked (ap is_ok short)) in (
         omega (arith, lacks.1, shorter),
         (
           inl (

@@ -1,6 +1,6 @@
 -- What a reader knows of the facts, and the runs of its sink from where reading began.
 use Rattle.std.proofs.Common.{◌≡◌, ℕ, Bool, ◌<◌, List, [], ◌++◌, length, take, Option, Some, None}
-use Rattle.std.proofs.Common.{refl, sym, ap, subst, ◌∙◌, arith}
+use Rattle.std.proofs.Common.{refl, sym, ap, subst, ◌∙◌, arith, is_ok}
 use Rattle.std.proofs.KnownBytes.{Consumes-nil, Consumes-trans}
 use Rattle.std.proofs.lemmas.List.{length-append, nil_from_length, take_all}
 use Rattle.std.specs.Io.KnownBytes.{Consumes}
@@ -11,7 +11,7 @@ use Rattle.hprof_stream.specs.declared.part_reader.PartReader.{PartReader}
 use Rattle.hprof_stream.specs.declared.sink.SinkFault.{SinkFault}
 use Rattle.hprof_stream.specs.Part.{Stated, all_bytes, all_facts}
 use Rattle.hprof_stream.specs.Item.{Place, Start, header_before, AreItems, none, more}
-use Rattle.hprof_stream.specs.Fault.{is_whole, StatesSoFar}
+use Rattle.hprof_stream.specs.Fault.{StatesSoFar}
 use Rattle.hprof_stream.specs.Progress.{place_of}
 use Rattle.hprof_stream.specs.Run.{Run}
 use Rattle.hprof_stream.specs.Reader.{header_of, HasRead, BeginsWhole, IsAcceptedSoFar, RanOver, RanUpTo, RefusesLast, IsPull, Pulled, none}
@@ -58,7 +58,7 @@ StatesSoFar-read limits bytes facts reader read = record {
   place = place_of reader.progress;
   rest = read.unfinished;
   splits = read.splits;
-  ends = ap is_whole read.keeps.short;
+  ends = ap is_ok read.keeps.short;
   has_header = header_at_place (header_of reader) reader.progress.room;
   has_facts = read.has_facts;
 }

@@ -1,13 +1,13 @@
 -- What a reader has read once it went on over more bytes.
 use Rattle.std.proofs.Common.{◌≡◌, ℕ, ◌+◌, ◌-◌, ◌<◌, ◌≤◌, Bool, true, false, cond, ◌||◌, List, [], ◌++◌, length}
-use Rattle.std.proofs.Common.{Option, Some, None, refl, sym, ap, subst, ◌∙◌, arith}
+use Rattle.std.proofs.Common.{Option, Some, None, refl, sym, ap, subst, ◌∙◌, arith, Result, Ok, Err, is_ok}
 use Rattle.std.proofs.lemmas.List.{length-append}
 use Rattle.std.proofs.lemmas.List.Folds.{list_any-append}
 use Rattle.std.specs.List.{list_any}
 use Rattle.hprof_items.specs.declared.header.Header.{Header}
 use Rattle.hprof_items.specs.declared.head.Head.{Head}
-use Rattle.hprof_items.specs.declared.step.Step.{Step}
-use Rattle.hprof_items.specs.declared.step.Step.TheVariants.{Whole, Short, TooLong, Fault}
+use Rattle.hprof_values.specs.declared.stop.Stop.{Stop}
+use Rattle.hprof_values.specs.declared.stop.Stop.TheVariants.{Short, TooLong, Fault}
 use Rattle.hprof_items.specs.FactValue.{FactValue}
 use Rattle.hprof_items.specs.Head.{kind_of}
 use Rattle.hprof_items.specs.Reading.{head_at}
@@ -18,7 +18,7 @@ use Rattle.hprof_stream.specs.declared.rest.Rest.{Rest}
 use Rattle.hprof_stream.specs.Part.{Stated, all_bytes, all_facts, is_end}
 use Rattle.hprof_stream.specs.Item.{Place, Start, Between, Within, header_before, IsItem, AreItems, none, records_begun, is_skipped_kind}
 use Rattle.hprof_stream.specs.Item.{is_skipped_head, held_of, item_at}
-use Rattle.hprof_stream.specs.Fault.{Splits, is_whole}
+use Rattle.hprof_stream.specs.Fault.{Splits}
 use Rattle.hprof_stream.specs.Progress.{start_of, place_of}
 use Rattle.hprof_stream.specs.Rest.{passing_by, passing_of, IsWalkOf, IsRest, passed_len, rest_len}
 use Rattle.hprof_stream.specs.Run.{Run, became}
@@ -37,12 +37,10 @@ kept_if : (test : Bool) (left : ℕ) (bytes : List ℕ)
 kept_if true left bytes = omega arith
 kept_if false left bytes = omega arith
 
-kept_behind : (step : Step Head) (bytes : List ℕ)
+kept_behind : (step : Result (Head × ℕ) Stop) (bytes : List ℕ)
     → passed_len (passing_by step (length bytes)) + length (cond (is_skipped_head step) [] bytes) ≡ length bytes
-kept_behind (Whole head n) bytes = kept_if (is_skipped_kind (kind_of head.tag)) (9 + head.length - length bytes) bytes
-kept_behind Short bytes = omega arith
-kept_behind TooLong bytes = omega arith
-kept_behind (Fault reason) bytes = omega arith
+kept_behind (Ok (head, n)) bytes = kept_if (is_skipped_kind (kind_of head.tag)) (9 + head.length - length bytes) bytes
+kept_behind (Err stop) bytes = omega arith
 
 kept_at : (longest : ℕ) (place : Place) (bytes : List ℕ) → passed_len (passing_of longest place bytes) + length
     (held_of longest place bytes) ≡ length bytes
@@ -153,7 +151,7 @@ module _ {S : Type 0} (begins : S → Header → S → Type 0) (steps : S → Fa
       (old new : S)
       (walked : HasWalked limits bytes facts before to rest old new) where
     -- a rest that does not begin with an item: the sink ran over all that is whole
-    pub RanOver-walked : is_whole (item_at limits.max_item (place_of to) rest) ≡ false
+    pub RanOver-walked : is_ok (item_at limits.max_item (place_of to) rest) ≡ false
         → RanOver begins steps limits.max_item bytes facts before to.header old new
     RanOver-walked stops = record {
       handed = walked.handed;
@@ -197,7 +195,7 @@ module _ {S : Type 0} (begins : S → Header → S → Type 0) (steps : S → Fa
         )
 
     -- the rest needs more bytes, and some of it is to be held
-    pub IsWithinItem-walked : item_at limits.max_item (place_of to) rest ≡ Short
+    pub IsWithinItem-walked : item_at limits.max_item (place_of to) rest ≡ Err Short
         → 0 < length (held_of limits.max_item (place_of to) rest) → IsWithinItem limits.max_item bytes
     IsWithinItem-walked short some = (
       length (held_of limits.max_item (place_of to) rest),

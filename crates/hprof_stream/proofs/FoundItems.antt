@@ -15,8 +15,6 @@ use Rattle.hprof_items.specs.declared.header.Header.{Header}
 use Rattle.hprof_items.specs.declared.head.Head.{Head}
 use Rattle.hprof_items.specs.declared.head.HeadKind.{HeadKind}
 use Rattle.hprof_items.specs.declared.head.HeadKind.TheVariants.{FactRecord, HeapDump, DumpEnd, Skipped}
-use Rattle.hprof_items.specs.declared.step.Step.{Step}
-use Rattle.hprof_items.specs.declared.step.Step.TheVariants.{Whole, Short, TooLong, Fault}
 use Rattle.hprof_items.specs.FactValue.{FactValue}
 use Rattle.hprof_items.specs.Header.{header_bytes}
 use Rattle.hprof_items.specs.Head.{kind_of, head_bytes, record_bytes}
@@ -25,11 +23,12 @@ use Rattle.hprof_items.specs.RecordBody.{is_legal_body, record_body, record_at}
 use Rattle.hprof_items.specs.Spelling.{longest_body}
 use Rattle.hprof_items.specs.SubRecord.{dump_bytes, sub_at, IsSubOf}
 use Rattle.hprof_items.specs.SubReading.{bounds_within}
-use Rattle.hprof_items.proofs.Steps.{long_enough, whole_parts, short_is_not_whole, too_long_is_not_whole, fault_is_not_whole}
+use Rattle.hprof_items.proofs.Steps.{long_enough, whole_parts}
 use Rattle.hprof_items.proofs.Headers.{header_found}
 use Rattle.hprof_items.proofs.Heads.{head_found, fact_head}
 use Rattle.hprof_items.proofs.RecordBodies.{record_found}
 use Rattle.hprof_items.proofs.Dumps.{sub_found}
+use Rattle.hprof_items.proofs.Steps.{whole_parts}
 use Rattle.hprof_stream.specs.Record.{IsFactRecord, IsEndRecord, IsSubFact, IsSkippedRecord}
 use Rattle.hprof_stream.specs.Part.{Stated}
 use Rattle.hprof_stream.specs.Item.{Place, Start, Between, Within, place_in, Found, IsItem, is_header, is_fact, is_dump_end, is_dump}
@@ -41,26 +40,23 @@ use Rattle.hprof_stream.proofs.Lengths.{length-header}
 -- ---- answers
 
 -- a header that was found
-header_step : (step : Step Header) (found : Found) (n : ℕ) → found_header step ≡ Whole found n
-    → (header : Header) × (step ≡ Whole header n) × (record { next = Between header; facts = [] } ≡ found)
-header_step (Whole header m) found n e = (header, cc, cc)
-header_step Short found n e = absurd (short_is_not_whole found n e)
-header_step TooLong found n e = absurd (too_long_is_not_whole found n e)
-header_step (Fault reason) found n e = absurd (fault_is_not_whole reason found n e)
+header_step : (step : Result (Header × ℕ) Stop) (found : Found) (n : ℕ) → found_header step ≡ Ok (found, n)
+    → (header : Header) × (step ≡ Ok (header, n)) × (record { next = Between header; facts = [] } ≡ found)
+header_step (Ok (header, m)) found n e =
+    let parts = whole_parts _ found m n e in (header, ap (λ (end : ℕ). Ok (header, end)) parts.1, parts.0)
+header_step (Err stop) found n e = absurd cc
 
 -- a head that was found
-head_step : (header : Header) (step : Step Head) (bytes : List ℕ) (found : Found) (n : ℕ) → found_behind header step bytes ≡ Whole found n
-    → (head : Head) × (m : ℕ) × (step ≡ Whole head m) × (found_record header (kind_of head.tag) head bytes ≡ Whole found n)
-head_step header (Whole head m) bytes found n e = (head, m, refl, e)
-head_step header Short bytes found n e = absurd (short_is_not_whole found n e)
-head_step header TooLong bytes found n e = absurd (too_long_is_not_whole found n e)
-head_step header (Fault reason) bytes found n e = absurd (fault_is_not_whole reason found n e)
+head_step : (header : Header) (step : Result (Head × ℕ) Stop) (bytes : List ℕ) (found : Found) (n : ℕ) → found_behind header step bytes ≡ Ok (found, n)
+    → (head : Head) × (m : ℕ) × (step ≡ Ok (head, m)) × (found_record header (kind_of head.tag) head bytes ≡ Ok (found, n))
+head_step header (Ok (head, m)) bytes found n e = (head, m, refl, e)
+head_step header (Err stop) bytes found n e = absurd cc
 
 -- a fact that was found
-fact_step : (header : Header) (read : Result FactValue Reason) (m : ℕ) (found : Found) (n : ℕ) → found_fact header read m ≡ Whole found n
+fact_step : (header : Header) (read : Result FactValue Reason) (m : ℕ) (found : Found) (n : ℕ) → found_fact header read m ≡ Ok (found, n)
     → (fact : FactValue) × (read ≡ Ok fact) × (m ≡ n) × (record { next = Between header; facts = fact ∷ [] } ≡ found)
-fact_step header (Ok fact) m found n e = (fact, refl, cc, cc)
-fact_step header (Err reason) m found n e = absurd (fault_is_not_whole reason found n e)
+fact_step header (Ok fact) m found n e = let parts = whole_parts _ found m n e in (fact, refl, parts.1, parts.0)
+fact_step header (Err reason) m found n e = absurd cc
 
 -- what a sub-record leads to
 abbrev pub behind_sub : Header → ℕ → FactValue → ℕ → Found
@@ -68,16 +64,14 @@ behind_sub header room fact n = record { next = place_in header (room - n); fact
 
 -- a sub-record that was found
 pub sub_step : (header : Header) (room : ℕ) (read : Result (FactValue × ℕ) Stop) (found : Found) (n : ℕ)
-    → found_sub header room read ≡ Whole found n
+    → found_sub header room read ≡ Ok (found, n)
     → (fact : FactValue) × (read ≡ Ok (fact, n)) × (behind_sub header room fact n ≡ found)
 sub_step header room (Ok read) found n e =
     let same = whole_parts (behind_sub header room read.0 read.1) found read.1 n e in
     let same_read : Result (FactValue × ℕ) Stop = Ok read in
     subst (λ (m : ℕ). (fact : FactValue) × (same_read ≡ Ok (fact, m)) × (behind_sub header room fact m ≡ found)) same.1
     (read.0, refl, same.0)
-sub_step header room (Err stops.Short) found n e = absurd (short_is_not_whole found n e)
-sub_step header room (Err stops.TooLong) found n e = absurd (too_long_is_not_whole found n e)
-sub_step header room (Err (stops.Fault reason)) found n e = absurd (fault_is_not_whole reason found n e)
+sub_step header room (Err stop) found n e = absurd cc
 
 -- bytes that have a front of that length
 front_parts : (front bytes : List ℕ) (n : ℕ) → length front ≡ n → bytes ≡ front ++ drop n bytes
@@ -106,7 +100,7 @@ same_found longest place bytes made found m n e k is =
 
 -- a header that was found is an item
 pub found_header_item : (longest : ℕ) (bytes : List ℕ) (found : Found) (n : ℕ) → IsBytes bytes → found_header (header_at bytes)
-    ≡ Whole found n
+    ≡ Ok (found, n)
     → IsFound longest Start bytes found n
 found_header_item longest bytes found n are e =
     let step = header_step (header_at bytes) found n e in
@@ -146,7 +140,7 @@ IsHeaded head bytes = bytes ≡ head_bytes head.tag head.time head.length ++ dro
 -- a record of a fact that was found is an item
 found_fact_item : (longest : ℕ) (header : Header) (head : Head) (bytes : List ℕ) (found : Found) (n : ℕ) → IsBytes bytes
     → kind_of head.tag ≡ FactRecord → IsRightHead header.ids longest head
-    → IsHeaded head bytes → found_record header FactRecord head bytes ≡ Whole found n → IsFound longest (Between header) bytes found n
+    → IsHeaded head bytes → found_record header FactRecord head bytes ≡ Ok (found, n) → IsFound longest (Between header) bytes found n
 found_fact_item longest header head bytes found n are kind right spelled e =
     let len : ℕ = head.length in
     let read : Result FactValue Reason = body_at header.ids head.tag (take len (drop 9 bytes)) in
@@ -163,7 +157,7 @@ found_fact_item longest header head bytes found n are kind right spelled e =
 -- the head of a heap dump that was found is an item
 found_dump_item : (longest : ℕ) (header : Header) (head : Head) (bytes : List ℕ) (found : Found) (n : ℕ) → kind_of head.tag ≡ HeapDump
     → IsRightHead header.ids longest head
-    → IsHeaded head bytes → found_record header HeapDump head bytes ≡ Whole found n → IsFound longest (Between header) bytes found n
+    → IsHeaded head bytes → found_record header HeapDump head bytes ≡ Ok (found, n) → IsFound longest (Between header) bytes found n
 found_dump_item longest header head bytes found n kind right spelled e =
     let made : Found = record { next = place_in header head.length; facts = [] } in
     let same = whole_parts made found 9 n e in
@@ -174,7 +168,7 @@ found_dump_item longest header head bytes found n kind right spelled e =
 -- a HEAP_DUMP_END that was found is an item
 found_end_item : (longest : ℕ) (header : Header) (head : Head) (bytes : List ℕ) (found : Found) (n : ℕ) → kind_of head.tag ≡ DumpEnd
     → IsRightHead header.ids longest head
-    → IsHeaded head bytes → found_record header DumpEnd head bytes ≡ Whole found n → IsFound longest (Between header) bytes found n
+    → IsHeaded head bytes → found_record header DumpEnd head bytes ≡ Ok (found, n) → IsFound longest (Between header) bytes found n
 found_end_item longest header head bytes found n kind right spelled e =
     let made : Found = record { next = Between header; facts = [] } in
     let same = whole_parts made found 9 n e in
@@ -191,12 +185,12 @@ found_end_item longest header head bytes found n kind right spelled e =
 -- a record that was passed over is an item
 found_skipped_item : (longest : ℕ) (header : Header) (head : Head) (bytes : List ℕ) (found : Found) (n : ℕ) → IsBytes bytes
     → kind_of head.tag ≡ Skipped → IsRightHead header.ids longest head
-    → IsHeaded head bytes → found_record header Skipped head bytes ≡ Whole found n → IsFound longest (Between header) bytes found n
+    → IsHeaded head bytes → found_record header Skipped head bytes ≡ Ok (found, n) → IsFound longest (Between header) bytes found n
 found_skipped_item longest header head bytes found n are kind right spelled e =
     let len : ℕ = head.length in
     let body : List ℕ = take len (drop 9 bytes) in
     let made : Found = record { next = Between header; facts = [] } in
-    let long = long_enough (length bytes) (9 + len) (Whole made (9 + len)) found n e in
+    let long = long_enough (length bytes) (9 + len) (Ok (made, 9 + len)) found n e in
     let same = whole_parts made found (9 + len) n long.1 in
     let size : length body ≡ len = omega (arith, long.0, length-take len (drop 9 bytes), length-drop 9 bytes) in
     let states : IsSkippedRecord (take (9 + len) bytes) = record {
@@ -216,7 +210,7 @@ found_skipped_item longest header head bytes found n are kind right spelled e =
 -- a record that was found is an item, by its kind
 found_kind_item : (longest : ℕ) (header : Header) (kind : HeadKind) (head : Head) (bytes : List ℕ) (found : Found) (n : ℕ) → IsBytes bytes
     → kind_of head.tag ≡ kind → IsRightHead header.ids longest head
-    → IsHeaded head bytes → found_record header kind head bytes ≡ Whole found n → IsFound longest (Between header) bytes found n
+    → IsHeaded head bytes → found_record header kind head bytes ≡ Ok (found, n) → IsFound longest (Between header) bytes found n
 found_kind_item longest header FactRecord head bytes found n are kind right spelled e =
     found_fact_item longest header head bytes found n are kind right spelled e
 found_kind_item longest header HeapDump head bytes found n are kind right spelled e =
@@ -228,7 +222,7 @@ found_kind_item longest header Skipped head bytes found n are kind right spelled
 
 -- a record that was found is an item
 pub found_record_item : (longest : ℕ) (header : Header) (bytes : List ℕ) (found : Found) (n : ℕ) → IsBytes bytes
-    → found_behind header (head_at header.ids longest bytes) bytes ≡ Whole found n
+    → found_behind header (head_at header.ids longest bytes) bytes ≡ Ok (found, n)
     → IsFound longest (Between header) bytes found n
 found_record_item longest header bytes found n are e =
     let step = head_step header (head_at header.ids longest bytes) bytes found n e in
@@ -240,7 +234,7 @@ found_record_item longest header bytes found n are e =
 -- a sub-record that was found is an item
 pub found_sub_item : (longest : ℕ) (header : Header) (room : ℕ) (bytes : List ℕ) (found : Found) (n : ℕ) → IsBytes bytes
     → room ≤ longest_body
-    → found_sub header room (sub_at header.ids (bounds_within room longest bytes) bytes) ≡ Whole found n
+    → found_sub header room (sub_at header.ids (bounds_within room longest bytes) bytes) ≡ Ok (found, n)
     → IsFound longest (Within header room) bytes found n
 found_sub_item longest header room bytes found n are small e =
     let step = sub_step header room (sub_at header.ids (bounds_within room longest bytes) bytes) found n e in

@@ -7,8 +7,8 @@ use Rattle.std.proofs.lemmas.List.{length-append, take-append-le, drop-append-le
 use Rattle.std.proofs.Math.Seq.{drop-append-add}
 use Rattle.hprof_values.specs.Ids.{IsBytes}
 use Rattle.hprof_items.specs.declared.header.Header.{Header}
-use Rattle.hprof_items.specs.declared.step.Step.{Step}
-use Rattle.hprof_items.specs.declared.step.Step.TheVariants.{Whole, Short}
+use Rattle.hprof_values.specs.declared.stop.Stop.{Stop}
+use Rattle.hprof_values.specs.declared.stop.Stop.TheVariants.{Short}
 use Rattle.hprof_items.specs.declared.walk.Walk.{Walk}
 use Rattle.hprof_items.specs.declared.walk.Walk.TheVariants.{Front}
 use Rattle.hprof_items.specs.FactValue.{FactValue}
@@ -38,7 +38,7 @@ use Rattle.hprof_stream.proofs.Holding.{IsWalkOf-front, IsRest-empty, some_not_n
 
 -- it is longer than what was there of it
 longer_if : (longest : ℕ) (place : Place) (front more : List ℕ) (found : Found) (n : ℕ) → HasRoom place → IsBytes (front ++ more)
-    → item_at longest place front ≡ Short → item_at longest place (front ++ more) ≡ Whole found n → (longer : Bool)
+    → item_at longest place front ≡ Err Short → item_at longest place (front ++ more) ≡ Ok (found, n) → (longer : Bool)
     → ltb (length front) n ≡ longer → length front < n
 longer_if longest place front more found n room are short e true is = ltb-true (length front) n is
 longer_if longest place front more found n room are short e false is =
@@ -48,11 +48,11 @@ longer_if longest place front more found n room are short e false is =
     let again = item_again longest place found.next one (drop n front) read.2 in
     let same : one.bytes ++ drop n front ≡ front = ap (λ (b : List ℕ). b ++ drop n front) (take-append-le n front more few)
     ∙ take-append-drop n front in
-    let now : Short ≡ item_at longest place (one.bytes ++ drop n front) = sym (ap (item_at longest place) same ∙ short) in
+    let now : Err Short ≡ item_at longest place (one.bytes ++ drop n front) = sym (ap (item_at longest place) same ∙ short) in
     absurd cc
 
 pub item_longer : (longest : ℕ) (place : Place) (front more : List ℕ) (found : Found) (n : ℕ) → HasRoom place → IsBytes (front ++ more)
-    → item_at longest place front ≡ Short → item_at longest place (front ++ more) ≡ Whole found n → length front < n
+    → item_at longest place front ≡ Err Short → item_at longest place (front ++ more) ≡ Ok (found, n) → length front < n
 item_longer longest place front more found n room are short e = longer_if longest place front more found n room are short e
     (ltb (length front) n) refl
 
@@ -212,8 +212,8 @@ module _ {S : Type 0} (begins : S → Header → S → Type 0) (steps : S → Fa
       → PassesOver mid front bytes to left rest)
       × (kept.passing ≡ None → (to ≡ mid) × (rest ≡ kept) × (left ≡ bytes))
 
-  abbrev skipped_to : Place → ℕ → Step Found
-  skipped_to place n = Whole (record { next = place; facts = [] }) n
+  abbrev skipped_to : Place → ℕ → Result (Found × ℕ) Stop
+  skipped_to place n = Ok (record { next = place; facts = [] }, n)
 
   skipped_room : (header : Option Header) (room : ℕ) → Stands (place_behind header room) items.Skipped → room ≤ longest_body
   skipped_room None room stands = absurd stands
@@ -328,7 +328,7 @@ module _ {S : Type 0} (begins : S → Header → S → Type 0) (steps : S → Fa
         let keeps = IsRest-none from.limits.max_item (place_of to) rest held passing
         (subst (λ (w : Walk). IsWalkOf from.limits.max_item (place_of to) [] w) (sym front_walk)
         (IsWalkOf-front from.limits.max_item (place_of to) [])) in
-        ([], whole, keeps, subst (λ (l : ℕ). item_at l (place_of to) last ≡ Short) same walk.1, inl refl)
+        ([], whole, keeps, subst (λ (l : ℕ). item_at l (place_of to) last ≡ Err Short) same walk.1, inl refl)
 
     -- or refused
     pub ReadsOn-refused : (fault : PartFault) → Halts begins steps refuses failed mid left between fault to new

@@ -11,8 +11,6 @@ use Rattle.hprof_values.specs.declared.stop.Stop.{Stop}
 use Rattle.hprof_values.specs.declared.stop.Stop.TheVariants as stops
 use Rattle.hprof_items.specs.declared.header.Header.{Header}
 use Rattle.hprof_items.specs.declared.head.Head.{Head}
-use Rattle.hprof_items.specs.declared.step.Step.{Step}
-use Rattle.hprof_items.specs.declared.step.Step.TheVariants.{Whole, Short, TooLong, Fault}
 use Rattle.hprof_items.specs.declared.walk.Walk.{Walk}
 use Rattle.hprof_items.specs.declared.walk.Walk.TheVariants.{Front, Entries}
 use Rattle.hprof_items.specs.FactValue.{FactValue}
@@ -75,7 +73,7 @@ module _ (longest : ℕ) (header : Header) (room : ℕ) (bytes : List ℕ) (from
       }
 
   pub walked_short : walked header.ids (bounds_within room longest bytes) bytes from ≡ Err stops.Short
-      → item_at longest (Within header room) bytes ≡ Short
+      → item_at longest (Within header room) bytes ≡ Err stops.Short
   unfolding walked item_at
   walked_short e =
       let whole : end_of_read (sub_at header.ids (bounds_within room longest bytes) bytes) ≡ Err stops.Short =
@@ -120,15 +118,13 @@ not_passing : (test : Bool) (bytes : List ℕ) (passing : Passing) → 0 < lengt
 not_passing true bytes passing some = absurd (omega (arith, some))
 not_passing false bytes passing some = refl
 
-none_by : (step : Step Head) (bytes : List ℕ) → 0 < length (cond (is_skipped_head step) [] bytes) → passing_by step (length bytes) ≡ None
-none_by (Whole head n) bytes some = not_passing (is_skipped_kind (kind_of head.tag)) bytes (record {
+none_by : (step : Result (Head × ℕ) Stop) (bytes : List ℕ) → 0 < length (cond (is_skipped_head step) [] bytes) → passing_by step (length bytes) ≡ None
+none_by (Ok (head, n)) bytes some = not_passing (is_skipped_kind (kind_of head.tag)) bytes (record {
   seen = length bytes;
   left =
       9 + head.length - length bytes;
 }) some
-none_by Short bytes some = refl
-none_by TooLong bytes some = refl
-none_by (Fault reason) bytes some = refl
+none_by (Err stop) bytes some = refl
 
 -- and it is not passed over
 pub held_not_passing : (longest : ℕ) (place : Place) (bytes : List ℕ) → 0 < length (held_of longest place bytes)
@@ -141,15 +137,13 @@ held_unless : (test : Bool) (bytes : List ℕ) (passing : Passing) → cond test
 held_unless true bytes passing e = absurd cc
 held_unless false bytes passing e = refl
 
-held_by : (step : Step Head) (bytes : List ℕ) → passing_by step (length bytes) ≡ None → cond (is_skipped_head step) [] bytes ≡ bytes
-held_by (Whole head n) bytes e = held_unless (is_skipped_kind (kind_of head.tag)) bytes (record {
+held_by : (step : Result (Head × ℕ) Stop) (bytes : List ℕ) → passing_by step (length bytes) ≡ None → cond (is_skipped_head step) [] bytes ≡ bytes
+held_by (Ok (head, n)) bytes e = held_unless (is_skipped_kind (kind_of head.tag)) bytes (record {
   seen = length bytes;
   left =
       9 + head.length - length bytes;
 }) e
-held_by Short bytes e = refl
-held_by TooLong bytes e = refl
-held_by (Fault reason) bytes e = refl
+held_by (Err stop) bytes e = refl
 
 -- what is not passed over is held
 pub held_all : (longest : ℕ) (place : Place) (bytes : List ℕ) → passing_of longest place bytes ≡ None → held_of longest place bytes ≡ bytes
@@ -159,7 +153,7 @@ held_all longest (Within header room) bytes e = refl
 
 module _ (longest : ℕ) (place : Place) (bytes : List ℕ) (rest : Rest) where
   -- what is kept where all is held
-  pub IsRest-held : IsBytes bytes → item_at longest place bytes ≡ Short → rest.held.items ≡ bytes → rest.passing ≡ None
+  pub IsRest-held : IsBytes bytes → item_at longest place bytes ≡ Err stops.Short → rest.held.items ≡ bytes → rest.passing ≡ None
       → passing_of longest place bytes ≡ None → IsWalkOf longest place bytes rest.walk
       → IsRest longest place bytes rest
   IsRest-held are short held passing none walk = record {
@@ -171,7 +165,7 @@ module _ (longest : ℕ) (place : Place) (bytes : List ℕ) (rest : Rest) where
   }
 
   -- and where it is passed over
-  pub IsRest-passing : IsBytes bytes → (passing : Passing) → item_at longest place bytes ≡ Short → rest.held.items ≡ []
+  pub IsRest-passing : IsBytes bytes → (passing : Passing) → item_at longest place bytes ≡ Err stops.Short → rest.held.items ≡ []
       → rest.passing ≡ Some passing → passing_of longest place bytes ≡ Some passing
       → IsRest longest place bytes rest
   IsRest-passing are passing short held has same =
@@ -223,7 +217,7 @@ on_ok (Err e) follows holds = tt
 
 -- what is left, and nothing was kept before it, is kept
 pub kept_behind : (longest : ℕ) (place : Place) (still left : List ℕ) (kept rest : Rest) → IsRest longest place still kept
-    → item_at longest place (still ++ left) ≡ Short → (still ≡ []) ⊎ (left ≡ [])
+    → item_at longest place (still ++ left) ≡ Err stops.Short → (still ≡ []) ⊎ (left ≡ [])
     → (left ≡ [] → ⊥) → IsBytes left → passing_of longest place left ≡ None → rest.held.items ≡ kept.held.items ++ left
     → rest.walk ≡ kept.walk → rest.passing ≡ kept.passing
     → IsRest longest place (still ++ left) rest

@@ -1,5 +1,5 @@
 -- What was read of an item.
-use Rattle.std.proofs.Common.{◌≡◌, ℕ, Bool, true, false, cond, ltb, List, ◌++◌, drop, Ok, refl, sym, ap, subst, ◌∙◌, arith}
+use Rattle.std.proofs.Common.{◌≡◌, ℕ, Bool, true, false, cond, ltb, List, ◌++◌, drop, Ok, refl, sym, ap, subst, ◌∙◌, arith, Result, Err}
 use Rattle.std.proofs.lemmas.Bool.{le-ltb, and_right, eqb-true}
 use Rattle.std.specs.Prelude.{◌==◌, slice_index}
 use Rattle.hprof_items.specs.declared.header.Header.{Header}
@@ -21,8 +21,8 @@ use Rattle.hprof_items.specs.Spelling.{longest_body}
 use Rattle.hprof_items.specs.SubRecord.{sub_at, tag_of_dump}
 use Rattle.hprof_items.specs.SubReading.{bounds_within}
 use Rattle.hprof_items.proofs.Dumps.{tag_first, sub_found}
-use Rattle.hprof_items.specs.declared.step.Step.{Step}
-use Rattle.hprof_items.specs.declared.step.Step.TheVariants as steps
+use Rattle.hprof_values.specs.declared.stop.Stop.{Stop}
+use Rattle.hprof_values.specs.declared.stop.Stop.TheVariants as stops
 use Rattle.hprof_stream.specs.ItemValue.{ItemValue}
 use Rattle.hprof_stream.specs.ItemValue as items
 use Rattle.hprof_stream.specs.Item.{Between}
@@ -96,22 +96,18 @@ sub_no_end ids room longest bytes fact n are e =
     tag_no_end (tag_of_dump fact) ∙ ap (λ (b : ℕ). b == 0x2c) (sym first)
 
 -- a record with a fact stands between records
-pub fact_place : (header : Header) (bytes : List ℕ) (step : Step ItemValue) → IfRead step IsFact → false ≡ (slice_index bytes 0 == 0x2c)
+pub fact_place : (header : Header) (bytes : List ℕ) (step : Result (ItemValue × ℕ) Stop) → IfRead step IsFact → false ≡ (slice_index bytes 0 == 0x2c)
     → IfRead step (IsOfPlace (Between header) bytes)
-fact_place header bytes (steps.Whole (items.Header h) n) is e = absurd is
-fact_place header bytes (steps.Whole (items.Fact fact) n) is e = (tt, e)
-fact_place header bytes (steps.Whole (items.Dump len) n) is e = absurd is
-fact_place header bytes (steps.Whole items.End n) is e = absurd is
-fact_place header bytes (steps.Whole items.Skipped n) is e = absurd is
-fact_place header bytes (steps.Whole (items.Sub fact) n) is e = absurd is
-fact_place header bytes steps.Short is e = tt
-fact_place header bytes steps.TooLong is e = tt
-fact_place header bytes (steps.Fault reason) is e = tt
+fact_place header bytes (Ok (items.Header h, n)) is e = absurd is
+fact_place header bytes (Ok (items.Fact fact, n)) is e = (tt, e)
+fact_place header bytes (Ok (items.Dump len, n)) is e = absurd is
+fact_place header bytes (Ok (items.End, n)) is e = absurd is
+fact_place header bytes (Ok (items.Skipped, n)) is e = absurd is
+fact_place header bytes (Ok (items.Sub fact, n)) is e = absurd is
+fact_place header bytes (Err stop) is e = tt
 
 -- so does one that is passed over
-pub skipped_place : (header : Header) (bytes : List ℕ) (step : Step ItemValue) → IfRead step (λ item. item ≡ items.Skipped)
+pub skipped_place : (header : Header) (bytes : List ℕ) (step : Result (ItemValue × ℕ) Stop) → IfRead step (λ item. item ≡ items.Skipped)
     → false ≡ (slice_index bytes 0 == 0x2c) → IfRead step (IsOfPlace (Between header) bytes)
-skipped_place header bytes (steps.Whole item n) is e = subst (IsOfPlace (Between header) bytes) (sym is) (tt, e)
-skipped_place header bytes steps.Short is e = tt
-skipped_place header bytes steps.TooLong is e = tt
-skipped_place header bytes (steps.Fault reason) is e = tt
+skipped_place header bytes (Ok (item, n)) is e = subst (IsOfPlace (Between header) bytes) (sym is) (tt, e)
+skipped_place header bytes (Err stop) is e = tt

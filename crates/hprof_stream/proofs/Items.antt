@@ -1,7 +1,7 @@
 -- What a reading finds at the front of some bytes is the item that stands there, and the item that stands there is
 -- found.
 use Rattle.std.proofs.Common.{◌≡◌, ℕ, ◌+◌, ◌^◌, ◌<◌, ◌≤◌, true, ltb, List, [], ◌∷◌, ◌++◌, length, take, drop, Option, Result, refl, sym, ap}
-use Rattle.std.proofs.Common.{◌∙◌, append_assoc, append-nil, arith}
+use Rattle.std.proofs.Common.{◌∙◌, append_assoc, append-nil, arith, Ok, Err}
 use Rattle.std.proofs.lemmas.Bool.{cond-false, le-ltb}
 use Rattle.std.proofs.lemmas.List.{take_at, length-append}
 use Rattle.hprof_values.specs.declared.ids.IdSize.{IdSize}
@@ -14,8 +14,8 @@ use Rattle.hprof_items.specs.declared.header.Header.{Header}
 use Rattle.hprof_items.specs.declared.head.Head.{Head}
 use Rattle.hprof_items.specs.declared.head.HeadKind.{HeadKind}
 use Rattle.hprof_items.specs.declared.head.HeadKind.TheVariants.{FactRecord, HeapDump, DumpEnd, Skipped}
-use Rattle.hprof_items.specs.declared.step.Step.{Step}
-use Rattle.hprof_items.specs.declared.step.Step.TheVariants.{Whole, Short}
+use Rattle.hprof_values.specs.declared.stop.Stop.{Stop}
+use Rattle.hprof_values.specs.declared.stop.Stop.TheVariants.{Short}
 use Rattle.hprof_items.specs.FactValue.{FactValue}
 use Rattle.hprof_items.specs.Header.{header_bytes, IsMillis}
 use Rattle.hprof_items.specs.Head.{kind_of, head_bytes, record_bytes, is_dump_tag}
@@ -40,7 +40,7 @@ use Rattle.hprof_stream.proofs.FoundItems.{behind_sub, found_header_item, found_
 
 -- what is found at the front is an item
 pub item_found : (longest : ℕ) (place : Place) (bytes : List ℕ) (found : Found) (n : ℕ) → HasRoom place → IsBytes bytes
-    → item_at longest place bytes ≡ Whole found n
+    → item_at longest place bytes ≡ Ok (found, n)
     → (n ≤ length bytes) × (0 < n) × IsItem longest place (record { bytes = take n bytes; facts = found.facts }) found.next
 unfolding item_at
 item_found longest Start bytes found n room are e = found_header_item longest bytes found n are e
@@ -52,26 +52,26 @@ item_found longest (Within header left) bytes found n room are e = found_sub_ite
 -- the whole item at the front
 abbrev IsAgain : ℕ → Place → Place → Stated → List ℕ → Type 0
 IsAgain longest place next one rest =
-    item_at longest place (one.bytes ++ rest) ≡ Whole (record { next = next; facts = one.facts }) (length one.bytes)
+    item_at longest place (one.bytes ++ rest) ≡ Ok (record { next = next; facts = one.facts }, length one.bytes)
 
 -- by what its bytes and facts are
 again_by : (longest : ℕ) (place next : Place) (one : Stated) (bytes rest : List ℕ) (facts : List FactValue) → one.bytes ≡ bytes
     → one.facts ≡ facts
-    → item_at longest place (bytes ++ rest) ≡ Whole (record { next = next; facts = facts }) (length bytes)
+    → item_at longest place (bytes ++ rest) ≡ Ok (record { next = next; facts = facts }, length bytes)
     → IsAgain longest place next one rest
 again_by longest place next one bytes rest facts same are e =
     ap (λ (b : List ℕ). item_at longest place (b ++ rest)) same ∙ e
-    ∙ ap (λ (n : ℕ). Whole (record { next = next; facts = facts }) n) (sym (ap length same))
-    ∙ ap (λ (f : List FactValue). Whole (record { next = next; facts = f }) (length one.bytes)) (sym are)
+    ∙ ap (λ (n : ℕ). Ok (record { next = next; facts = facts }, n)) (sym (ap length same))
+    ∙ ap (λ (f : List FactValue). Ok (record { next = next; facts = f }, length one.bytes)) (sym are)
 
 -- a header is found
 header_item_again : (longest : ℕ) (header : Header) (rest : List ℕ) → IsMillis header.millis
     → item_at longest Start (header_bytes header ++ rest)
-    ≡ Whole (record { next = Between header; facts = [] }) (length (header_bytes header))
+    ≡ Ok (record { next = Between header; facts = [] }, length (header_bytes header))
 unfolding item_at
 header_item_again longest header rest fits =
     ap found_header (header_again header rest fits)
-    ∙ ap (λ (n : ℕ). Whole (record { next = Between header; facts = [] }) n) (sym (length-header header))
+    ∙ ap (λ (n : ℕ). Ok (record { next = Between header; facts = [] }, n)) (sym (length-header header))
 
 -- what stands in front of a head says no more than its nine bytes
 head_item : (longest : ℕ) (header : Header) (kind : HeadKind) (head : Head) (rest : List ℕ) → IsRightHead header.ids longest head
@@ -81,7 +81,7 @@ head_item : (longest : ℕ) (header : Header) (kind : HeadKind) (head : Head) (r
 unfolding item_at
 head_item longest header kind head rest right is =
     let bytes : List ℕ = head_bytes head.tag head.time head.length ++ rest in
-    ap (λ (s : Step Head). found_behind header s bytes) (head_again header.ids longest head rest right)
+    ap (λ (s : Result (Head × ℕ) Stop). found_behind header s bytes) (head_again header.ids longest head rest right)
     ∙ ap (λ (k : HeadKind). found_record header k head bytes) is
 
 -- a record of a fact is found
@@ -89,8 +89,7 @@ fact_item_again : (longest : ℕ) (header : Header) (known : RecordTag) (time : 
     → BodyFits header.ids known fact → time < 256 ^ 4
     → length (record_body header.ids known fact) ≤ longest_body → length (record_body header.ids known fact) ≤ longest
     → item_at longest (Between header) (record_bytes (code_of_record known) time (record_body header.ids known fact) ++ rest)
-    ≡ Whole (record { next = Between header; facts = fact ∷ [] })
-    (length (record_bytes (code_of_record known) time (record_body header.ids known fact)))
+    ≡ Ok (record { next = Between header; facts = fact ∷ [] }, length (record_bytes (code_of_record known) time (record_body header.ids known fact)))
 fact_item_again longest header known time fact rest fits is_time small short =
     let ids : IdSize = header.ids in
     let body : List ℕ = record_body ids known fact in
@@ -101,20 +100,20 @@ fact_item_again longest header known time fact rest fits is_time small short =
     let head : Head = record { tag = tag; time = time; length = len } in
     let right : IsRightHead ids longest head =
     fact_head_right ids longest known time len is_time (omega (arith, small)) (body_legal ids known fact fits) short in
-    let found : Result FactValue Reason → Step Found = λ read. found_fact header read (9 + len) in
+    let found : Result FactValue Reason → Result (Found × ℕ) Stop = λ read. found_fact header read (9 + len) in
     ap (item_at longest (Between header)) (append_assoc front body rest)
     ∙ head_item longest header FactRecord head (body ++ rest) right (kind_of_fact known)
-    ∙ cond-false (ltb (length all) (9 + len)) Short (found (body_at ids tag (take len (drop 9 all))))
+    ∙ cond-false (ltb (length all) (9 + len)) (Err Short) (found (body_at ids tag (take len (drop 9 all))))
     (le-ltb _ _ (omega (arith, length-append front (body ++ rest), length-append body rest)))
     ∙ ap (λ (b : List ℕ). found (body_at ids tag b)) (take_at body rest len refl)
     ∙ ap (λ (o : Option RecordTag). found (body_as ids o body)) (record_code_again known)
     ∙ ap found (record_again ids known fact fits)
-    ∙ ap (λ (n : ℕ). Whole (record { next = Between header; facts = fact ∷ [] }) n) (sym (length-record tag time body))
+    ∙ ap (λ (n : ℕ). Ok (record { next = Between header; facts = fact ∷ [] }, n)) (sym (length-record tag time body))
 
 -- the head of a heap dump is found
 dump_item_again : (longest : ℕ) (header : Header) (tag time len : ℕ) (rest : List ℕ) → is_dump_tag tag ≡ true → time < 256 ^ 4
     → len ≤ longest_body
-    → item_at longest (Between header) (head_bytes tag time len ++ rest) ≡ Whole (record { next = place_in header len; facts = [] }) 9
+    → item_at longest (Between header) (head_bytes tag time len ++ rest) ≡ Ok (record { next = place_in header len; facts = [] }, 9)
 dump_item_again longest header tag time len rest is is_time small =
     let kind = dump_kind tag is in
     let head : Head = record { tag = tag; time = time; length = len } in
@@ -125,7 +124,7 @@ dump_item_again longest header tag time len rest is is_time small =
 
 -- a HEAP_DUMP_END is found
 end_item_again : (longest : ℕ) (header : Header) (time : ℕ) (rest : List ℕ) → time < 256 ^ 4
-    → item_at longest (Between header) (head_bytes 0x2c time 0 ++ rest) ≡ Whole (record { next = Between header; facts = [] }) 9
+    → item_at longest (Between header) (head_bytes 0x2c time 0 ++ rest) ≡ Ok (record { next = Between header; facts = [] }, 9)
 end_item_again longest header time rest is_time =
     let head : Head = record { tag = 0x2c; time = time; length = 0 } in
     let right : IsRightHead header.ids longest head =
@@ -136,7 +135,7 @@ end_item_again longest header time rest is_time =
 skipped_item_again : (longest : ℕ) (header : Header) (tag time : ℕ) (body rest : List ℕ) → kind_of tag ≡ Skipped → tag < 256
     → time < 256 ^ 4 → length body ≤ longest_body
     → item_at longest (Between header) (record_bytes tag time body ++ rest)
-    ≡ Whole (record { next = Between header; facts = [] }) (length (record_bytes tag time body))
+    ≡ Ok (record { next = Between header; facts = [] }, length (record_bytes tag time body))
 skipped_item_again longest header tag time body rest kind is_tag is_time small =
     let len : ℕ = length body in
     let front : List ℕ = head_bytes tag time len in
@@ -147,16 +146,16 @@ skipped_item_again longest header tag time body rest kind is_tag is_time small =
     (any_legal tag len (skipped_is_no_end tag kind)) in
     ap (item_at longest (Between header)) (append_assoc front body rest)
     ∙ head_item longest header Skipped head (body ++ rest) right kind
-    ∙ cond-false (ltb (length all) (9 + len)) Short (Whole (record { next = Between header; facts = [] }) (9 + len))
+    ∙ cond-false (ltb (length all) (9 + len)) (Err Short) (Ok (record { next = Between header; facts = [] }, 9 + len))
     (le-ltb _ _ (omega (arith, length-append front (body ++ rest), length-append body rest)))
-    ∙ ap (λ (n : ℕ). Whole (record { next = Between header; facts = [] }) n) (sym (length-record tag time body))
+    ∙ ap (λ (n : ℕ). Ok (record { next = Between header; facts = [] }, n)) (sym (length-record tag time body))
 
 -- a sub-record is found
 sub_item_again : (longest : ℕ) (header : Header) (room : ℕ) (fact : FactValue) (rest : List ℕ) → IsSubFact header.ids fact
     → length (dump_bytes header.ids fact) ≤ room
     → length (dump_bytes header.ids fact) ≤ longest
     → item_at longest (Within header room) (dump_bytes header.ids fact ++ rest)
-    ≡ Whole (behind_sub header room fact (length (dump_bytes header.ids fact))) (length (dump_bytes header.ids fact))
+    ≡ Ok ((behind_sub header room fact (length (dump_bytes header.ids fact))), length (dump_bytes header.ids fact))
 unfolding item_at
 sub_item_again longest header room fact rest states in_room in_longest =
     let front : List ℕ = dump_bytes header.ids fact in
@@ -188,12 +187,12 @@ any_item_again longest place one next rest (is_sub {header = header} {room = roo
     let size : length one.bytes ≡ length (dump_bytes header.ids fact) = ap length spelled in
     again_by longest place next one (dump_bytes header.ids fact) rest (fact ∷ []) spelled facts
     (sub_item_again longest header room fact rest states (omega (arith, size, in_room)) (omega (arith, size, in_longest))
-    ∙ ap (λ (k : ℕ). Whole (behind_sub header room fact k) (length (dump_bytes header.ids fact))) (sym size))
+    ∙ ap (λ (k : ℕ). Ok ((behind_sub header room fact k), length (dump_bytes header.ids fact))) (sym size))
 any_item_again longest place one next rest (is_skipped {header = header} states facts) =
     again_by longest place next one (record_bytes states.tag states.time states.body) rest [] states.spelled facts
     (skipped_item_again longest header states.tag states.time states.body rest states.passed_over states.is_tag states.is_time states.short)
 
 -- an item is found at the front, whatever follows
 pub item_again : (longest : ℕ) (place next : Place) (one : Stated) (rest : List ℕ) → IsItem longest place one next
-    → item_at longest place (one.bytes ++ rest) ≡ Whole (record { next = next; facts = one.facts }) (length one.bytes)
+    → item_at longest place (one.bytes ++ rest) ≡ Ok (record { next = next; facts = one.facts }, length one.bytes)
 item_again longest place next one rest is = any_item_again longest place one next rest is

@@ -1,12 +1,12 @@
 -- Where items end that were read behind others.
 use Rattle.std.proofs.Common.{◌≡◌, ◌⊎◌, ℕ, ◌-◌, ◌<◌, inl, inr, List, [], ◌∷◌, ◌++◌, length, take, drop, Option, Some, None, refl, sym, ap}
-use Rattle.std.proofs.Common.{subst, ◌∙◌, append_assoc, append-nil, arith}
+use Rattle.std.proofs.Common.{subst, ◌∙◌, append_assoc, append-nil, arith, Result, Ok, Err}
 use Rattle.std.proofs.Math.Seq.{take-append_seam}
 use Rattle.std.proofs.lemmas.Bool.{cases_lt}
 use Rattle.std.proofs.lemmas.List.{length-append, take-append-drop, take-append-le, nil_from_length}
 use Rattle.hprof_items.specs.declared.header.Header.{Header}
-use Rattle.hprof_items.specs.declared.step.Step.{Step}
-use Rattle.hprof_items.specs.declared.step.Step.TheVariants.{Whole, Short}
+use Rattle.hprof_values.specs.declared.stop.Stop.{Stop}
+use Rattle.hprof_values.specs.declared.stop.Stop.TheVariants.{Short}
 use Rattle.hprof_items.specs.FactValue.{FactValue}
 use Rattle.hprof_stream.specs.declared.limits.Limits.{Limits}
 use Rattle.hprof_stream.specs.declared.part_reader.PartReader.{PartReader}
@@ -20,12 +20,12 @@ use Rattle.hprof_stream.proofs.Faults.{item_once}
 use Rattle.hprof_stream.proofs.PieceRoom.{taken_is}
 
 -- what is short is not whole
-never_whole : (step : Step Found) (found : Found) (n : ℕ) → step ≡ Whole found n → step ≡ Short → ⊥
+never_whole : (step : Result (Found × ℕ) Stop) (found : Found) (n : ℕ) → step ≡ Ok (found, n) → step ≡ Err Short → ⊥
 never_whole step found n whole short = cc
 
 -- an item is longer than bytes at its front that are not whole yet
 longer_than_short : (longest : ℕ) (from mid : Place) (one : Stated) (behind held piece : List ℕ) → IsItem longest from one mid
-    → item_at longest from held ≡ Short → held ++ piece ≡ one.bytes ++ behind
+    → item_at longest from held ≡ Err Short → held ++ piece ≡ one.bytes ++ behind
     → length held < length one.bytes
 longer_than_short longest from mid one behind held piece is short e =
     elim (cases_lt (length held) (length one.bytes)) [
@@ -41,7 +41,7 @@ longer_than_short longest from mid one behind held piece is short e =
 
 -- items over bytes of which a front was read, up to what is held: they end behind that, or are among those that were read
 reach_or_among : (longest : ℕ) (from to end : Place) (items others : List Stated) (held piece left : List ℕ)
-    → AreItems longest from items to → item_at longest to held ≡ Short → AreItems longest from others end
+    → AreItems longest from items to → item_at longest to held ≡ Err Short → AreItems longest from others end
     → (all_bytes items ++ held) ++ piece ≡ all_bytes others ++ left
     → (length (all_bytes items ++ held) < length (all_bytes others)) ⊎ ((behind : List Stated) × (items ≡ others ++ behind))
 reach_or_among longest from to end items others held piece left are short none e = inr (items, refl)

@@ -1,8 +1,8 @@
 -- A settled fault stays, whatever follows.
-use Rattle.std.proofs.Common.{◌≡◌, ℕ, true, List, ◌++◌, length, Some, refl, sym, ap, ◌∙◌, append_assoc}
+use Rattle.std.proofs.Common.{◌≡◌, ℕ, true, List, ◌++◌, length, Some, refl, sym, ap, ◌∙◌, append_assoc, Result, Ok, Err}
 use Rattle.hprof_values.specs.declared.reason.Reason.TheVariants.{Truncated}
-use Rattle.hprof_items.specs.declared.step.Step.{Step}
-use Rattle.hprof_items.specs.declared.step.Step.TheVariants.{Whole, Short, TooLong, Fault}
+use Rattle.hprof_values.specs.declared.stop.Stop.{Stop}
+use Rattle.hprof_values.specs.declared.stop.Stop.TheVariants.{Short, TooLong, Fault}
 use Rattle.hprof_stream.specs.declared.part_fault.PartFault.{PartFault}
 use Rattle.hprof_stream.specs.declared.part_fault.PartFault.TheVariants.{Malformed}
 use Rattle.hprof_stream.specs.Part.{Stated, all_bytes}
@@ -18,16 +18,16 @@ Splits-more longest bytes extra items place rest is =
     record { each = is.each; parts = ap (λ (b : List ℕ). b ++ extra) is.parts ∙ append_assoc (all_bytes items) rest extra }
 
 -- a fault whose test failed for good fails again
-stays : (longest : ℕ) (place : Place) (rest extra : List ℕ) (offset : ℕ) (fault : PartFault) (step : Step Found)
+stays : (longest : ℕ) (place : Place) (rest extra : List ℕ) (offset : ℕ) (fault : PartFault) (step : Result (Found × ℕ) Stop)
     → item_at longest place rest ≡ step → fault_at offset step ≡ Some fault → is_settled fault ≡ true
-    → (item_at longest place (rest ++ extra) ≡ step) × (item_at longest place (rest ++ extra) ≡ Short → ⊥)
-stays longest place rest extra offset fault (Whole found n) is fails settled = absurd cc
-stays longest place rest extra offset fault Short is fails settled =
+    → (item_at longest place (rest ++ extra) ≡ step) × (item_at longest place (rest ++ extra) ≡ Err Short → ⊥)
+stays longest place rest extra offset fault (Ok (found, n)) is fails settled = absurd cc
+stays longest place rest extra offset fault (Err Short) is fails settled =
     absurd (let e : Malformed offset Truncated ≡ fault = cc in let no : is_settled (Malformed offset Truncated) ≡ true = ap is_settled e
     ∙ settled in cc)
-stays longest place rest extra offset fault TooLong is fails settled =
+stays longest place rest extra offset fault (Err TooLong) is fails settled =
     let again = item_stays_long longest place rest extra is in (again, λ short. cc (sym again ∙ short))
-stays longest place rest extra offset fault (Fault reason) is fails settled =
+stays longest place rest extra offset fault (Err (Fault reason)) is fails settled =
     let again = item_stays longest place rest extra reason is in (again, λ short. cc (sym again ∙ short))
 
 pub longer_input : (longest : ℕ) (bytes extra : List ℕ) (fault : PartFault) → IsFirstFault longest bytes fault → is_settled fault ≡ true

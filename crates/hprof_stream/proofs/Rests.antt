@@ -1,6 +1,6 @@
 -- What is kept of an item that is not whole yet.
 use Rattle.std.proofs.Common.{◌≡◌, ℕ, zero, suc, ◌∷◌, ◌+◌, ◌-◌, ◌<◌, ◌≤◌, ltb, Bool, true, false, cond, List, [], ◌++◌, length, drop, Some}
-use Rattle.std.proofs.Common.{None, refl, sym, ap, subst, ◌∙◌, append-nil, arith}
+use Rattle.std.proofs.Common.{None, refl, sym, ap, subst, ◌∙◌, append-nil, arith, Result, Ok, Err}
 use Rattle.std.proofs.lemmas.Bool.{cond-true, cond-false, ltb-true, ltb-false, lt-ltb, le-ltb}
 use Rattle.hprof_values.specs.Ids.{IsBytes}
 use Rattle.hprof_values.proofs.Numbers.{IsBytes-tail}
@@ -8,8 +8,8 @@ use Rattle.hprof_items.specs.declared.header.Header.{Header}
 use Rattle.hprof_items.specs.declared.head.Head.{Head}
 use Rattle.hprof_items.specs.declared.head.HeadKind.{HeadKind}
 use Rattle.hprof_items.specs.declared.head.HeadKind.TheVariants.{FactRecord, HeapDump, DumpEnd, Skipped}
-use Rattle.hprof_items.specs.declared.step.Step.{Step}
-use Rattle.hprof_items.specs.declared.step.Step.TheVariants.{Whole, Short, TooLong, Fault}
+use Rattle.hprof_values.specs.declared.stop.Stop.{Stop}
+use Rattle.hprof_values.specs.declared.stop.Stop.TheVariants.{Short, TooLong, Fault}
 use Rattle.hprof_items.specs.Head.{kind_of}
 use Rattle.hprof_items.specs.Reading.{head_at}
 use Rattle.hprof_items.proofs.Heads.{head_found}
@@ -38,7 +38,7 @@ pub record IsPassed (longest : ℕ) (place : Place) (front : List ℕ) (passing 
   pub head : Head
   pub taken : ℕ
   pub between : place ≡ Between header
-  pub read : head_at header.ids longest front ≡ Whole head taken
+  pub read : head_at header.ids longest front ≡ Ok (head, taken)
   pub kind : is_skipped_kind (kind_of head.tag) ≡ true
   pub same : passing ≡ record { seen = length front; left = 9 + head.length - length front }
 
@@ -52,16 +52,14 @@ passing_if : (test : Bool) (one passing : Passing) → cond test (Some one) None
 passing_if true one passing e = (refl, cc)
 passing_if false one passing e = absurd cc
 
-passed_by : (longest : ℕ) (header : Header) (front : List ℕ) (passing : Passing) (step : Step Head) → head_at header.ids longest front
+passed_by : (longest : ℕ) (header : Header) (front : List ℕ) (passing : Passing) (step : Result (Head × ℕ) Stop) → head_at header.ids longest front
     ≡ step → passing_by step (length front) ≡ Some passing
     → IsPassed longest (Between header) front passing
-passed_by longest header front passing (Whole head n) read e =
+passed_by longest header front passing (Ok (head, n)) read e =
     let is = passing_if (is_skipped_kind (kind_of head.tag)) (record { seen = length front; left = 9 + head.length - length front })
     passing e in
     record { header = header; head = head; taken = n; between = refl; read = read; kind = is.0; same = is.1 }
-passed_by longest header front passing Short read e = absurd cc
-passed_by longest header front passing TooLong read e = absurd cc
-passed_by longest header front passing (Fault reason) read e = absurd cc
+passed_by longest header front passing (Err stop) read e = absurd cc
 
 pub passed_of : (longest : ℕ) (place : Place) (front : List ℕ) (passing : Passing) → passing_of longest place front ≡ Some passing
     → IsPassed longest place front passing
@@ -71,28 +69,28 @@ passed_of longest (Within header room) front passing e = absurd cc
 
 module _ (longest : ℕ) (place : Place) (front : List ℕ) (passing : Passing) (is : IsPassed longest place front passing) (more : List ℕ)
   where
-    head_on : head_at is.header.ids longest (front ++ more) ≡ Whole is.head is.taken
-    head_on = head_stays is.header.ids longest front more (Whole is.head is.taken) (λ q. cc) is.read
+    head_on : head_at is.header.ids longest (front ++ more) ≡ Ok (is.head, is.taken)
+    head_on = head_stays is.header.ids longest front more (Ok (is.head, is.taken)) (λ q. cc) is.read
 
     -- it is found as one that is passed over, also with more bytes
     passed_at : item_at longest place (front ++ more) ≡ found_record is.header Skipped is.head (front ++ more)
     unfolding item_at
     passed_at =
         ap (λ (p : Place). item_at longest p (front ++ more)) is.between
-        ∙ ap (λ (r : Step Head). found_behind is.header r (front ++ more)) head_on
+        ∙ ap (λ (r : Result (Head × ℕ) Stop). found_behind is.header r (front ++ more)) head_on
         ∙ ap (λ (k : HeadKind). found_record is.header k is.head (front ++ more)) (skipped_kind (kind_of is.head.tag) is.kind)
 
     -- with its last byte it is whole
     pub passed_whole : 9 + is.head.length ≤ length (front ++ more) → item_at longest place (front ++ more)
-        ≡ Whole (record { next = place; facts = [] }) (9 + is.head.length)
+        ≡ Ok (record { next = place; facts = [] }, 9 + is.head.length)
     passed_whole all =
-        let found : Place → Step Found = λ next. Whole (record { next = next; facts = [] }) (9 + is.head.length) in
-        passed_at ∙ cond-false (ltb (length (front ++ more)) (9 + is.head.length)) Short (found (Between is.header)) (le-ltb _ _ all)
+        let found : Place → Result (Found × ℕ) Stop = λ next. Ok (record { next = next; facts = [] }, 9 + is.head.length) in
+        passed_at ∙ cond-false (ltb (length (front ++ more)) (9 + is.head.length)) (Err Short) (found (Between is.header)) (le-ltb _ _ all)
         ∙ ap found (sym is.between)
 
     -- before, it is not
-    pub passed_short : length (front ++ more) < 9 + is.head.length → item_at longest place (front ++ more) ≡ Short
-    passed_short few = passed_at ∙ cond-true (ltb (length (front ++ more)) (9 + is.head.length)) Short _ (lt-ltb _ _ few)
+    pub passed_short : length (front ++ more) < 9 + is.head.length → item_at longest place (front ++ more) ≡ Err Short
+    passed_short few = passed_at ∙ cond-true (ltb (length (front ++ more)) (9 + is.head.length)) (Err Short) _ (lt-ltb _ _ few)
 
     -- nothing of it is held
     pub passed_held : held_of longest place (front ++ more) ≡ []
@@ -109,7 +107,7 @@ module _ (longest : ℕ) (place : Place) (front : List ℕ) (passing : Passing) 
     })
     passed_on =
         ap (λ (p : Place). passing_of longest p (front ++ more)) is.between
-        ∙ ap (λ (r : Step Head). passing_by r (length (front ++ more))) head_on
+        ∙ ap (λ (r : Result (Head × ℕ) Stop). passing_by r (length (front ++ more))) head_on
         ∙ cond-true (is_skipped_kind (kind_of is.head.tag))
         (Some (record { seen = length (front ++ more); left = 9 + is.head.length - length (front ++ more) })) None is.kind
 
@@ -126,18 +124,18 @@ passed_none_held longest place front passing is = ap (held_of longest place) (sy
 
 -- while it is short there are bytes to come
 fewer_if : (longest : ℕ) (place : Place) (front : List ℕ) (passing : Passing) (is : IsPassed longest place front passing)
-    → item_at longest place front ≡ Short
+    → item_at longest place front ≡ Err Short
     → (few : Bool) → ltb (length front) (9 + is.head.length) ≡ few → length front < 9 + is.head.length
 fewer_if longest place front passing is short true e = ltb-true (length front) (9 + is.head.length) e
 fewer_if longest place front passing is short false e =
     let all : 9 + is.head.length ≤ length (front ++ []) =
     omega (arith, ltb-false (length front) (9 + is.head.length) e, ap length (append-nil front)) in
     let whole = passed_whole longest place front passing is [] all in
-    let now : item_at longest place (front ++ []) ≡ Short = ap (item_at longest place) (append-nil front) ∙ short in
+    let now : item_at longest place (front ++ []) ≡ Err Short = ap (item_at longest place) (append-nil front) ∙ short in
     absurd cc
 
 pub passed_fewer : (longest : ℕ) (place : Place) (front : List ℕ) (passing : Passing) (is : IsPassed longest place front passing)
-    → item_at longest place front ≡ Short → length front < 9 + is.head.length
+    → item_at longest place front ≡ Err Short → length front < 9 + is.head.length
 passed_fewer longest place front passing is short =
     fewer_if longest place front passing is short (ltb (length front) (9 + is.head.length)) refl
 

@@ -9,8 +9,8 @@ use Rattle.hprof_items.specs.declared.head.HeadKind.{HeadKind}
 use Rattle.hprof_items.specs.declared.head.HeadKind.TheVariants.{FactRecord, HeapDump, DumpEnd, Skipped}
 use Rattle.hprof_values.specs.declared.reason.Reason.{Reason}
 use Rattle.hprof_values.specs.declared.reason.Reason.TheVariants.{Truncated}
-use Rattle.hprof_items.specs.declared.step.Step.{Step}
-use Rattle.hprof_items.specs.declared.step.Step.TheVariants.{Whole, Short, TooLong, Fault}
+use Rattle.hprof_values.specs.declared.stop.Stop.{Stop}
+use Rattle.hprof_values.specs.declared.stop.Stop.TheVariants.{Short, TooLong, Fault}
 use Rattle.hprof_items.specs.FactValue.{FactValue}
 use Rattle.hprof_items.specs.Head.{kind_of}
 use Rattle.hprof_items.specs.SubReading.{bounds_within}
@@ -18,7 +18,7 @@ use Rattle.hprof_items.specs.SubRecord.{dump_bytes, sub_at}
 use Rattle.hprof_values.specs.FieldGroups.{Bounds}
 use Rattle.hprof_items.specs.Reading.{head_at, is_too_long, body_at}
 use Rattle.hprof_items.proofs.Limits.{head_same_or_long, head_taken}
-use Rattle.hprof_items.proofs.Steps.{long_enough, whole_parts, short_is_not_whole, too_long_is_not_whole, fault_is_not_whole}
+use Rattle.hprof_items.proofs.Steps.{long_enough, whole_parts}
 use Rattle.hprof_stream.specs.declared.part_fault.PartFault.{PartFault}
 use Rattle.hprof_stream.specs.declared.part_fault.PartFault.TheVariants.{Malformed, ItemTooLong}
 use Rattle.hprof_stream.specs.Record.{IsFactRecord, IsSubFact}
@@ -38,13 +38,13 @@ use Rattle.hprof_stream.specs.Offset.{offset_of}
 
 -- the item is the same, or too long for the smaller limit
 pub same_or_long : (less longest : ℕ) (place : Place) (bytes : List ℕ) → less ≤ longest
-    → (item_at less place bytes ≡ item_at longest place bytes) ⊎ (item_at less place bytes ≡ TooLong)
+    → (item_at less place bytes ≡ item_at longest place bytes) ⊎ (item_at less place bytes ≡ Err TooLong)
 unfolding item_at
 same_or_long less longest Start bytes le = inl refl
 same_or_long less longest (Between header) bytes le =
     elim (head_same_or_long header.ids less longest bytes le) [
-      | inl same ↦ inl (ap (λ (s : Step Head). found_behind header s bytes) same)
-      | inr long ↦ inr (ap (λ (s : Step Head). found_behind header s bytes) long)
+      | inl same ↦ inl (ap (λ (s : Result (Head × ℕ) Stop). found_behind header s bytes) same)
+      | inr long ↦ inr (ap (λ (s : Result (Head × ℕ) Stop). found_behind header s bytes) long)
     ]
 same_or_long less longest (Within header room) bytes le =
     elim (sub_cut less (bounds_within room longest bytes) le header.ids bytes) [
@@ -53,10 +53,10 @@ same_or_long less longest (Within header room) bytes le =
     ]
 
 -- a fact that is found takes the bytes that were given
-fact_size : (header : Header) (read : Result FactValue Reason) (m : ℕ) (found : Found) (n : ℕ) → found_fact header read m ≡ Whole found n
+fact_size : (header : Header) (read : Result FactValue Reason) (m : ℕ) (found : Found) (n : ℕ) → found_fact header read m ≡ Ok (found, n)
     → m ≡ n
 fact_size header (Ok fact) m found n e = (whole_parts (record { next = Between header; facts = fact ∷ [] }) found m n e).1
-fact_size header (Err reason) m found n e = absurd (fault_is_not_whole reason found n e)
+fact_size header (Err reason) m found n e = absurd cc
 
 -- no facts are not one
 none_is_one : (fact : FactValue) → ◌≡◌ {A = List FactValue} [] (fact ∷ []) → ⊥
@@ -64,7 +64,7 @@ none_is_one fact e = cc
 
 -- what states nothing states no fact
 states_none : (place : Place) (fact : FactValue) (next : Place) (m n : ℕ)
-    → ◌≡◌ {A = Step Found} (Whole (record { next = place; facts = [] }) m) (Whole (record { next = next; facts = fact ∷ [] }) n) → ⊥
+    → ◌≡◌ {A = Result (Found × ℕ) Stop} (Ok (record { next = place; facts = [] }, m)) (Ok (record { next = next; facts = fact ∷ [] }, n)) → ⊥
 states_none place fact next m n e =
     let same = whole_parts (record { next = place; facts = [] }) (record { next = next; facts = fact ∷ [] }) m n e in
     none_is_one fact (ap (λ (f : Found). f.facts) same.0)
@@ -72,7 +72,7 @@ states_none place fact next m n e =
 -- a whole record with a fact is no longer than the longest item
 record_within : (less : ℕ) (header : Header) (kind : HeadKind) (head : Head) (bytes : List ℕ) (fact : FactValue) (next : Place) (n : ℕ)
     → kind_of head.tag ≡ kind → is_too_long less head ≡ false
-    → found_record header kind head bytes ≡ Whole (record { next = next; facts = fact ∷ [] }) n → n ≤ 9 + less
+    → found_record header kind head bytes ≡ Ok (record { next = next; facts = fact ∷ [] }, n) → n ≤ 9 + less
 record_within less header FactRecord head bytes fact next n kind taken e =
     let long = long_enough (length bytes) (9 + head.length)
     (found_fact header (body_at header.ids head.tag (take head.length (drop 9 bytes))) (9 + head.length))
@@ -84,22 +84,20 @@ record_within less header FactRecord head bytes fact next n kind taken e =
 record_within less header HeapDump head bytes fact next n kind taken e = absurd (states_none (place_in header head.length) fact next 9 n e)
 record_within less header DumpEnd head bytes fact next n kind taken e = absurd (states_none (Between header) fact next 9 n e)
 record_within less header Skipped head bytes fact next n kind taken e =
-    let last : Step Found = Whole (record { next = Between header; facts = [] }) (9 + head.length) in
+    let last : Result (Found × ℕ) Stop = Ok (record { next = Between header; facts = [] }, 9 + head.length) in
     let long = long_enough (length bytes) (9 + head.length) last (record { next = next; facts = fact ∷ [] }) n e in
     absurd (states_none (Between header) fact next (9 + head.length) n long.1)
 
 -- the same of what is found behind the header
-behind_within : (less : ℕ) (header : Header) (step : Step Head) (bytes : List ℕ) (fact : FactValue) (next : Place) (n : ℕ)
+behind_within : (less : ℕ) (header : Header) (step : Result (Head × ℕ) Stop) (bytes : List ℕ) (fact : FactValue) (next : Place) (n : ℕ)
     → head_at header.ids less bytes ≡ step
-    → found_behind header step bytes ≡ Whole (record { next = next; facts = fact ∷ [] }) n → n ≤ 9 + less
-behind_within less header (Whole head m) bytes fact next n is e =
+    → found_behind header step bytes ≡ Ok (record { next = next; facts = fact ∷ [] }, n) → n ≤ 9 + less
+behind_within less header (Ok (head, m)) bytes fact next n is e =
     record_within less header (kind_of head.tag) head bytes fact next n refl (head_taken header.ids less bytes head m is) e
-behind_within less header Short bytes fact next n is e = absurd (short_is_not_whole _ n e)
-behind_within less header TooLong bytes fact next n is e = absurd (too_long_is_not_whole _ n e)
-behind_within less header (Fault reason) bytes fact next n is e = absurd (fault_is_not_whole reason _ n e)
+behind_within less header (Err stop) bytes fact next n is e = absurd cc
 
 item_within : (less : ℕ) (header : Header) (bytes : List ℕ) (fact : FactValue) (next : Place) (n : ℕ)
-    → item_at less (Between header) bytes ≡ Whole (record { next = next; facts = fact ∷ [] }) n → n ≤ 9 + less
+    → item_at less (Between header) bytes ≡ Ok (record { next = next; facts = fact ∷ [] }, n) → n ≤ 9 + less
 unfolding item_at
 item_within less header bytes fact next n e = behind_within less header (head_at header.ids less bytes) bytes fact next n refl e
 
@@ -107,7 +105,7 @@ item_within less header bytes fact next n e = behind_within less header (head_at
 
 -- a whole sub-record is no longer than the longest item
 sub_within : (less : ℕ) (header : Header) (room : ℕ) (bytes : List ℕ) (found : Found) (n : ℕ)
-    → item_at less (Within header room) bytes ≡ Whole found n → n ≤ less
+    → item_at less (Within header room) bytes ≡ Ok (found, n) → n ≤ less
 unfolding item_at
 sub_within less header room bytes found n e =
     let bounds : Bounds = bounds_within room less bytes in
@@ -116,8 +114,8 @@ sub_within less header room bytes found n e =
 
 -- what is not whole for the smaller limit is too long for it
 long_by : (less longest : ℕ) (from next : Place) (one : Stated) (extra : List ℕ) → less ≤ longest → IsItem longest from one next
-    → (item_at less from (one.bytes ++ extra) ≡ Whole (record { next = next; facts = one.facts }) (length one.bytes) → ⊥)
-    → item_at less from (one.bytes ++ extra) ≡ TooLong
+    → (item_at less from (one.bytes ++ extra) ≡ Ok (record { next = next; facts = one.facts }, length one.bytes) → ⊥)
+    → item_at less from (one.bytes ++ extra) ≡ Err TooLong
 long_by less longest from next one extra le is never =
     elim (same_or_long less longest from (one.bytes ++ extra) le) [
       | inr long ↦ long
@@ -127,12 +125,12 @@ long_by less longest from next one extra le is never =
 -- a record that states a fact
 fact_or_long : (less longest : ℕ) (header : Header) (one : Stated) (fact : FactValue) → less ≤ longest
     → IsFactRecord header.ids one.bytes fact → length one.bytes ≤ 9 + longest → one.facts ≡ fact ∷ []
-    → IsItem less (Between header) one (Between header) ⊎ ((extra : List ℕ) → item_at less (Between header) (one.bytes ++ extra) ≡ TooLong)
+    → IsItem less (Between header) one (Between header) ⊎ ((extra : List ℕ) → item_at less (Between header) (one.bytes ++ extra) ≡ Err TooLong)
 fact_or_long less longest header one fact le is short facts =
     elim (cases_lt (9 + less) (length one.bytes)) [
       | inr within ↦ inl (is_fact is within facts)
       | inl above ↦ inr (λ extra. long_by less longest (Between header) (Between header) one extra le (is_fact is short facts) (λ found.
-          let stated = found ∙ ap (λ (f : List FactValue). Whole (record { next = Between header; facts = f }) (length one.bytes)) facts in
+          let stated = found ∙ ap (λ (f : List FactValue). Ok (record { next = Between header; facts = f }, length one.bytes)) facts in
           let within = item_within less header (one.bytes ++ extra) fact (Between header) (length one.bytes) stated in omega
           (arith, within, above)))
     ]
@@ -142,7 +140,7 @@ sub_or_long : (less longest : ℕ) (header : Header) (room : ℕ) (one : Stated)
     → one.bytes ≡ dump_bytes header.ids fact
     → length one.bytes ≤ room → length one.bytes ≤ longest → one.facts ≡ fact ∷ []
     → IsItem less (Within header room) one (place_in header (room - length one.bytes)) ⊎
-    ((extra : List ℕ) → item_at less (Within header room) (one.bytes ++ extra) ≡ TooLong)
+    ((extra : List ℕ) → item_at less (Within header room) (one.bytes ++ extra) ≡ Err TooLong)
 sub_or_long less longest header room one fact le is spelled in_room in_longest facts =
     let next : Place = place_in header (room - length one.bytes) in
     elim (cases_lt less (length one.bytes)) [
@@ -155,7 +153,7 @@ sub_or_long less longest header room one fact le is spelled in_room in_longest f
 
 -- an item is one for the smaller limit too, or too long for it, whatever follows
 item_or_long : (less longest : ℕ) (from : Place) (one : Stated) (to : Place) → less ≤ longest → IsItem longest from one to
-    → IsItem less from one to ⊎ ((extra : List ℕ) → item_at less from (one.bytes ++ extra) ≡ TooLong)
+    → IsItem less from one to ⊎ ((extra : List ℕ) → item_at less from (one.bytes ++ extra) ≡ Err TooLong)
 item_or_long less longest from one to le (is_header fits spelled facts) = inl (is_header fits spelled facts)
 item_or_long less longest from one to le (is_dump_end is facts) = inl (is_dump_end is facts)
 item_or_long less longest from one to le (is_dump is is_time small spelled facts) = inl (is_dump is is_time small spelled facts)
@@ -172,7 +170,7 @@ pub record IsCut (less : ℕ) (from : Place) (items : List Stated) : Type 0 wher
   pub place : Place
   pub each : AreItems less from front place
   pub parts : all_bytes items ≡ all_bytes front ++ behind
-  pub long : (extra : List ℕ) → item_at less place (behind ++ extra) ≡ TooLong
+  pub long : (extra : List ℕ) → item_at less place (behind ++ extra) ≡ Err TooLong
 
 items_or_cut : (less longest : ℕ) (from to : Place) (items : List Stated) → less ≤ longest → AreItems longest from items to
     → AreItems less from items to ⊎ IsCut less from items
@@ -231,11 +229,11 @@ smaller_sound less longest bytes le sound =
     ]
 
 -- the offset of the fault of a test
-offset_at : (offset : ℕ) (step : Step Found) (fault : PartFault) → fault_at offset step ≡ Some fault → offset_of fault ≡ offset
-offset_at offset (Whole found n) fault e = absurd cc
-offset_at offset Short fault e = let same : Malformed offset Truncated ≡ fault = cc in ap offset_of (sym same)
-offset_at offset TooLong fault e = let same : ItemTooLong offset ≡ fault = cc in ap offset_of (sym same)
-offset_at offset (Fault reason) fault e = let same : Malformed offset reason ≡ fault = cc in ap offset_of (sym same)
+offset_at : (offset : ℕ) (step : Result (Found × ℕ) Stop) (fault : PartFault) → fault_at offset step ≡ Some fault → offset_of fault ≡ offset
+offset_at offset (Ok (found, n)) fault e = absurd cc
+offset_at offset (Err Short) fault e = let same : Malformed offset Truncated ≡ fault = cc in ap offset_of (sym same)
+offset_at offset (Err TooLong) fault e = let same : ItemTooLong offset ≡ fault = cc in ap offset_of (sym same)
+offset_at offset (Err (Fault reason)) fault e = let same : Malformed offset reason ≡ fault = cc in ap offset_of (sym same)
 
 pub smaller_faulty : (less longest : ℕ) (bytes : List ℕ) (fault : PartFault) → less ≤ longest → IsFirstFault longest bytes fault
     → IsFirstFault less bytes fault ⊎ ((at : ℕ) × (at ≤ offset_of fault) × IsFirstFault less bytes (ItemTooLong at))

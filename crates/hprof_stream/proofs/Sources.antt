@@ -8,8 +8,8 @@ use Rattle.hprof_items.specs.declared.header.Header.{Header}
 use Rattle.hprof_devices.specs.declared.health.Health.{Health}
 use Rattle.hprof_devices.specs.declared.health.Health.TheVariants as healths
 use Rattle.hprof_values.specs.declared.reason.Reason.TheVariants.{Truncated}
-use Rattle.hprof_items.specs.declared.step.Step.{Step}
-use Rattle.hprof_items.specs.declared.step.Step.TheVariants.{Whole, Short, TooLong, Fault}
+use Rattle.hprof_values.specs.declared.stop.Stop.{Stop}
+use Rattle.hprof_values.specs.declared.stop.Stop.TheVariants.{Short, TooLong, Fault}
 use Rattle.hprof_items.specs.FactValue.{FactValue}
 use Rattle.hprof_stream.specs.declared.limits.Limits.{Limits}
 use Rattle.hprof_stream.specs.declared.part_fault.PartFault.{PartFault}
@@ -37,13 +37,13 @@ is_judgement faults.BytesExceeded = true
 is_judgement other = false
 
 -- the test that fails at an item gives no other
-of_item : (offset : ℕ) (step : Step Found) (fault : PartFault) → fault_at offset step ≡ Some fault → is_judgement fault ≡ true
-of_item offset (Whole found n) fault e = absurd cc
-of_item offset Short fault e = let same : faults.Malformed offset Truncated ≡ fault = cc in
+of_item : (offset : ℕ) (step : Result (Found × ℕ) Stop) (fault : PartFault) → fault_at offset step ≡ Some fault → is_judgement fault ≡ true
+of_item offset (Ok (found, n)) fault e = absurd cc
+of_item offset (Err Short) fault e = let same : faults.Malformed offset Truncated ≡ fault = cc in
     subst (λ (f : PartFault). is_judgement f ≡ true) same refl
-of_item offset TooLong fault e = let same : faults.ItemTooLong offset ≡ fault = cc in
+of_item offset (Err TooLong) fault e = let same : faults.ItemTooLong offset ≡ fault = cc in
     subst (λ (f : PartFault). is_judgement f ≡ true) same refl
-of_item offset (Fault reason) fault e = let same : faults.Malformed offset reason ≡ fault = cc in
+of_item offset (Err (Fault reason)) fault e = let same : faults.Malformed offset reason ≡ fault = cc in
     subst (λ (f : PartFault). is_judgement f ≡ true) same refl
 
 settled_is_judged : (limits : Limits) (bytes : List ℕ) (fault : PartFault) → IsSettledFault limits bytes fault → is_judgement fault ≡ true

@@ -4,7 +4,6 @@ use Rattle.hprof_values.specs.Ids.{IsBytes}
 use Rattle.hprof_values.specs.declared.stop.Stop.{Stop}
 use Rattle.hprof_items.specs.declared.fact.Fact.{Fact}
 use Rattle.hprof_items.specs.declared.header.Header.{Header}
-use Rattle.hprof_items.specs.declared.step.Step.TheVariants.{Whole}
 use Rattle.hprof_items.specs.FactValue.{value_of}
 use Rattle.hprof_items.specs.SubRecord.{sub_at}
 use Rattle.hprof_items.specs.SubReading.{bounds_within}
@@ -31,7 +30,7 @@ sub_read from header bytes fact n are before some exact =
     let within = place_within from.header from.room header before some in
     record {
       read = subst (λ (p : Place). item_at longest p bytes
-          ≡ Whole (record { next = place_after p (items.Sub fact) n; facts = value_of fact ∷ [] }) n) (sym within)
+          ≡ Ok (record { next = place_after p (items.Sub fact) n; facts = value_of fact ∷ [] }, n)) (sym within)
           (ap (found_sub header from.room) exact);
       place = subst (λ (p : Place). IsOfPlace p bytes (items.Sub fact)) (sym within)
           (tt, sub_no_end header.ids from.room longest bytes (value_of fact) n are exact);

@@ -1,6 +1,6 @@
 -- Walks over items, and one step of them.
 use Rattle.std.proofs.Common.{◌≡◌, ℕ, zero, suc, ◌+◌, ◌-◌, ◌<◌, ◌≤◌, Bool, ◌||◌, List, [], ◌∷◌, ◌++◌, length, take, drop}
-use Rattle.std.proofs.Common.{Option, Some, None, refl, sym, ap, subst, ◌∙◌, append_assoc, append-nil, take-append-drop, arith}
+use Rattle.std.proofs.Common.{Option, Some, None, refl, sym, ap, subst, ◌∙◌, append_assoc, append-nil, take-append-drop, arith, Ok}
 use Rattle.std.proofs.Math.Bool.{or_assoc, or-false}
 use Rattle.std.proofs.lemmas.List.{length-append, length-take-le}
 use Rattle.std.proofs.lemmas.List.Folds.{list_any-append}
@@ -10,7 +10,6 @@ use Rattle.hprof_values.specs.Ids.{IsBytes}
 use Rattle.hprof_values.specs.declared.ids.IdSize.{IdSize}
 use Rattle.hprof_values.specs.declared.record_tag.RecordTag.{RecordTag}
 use Rattle.hprof_items.specs.declared.header.Header.{Header}
-use Rattle.hprof_items.specs.declared.step.Step.TheVariants.{Whole}
 use Rattle.hprof_items.specs.declared.fact.Fact.{Fact}
 use Rattle.hprof_items.specs.FactValue.{FactValue, value_of, ListsHave, Name, Load, Unload, Frame, Trace, Start, End, Rooted, Class}
 use Rattle.hprof_items.specs.FactValue.{Instance, ObjArray, PrimArray}
@@ -64,7 +63,7 @@ module _ {S : Type 0} (begins : S → Header → S → Type 0) (steps : S → Fa
   -- one item is walked over
   pub Walks-item : (longest : ℕ) (from : Progress) (bytes : List ℕ) (old new : S) (item : ItemValue) (n : ℕ) → IsBytes bytes
       → from.room ≤ longest_body
-      → item_at longest (place_of from) bytes ≡ Whole (record { next = place_after (place_of from) item n; facts = facts_stated item }) n
+      → item_at longest (place_of from) bytes ≡ Ok (record { next = place_after (place_of from) item n; facts = facts_stated item }, n)
       → IsOfPlace (place_of from) bytes item → Gives begins steps old item new
       → Walks begins steps longest from bytes old (advanced from item n) (drop n bytes) new × (0 < n) × (n ≤ length bytes)
   Walks-item longest from bytes old new item n are small e of gives =
@@ -200,7 +199,7 @@ sub_room longest from one to header room (is_skipped skipped empty) e = absurd c
 -- what was read at a place
 abbrev pub IsReadAt : ℕ → Progress → List ℕ → ItemValue → ℕ → Type 0
 IsReadAt longest from bytes item n = item_at longest (place_of from) bytes
-    ≡ Whole (record { next = place_after (place_of from) item n; facts = facts_stated item }) n
+    ≡ Ok (record { next = place_after (place_of from) item n; facts = facts_stated item }, n)
 
 -- no sub-record states the fact of a record
 not_dumped : (ids : IdSize) (fact : FactValue) (tag : RecordTag) → record_of fact ≡ Some tag → [] ≡ dump_bytes ids fact

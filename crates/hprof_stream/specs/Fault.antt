@@ -1,11 +1,11 @@
 -- What a part is refused with: the bytes are whole and right items and then a rest, and the rest does not begin
 -- with one.
-use Rattle.std.specs.Prelude.{◌≡◌, ◌==◌, ◌&&◌, ℕ, Bool, true, false, List, [], ◌++◌, length, Option, Some, None}
+use Rattle.std.specs.Prelude.{◌≡◌, ◌==◌, ◌&&◌, ℕ, Bool, true, false, List, [], ◌++◌, length, Option, Some, None, Result, Ok, Err, is_ok}
 use Rattle.hprof_items.specs.declared.header.Header.{Header}
 use Rattle.hprof_values.specs.declared.reason.Reason.{Reason}
 use Rattle.hprof_values.specs.declared.reason.Reason.TheVariants.{BadMagic, BadIdSize, Truncated, BadLength, BadSubTag, PastEnd, BadType}
-use Rattle.hprof_items.specs.declared.step.Step.{Step}
-use Rattle.hprof_items.specs.declared.step.Step.TheVariants.{Whole, Short, TooLong, Fault}
+use Rattle.hprof_values.specs.declared.stop.Stop.{Stop}
+use Rattle.hprof_values.specs.declared.stop.Stop.TheVariants.{Short, TooLong, Fault}
 use Rattle.hprof_items.specs.FactValue.{FactValue}
 use Rattle.hprof_stream.specs.declared.part_fault.PartFault.{PartFault}
 use Rattle.hprof_stream.specs.declared.part_fault.PartFault.TheVariants.{Malformed, ItemTooLong}
@@ -17,24 +17,12 @@ pub record Splits (longest : ℕ) (bytes : List ℕ) (items : List Stated) (plac
   pub each : AreItems longest Start items place
   pub parts : bytes ≡ all_bytes items ++ rest
 
-abbrev pub is_whole : {A : Type 0} → Step A → Bool
-is_whole (Whole value n) = true
-is_whole Short = false
-is_whole TooLong = false
-is_whole (Fault reason) = false
-
 -- the fault of an item at that offset, by the test that fails
-abbrev pub fault_at : ℕ → Step Found → Option PartFault
-fault_at offset (Whole found n) = None
-fault_at offset Short = Some (Malformed offset Truncated)
-fault_at offset TooLong = Some (ItemTooLong offset)
-fault_at offset (Fault reason) = Some (Malformed offset reason)
-
--- the fault is that of a test that failed at that offset
-abbrev pub IsStopAt : {A : Type 0} → Step A → ℕ → PartFault → Type 0
-IsStopAt step offset (Malformed at reason) = (step ≡ Fault reason) × (at ≡ offset)
-IsStopAt step offset (ItemTooLong at) = (step ≡ TooLong) × (at ≡ offset)
-IsStopAt step offset other = ⊥
+abbrev pub fault_at : ℕ → Result (Found × ℕ) Stop → Option PartFault
+fault_at offset (Ok found) = None
+fault_at offset (Err Short) = Some (Malformed offset Truncated)
+fault_at offset (Err TooLong) = Some (ItemTooLong offset)
+fault_at offset (Err (Fault reason)) = Some (Malformed offset reason)
 
 -- nothing is left, where a part may end
 abbrev pub is_done : Place → List ℕ → Bool
@@ -80,6 +68,6 @@ pub record StatesSoFar (longest : ℕ) (bytes : List ℕ) (header : Option Heade
   pub place : Place
   pub rest : List ℕ
   pub splits : Splits longest bytes items place rest
-  pub ends : is_whole (item_at longest place rest) ≡ false
+  pub ends : is_ok (item_at longest place rest) ≡ false
   pub has_header : header_before place ≡ header
   pub has_facts : all_facts items ≡ facts

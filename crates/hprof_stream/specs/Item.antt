@@ -9,8 +9,7 @@ use Rattle.hprof_items.specs.declared.head.HeadKind.TheVariants.{FactRecord, Hea
 use Rattle.hprof_values.specs.declared.reason.Reason.{Reason}
 use Rattle.hprof_values.specs.declared.stop.Stop.{Stop}
 use Rattle.hprof_values.specs.declared.stop.Stop.TheVariants as stops
-use Rattle.hprof_items.specs.declared.step.Step.{Step}
-use Rattle.hprof_items.specs.declared.step.Step.TheVariants.{Whole, Short, TooLong, Fault}
+use Rattle.hprof_values.specs.FieldGroups.{◌>>=◌}
 use Rattle.hprof_items.specs.FactValue.{FactValue}
 use Rattle.hprof_items.specs.Header.{header_bytes, IsMillis}
 use Rattle.hprof_items.specs.Head.{head_bytes, is_dump_tag, kind_of}
@@ -103,49 +102,33 @@ pub record Found : Type 0 where
   pub next : Place
   pub facts : List FactValue
 
-abbrev pub found_header : Step Header → Step Found
-found_header (Whole header n) = Whole (record { next = Between header; facts = [] }) n
-found_header Short = Short
-found_header TooLong = TooLong
-found_header (Fault reason) = Fault reason
+abbrev pub found_header : Result (Header × ℕ) Stop → Result (Found × ℕ) Stop
+found_header read = read >>= λ (header, n). Ok (record { next = Between header; facts = [] }, n)
 
-abbrev pub found_fact : Header → Result FactValue Reason → ℕ → Step Found
-found_fact header (Ok fact) n = Whole (record { next = Between header; facts = fact ∷ [] }) n
-found_fact header (Err reason) n = Fault reason
+abbrev pub found_fact : Header → Result FactValue Reason → ℕ → Result (Found × ℕ) Stop
+found_fact header (Ok fact) n = Ok (record { next = Between header; facts = fact ∷ [] }, n)
+found_fact header (Err reason) n = Err (stops.Fault reason)
 
 -- a record whose head was read: the body of one with a fact is there, and right; that of one that is passed over is there;
 -- of a heap dump the head is all
-abbrev pub found_record : Header → HeadKind → Head → List ℕ → Step Found
+abbrev pub found_record : Header → HeadKind → Head → List ℕ → Result (Found × ℕ) Stop
 found_record header FactRecord head bytes =
-    if nat_lt (length bytes) (9 + head.length) then Short
+    if nat_lt (length bytes) (9 + head.length) then Err stops.Short
     else found_fact header (body_at header.ids head.tag (take head.length (drop 9 bytes))) (9 + head.length)
-found_record header HeapDump head bytes = Whole (record { next = place_in header head.length; facts = [] }) 9
-found_record header DumpEnd head bytes = Whole (record { next = Between header; facts = [] }) 9
+found_record header HeapDump head bytes = Ok (record { next = place_in header head.length; facts = [] }, 9)
+found_record header DumpEnd head bytes = Ok (record { next = Between header; facts = [] }, 9)
 found_record header Skipped head bytes =
-    if nat_lt (length bytes) (9 + head.length) then Short else Whole (record { next = Between header; facts = [] }) (9 + head.length)
+    if nat_lt (length bytes) (9 + head.length) then Err stops.Short else Ok (record { next = Between header; facts = [] }, 9 + head.length)
 
-abbrev pub found_behind : Header → Step Head → List ℕ → Step Found
-found_behind header (Whole head n) bytes = found_record header (kind_of head.tag) head bytes
-found_behind header Short bytes = Short
-found_behind header TooLong bytes = TooLong
-found_behind header (Fault reason) bytes = Fault reason
+abbrev pub found_behind : Header → Result (Head × ℕ) Stop → List ℕ → Result (Found × ℕ) Stop
+found_behind header read bytes = read >>= λ (head, n). found_record header (kind_of head.tag) head bytes
 
 -- a sub-record
-abbrev pub found_sub : Header → ℕ → Result (FactValue × ℕ) Stop → Step Found
-found_sub header room (Ok read) = Whole (record { next = place_in header (room - read.1); facts = read.0 ∷ [] }) read.1
-found_sub header room (Err stops.Short) = Short
-found_sub header room (Err stops.TooLong) = TooLong
-found_sub header room (Err (stops.Fault reason)) = Fault reason
-
--- whether more bytes are needed
-abbrev pub is_short : {A : Type 0} → Step A → Bool
-is_short (Whole value n) = false
-is_short Short = true
-is_short TooLong = false
-is_short (Fault reason) = false
+abbrev pub found_sub : Header → ℕ → Result (FactValue × ℕ) Stop → Result (Found × ℕ) Stop
+found_sub header room read = read >>= λ (fact, n). Ok (record { next = place_in header (room - n); facts = fact ∷ [] }, n)
 
 -- the item at the front, or the first of its tests that fails
-unfoldable pub item_at : ℕ → Place → List ℕ → Step Found
+unfoldable pub item_at : ℕ → Place → List ℕ → Result (Found × ℕ) Stop
 item_at longest Start bytes = found_header (header_at bytes)
 item_at longest (Between header) bytes = found_behind header (head_at header.ids longest bytes) bytes
 item_at longest (Within header room) bytes = found_sub header room (sub_at header.ids (bounds_within room longest bytes) bytes)
@@ -159,11 +142,9 @@ is_skipped_kind DumpEnd = false
 is_skipped_kind Skipped = true
 
 -- the head of a record that is passed over was read
-abbrev pub is_skipped_head : Step Head → Bool
-is_skipped_head (Whole head n) = is_skipped_kind (kind_of head.tag)
-is_skipped_head Short = false
-is_skipped_head TooLong = false
-is_skipped_head (Fault reason) = false
+abbrev pub is_skipped_head : Result (Head × ℕ) Stop → Bool
+is_skipped_head (Ok (head, n)) = is_skipped_kind (kind_of head.tag)
+is_skipped_head (Err stop) = false
 
 -- at the front stands a record that is passed over
 abbrev pub is_passed_over : ℕ → Place → List ℕ → Bool

@@ -1,8 +1,8 @@
 -- What the item that was read says of what stands at the front.
-use Rattle.std.specs.Prelude.{◌≡◌, ◌==◌, ℕ, ◌-◌, Bool, true, false, List, [], ◌∷◌, slice_index, Option, Some, ⊤}
+use Rattle.std.specs.Prelude.{◌≡◌, ◌==◌, ℕ, ◌-◌, Bool, true, false, List, [], ◌∷◌, slice_index, Option, Some, ⊤, Result, Ok, Err}
 use Rattle.hprof_items.specs.declared.header.Header.{Header}
-use Rattle.hprof_items.specs.declared.step.Step.{Step}
-use Rattle.hprof_items.specs.declared.step.Step.TheVariants as steps
+use Rattle.hprof_values.specs.declared.stop.Stop.{Stop}
+use Rattle.hprof_values.specs.FieldGroups.{◌>>=◌}
 use Rattle.hprof_items.specs.FactValue.{FactValue, value_of, ListsHave}
 use Rattle.hprof_stream.specs.ItemValue.{ItemValue}
 use Rattle.hprof_stream.specs.ItemValue as items
@@ -21,12 +21,10 @@ place_after (Between header) (items.Dump len) n = place_in header len
 place_after (Within header room) item n = place_in header (room - n)
 place_after place item n = place
 
--- the step is what was found
-abbrev pub IsFound : Place → Step ItemValue → Step Found → Type 0
-IsFound place (steps.Whole item n) found = found ≡ steps.Whole (record { next = place_after place item n; facts = facts_stated item }) n
-IsFound place steps.Short found = found ≡ steps.Short
-IsFound place steps.TooLong found = found ≡ steps.TooLong
-IsFound place (steps.Fault reason) found = found ≡ steps.Fault reason
+-- what was read is what was found
+abbrev pub IsFound : Place → Result (ItemValue × ℕ) Stop → Result (Found × ℕ) Stop → Type 0
+IsFound place read found =
+    found ≡ (read >>= λ (item, n). Ok (record { next = place_after place item n; facts = facts_stated item }, n))
 
 -- which items may stand at a place
 abbrev pub Stands : Place → ItemValue → Type 0
@@ -44,9 +42,9 @@ is_end_item items.End = true
 is_end_item _ = false
 
 -- what holds of the item that was read
-abbrev pub IfRead : Step ItemValue → (ItemValue → Type 0) → Type 0
-IfRead (steps.Whole item n) holds = holds item
-IfRead _ holds = ⊤
+abbrev pub IfRead : Result (ItemValue × ℕ) Stop → (ItemValue → Type 0) → Type 0
+IfRead (Ok (item, n)) holds = holds item
+IfRead (Err stop) holds = ⊤
 
 -- it stands at the place, and ends a heap dump exactly where its first byte says so
 abbrev pub IsOfPlace : Place → List ℕ → ItemValue → Type 0

@@ -1,10 +1,10 @@
 -- What stands at the front as one item, with the fact in hand that it states.
-use Rattle.std.specs.Prelude.{ℕ}
+use Rattle.std.specs.Prelude.{ℕ, Result, Ok}
 use Rattle.hprof_items.specs.declared.header.Header as headers
 use Rattle.hprof_items.specs.declared.fact.Fact as facts
 use Rattle.hprof_items.specs.declared.fact.Fact.TheVariants as fact_forms
-use Rattle.hprof_items.specs.declared.step.Step.{Step}
-use Rattle.hprof_items.specs.declared.step.Step.TheVariants as steps
+use Rattle.hprof_values.specs.declared.stop.Stop.{Stop}
+use Rattle.hprof_values.specs.FieldGroups.{◌>>=◌}
 use Rattle.hprof_stream.specs.declared.item.Item.{Item}
 use Rattle.hprof_stream.specs.declared.item.Item.TheVariants as kinds
 
@@ -34,9 +34,6 @@ with_fact kinds.Skipped fact = Skipped
 abbrev pub bare : Item → ItemValue
 bare item = with_fact item (fact_forms.End 0)
 
--- a step with the fact that was read beside it
-abbrev pub step_with : Step Item → facts.Fact → Step ItemValue
-step_with (steps.Whole item n) fact = steps.Whole (with_fact item fact) n
-step_with steps.Short fact = steps.Short
-step_with steps.TooLong fact = steps.TooLong
-step_with (steps.Fault reason) fact = steps.Fault reason
+-- what was read, with the fact that was read beside it
+abbrev pub read_with : Result (Item × ℕ) Stop → facts.Fact → Result (ItemValue × ℕ) Stop
+read_with read fact = read >>= λ (item, n). Ok (with_fact item fact, n)

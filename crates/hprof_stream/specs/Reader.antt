@@ -9,7 +9,7 @@ use Rattle.hprof_devices.specs.declared.health.Health.{Health}
 use Rattle.hprof_devices.specs.declared.health.Health.TheVariants as healths
 use Rattle.hprof_values.specs.declared.ids.IdSize.{IdSize}
 use Rattle.hprof_values.specs.declared.reason.Reason.TheVariants.{Truncated}
-use Rattle.hprof_items.specs.declared.step.Step.TheVariants.{Short}
+use Rattle.hprof_values.specs.declared.stop.Stop.TheVariants.{Short}
 use Rattle.hprof_items.specs.FactValue.{FactValue}
 use Rattle.hprof_stream.specs.declared.limits.Limits.{Limits}
 use Rattle.hprof_stream.specs.declared.part_fault.PartFault.{PartFault}
@@ -65,7 +65,7 @@ pub record IsUnfinished (longest : ℕ) (bytes : List ℕ) (count : ℕ) : Type 
   pub place : Place
   pub rest : List ℕ
   pub splits : Splits longest bytes items place rest
-  pub short : item_at longest place rest ≡ Short
+  pub short : item_at longest place rest ≡ Err Short
   pub has_count : length (held_of longest place rest) ≡ count
 
 -- some bytes are held of an item that is not whole yet

@@ -1,11 +1,11 @@
 -- What a reader keeps of an item that is not whole yet.
 use Rattle.std.specs.Prelude.{◌≡◌, ℕ, ◌+◌, ◌-◌, ◌<◌, ◌≤◌, ◌⊎◌, vec_len, vec_capacity, List, [], ◌++◌, length, drop, Option, Some, None, ⊤}
-use Rattle.std.specs.Prelude.{if◌then◌else◌}
+use Rattle.std.specs.Prelude.{if◌then◌else◌, Result, Ok, Err}
 use Rattle.hprof_values.specs.declared.ids.IdSize.{IdSize}
 use Rattle.hprof_values.specs.Ids.{IsBytes}
 use Rattle.hprof_items.specs.declared.head.Head.{Head}
-use Rattle.hprof_items.specs.declared.step.Step.{Step}
-use Rattle.hprof_items.specs.declared.step.Step.TheVariants.{Whole, Short}
+use Rattle.hprof_values.specs.declared.stop.Stop.{Stop}
+use Rattle.hprof_values.specs.declared.stop.Stop.TheVariants.{Short}
 use Rattle.hprof_items.specs.declared.walk.Walk.{Walk}
 use Rattle.hprof_items.specs.declared.walk.Walk.TheVariants.{Front, Entries}
 use Rattle.hprof_items.specs.Head.{kind_of}
@@ -21,8 +21,8 @@ use Rattle.hprof_stream.specs.Progress.{place_of, advanced}
 use Rattle.hprof_stream.specs.Item.{Place, Between, Within, is_skipped_kind, held_of, item_at}
 
 -- how much was seen of a record that is passed over, once its head is there
-abbrev pub passing_by : Step Head → ℕ → Option Passing
-passing_by (Whole head n) seen = if is_skipped_kind (kind_of head.tag) then Some (record { seen = seen; left = 9 + head.length - seen })
+abbrev pub passing_by : Result (Head × ℕ) Stop → ℕ → Option Passing
+passing_by (Ok (head, n)) seen = if is_skipped_kind (kind_of head.tag) then Some (record { seen = seen; left = 9 + head.length - seen })
     else None
 passing_by _ seen = None
 
@@ -48,7 +48,7 @@ IsWalkOf longest place bytes walk = ⊤
 -- these bytes are there of an item at that place that is not whole yet, and this is what is kept of them
 pub record IsRest (longest : ℕ) (place : Place) (bytes : List ℕ) (rest : Rest) : Type 0 where
   pub are_bytes : IsBytes bytes
-  pub short : item_at longest place bytes ≡ Short
+  pub short : item_at longest place bytes ≡ Err Short
   pub held : rest.held.items ≡ held_of longest place bytes
   pub passing : rest.passing ≡ passing_of longest place bytes
   pub walk : IsWalkOf longest place bytes rest.walk
@@ -69,7 +69,7 @@ pub record KeepsRoom (old : Rest) (came : ℕ) (new : Rest) (left : ℕ) : Type 
 -- its last bytes came, and nothing is there of the next item; or its bytes are still to come, and none were left
 abbrev pub PassesOver : Progress → (front bytes : List ℕ) → Progress → List ℕ → Rest → Type 0
 PassesOver from front bytes to left rest =
-    ((n : ℕ) × (item_at from.limits.max_item (place_of from) (front ++ bytes) ≡ Whole (record { next = place_of from; facts = [] }) n)
+    ((n : ℕ) × (item_at from.limits.max_item (place_of from) (front ++ bytes) ≡ Ok (record { next = place_of from; facts = [] }, n))
     × (to ≡ advanced from items.Skipped n)
     × (left ≡ drop n (front ++ bytes)) × IsOfPlace (place_of from) (front ++ bytes) items.Skipped
     × IsRest from.limits.max_item (place_of from) [] rest)

@@ -5,7 +5,7 @@ use Rattle.std.specs.List.{list_any}
 use Rattle.std.specs.Borrow.{Bor}
 use Rattle.hprof_values.specs.declared.ids.IdSize.{IdSize}
 use Rattle.hprof_items.specs.declared.header.Header.{Header}
-use Rattle.hprof_items.specs.declared.step.Step.TheVariants.{Whole, Short, TooLong, Fault}
+use Rattle.hprof_values.specs.declared.stop.Stop.TheVariants.{Short, TooLong, Fault}
 use Rattle.hprof_items.specs.FactValue.{FactValue, value_of}
 use Rattle.hprof_stream.specs.ItemValue.{ItemValue}
 use Rattle.hprof_stream.specs.ItemValue as items
@@ -49,10 +49,10 @@ module _ {S : Type 0} (refuses : S → List FactValue → SinkFault → S → Ty
   --   told: the header that was read by then
   abbrev pub Stops : Progress → List ℕ → S → PartFault → Option Header → S → Type 0
   Stops progress bytes old (faults.Malformed at reason) told new =
-      (item_at progress.limits.max_item (place_of progress) bytes ≡ Fault reason) × (at ≡ progress.at) × (told ≡ progress.header)
+      (item_at progress.limits.max_item (place_of progress) bytes ≡ Err (Fault reason)) × (at ≡ progress.at) × (told ≡ progress.header)
       × (old ≡ new)
   Stops progress bytes old (faults.ItemTooLong at) told new =
-      (item_at progress.limits.max_item (place_of progress) bytes ≡ TooLong) × (at ≡ progress.at) × (told ≡ progress.header) × (old ≡ new)
+      (item_at progress.limits.max_item (place_of progress) bytes ≡ Err TooLong) × (at ≡ progress.at) × (told ≡ progress.header) × (old ≡ new)
   Stops progress bytes old (faults.Sink fault) told new =
       (one : Stated) × (next : Place) × (back : List ℕ) × IsItem progress.limits.max_item (place_of progress) one next
       × (header_before next ≡ told)
@@ -68,10 +68,10 @@ module _ {S : Type 0} (begins : S → Header → S → Type 0) (steps : S → Fa
     → S → Type 0) (failed : S → Bool) where
   abbrev pub StepsOver : Progress → List ℕ → S → Result (Option ℕ) PartFault → Progress → S → Type 0
   StepsOver from bytes old (Ok None) to new =
-      (item_at from.limits.max_item (place_of from) bytes ≡ Short) × (from ≡ to) × (old ≡ new)
+      (item_at from.limits.max_item (place_of from) bytes ≡ Err Short) × (from ≡ to) × (old ≡ new)
   StepsOver from bytes old (Ok (Some n)) to new =
       Walks begins steps from.limits.max_item from bytes old to (drop n bytes) new × (0 < n) × (n ≤ length bytes)
-      × ((found : Found) × (item_at from.limits.max_item (place_of from) bytes ≡ Whole found n))
+      × ((found : Found) × (item_at from.limits.max_item (place_of from) bytes ≡ Ok (found, n)))
   StepsOver from bytes old (Err fault) to new = Stops refuses failed from bytes old fault to.header new
       × (to ≡ record from { header = to.header })
 
@@ -88,7 +88,7 @@ module _ {S : Type 0} (begins : S → Header → S → Type 0) (steps : S → Fa
   -- whole items were walked over up to a rest that needs more bytes, or up to one that is refused
   abbrev pub WalksAll : Progress → List ℕ → S → Result (List ℕ) PartFault → Progress → S → Type 0
   WalksAll from bytes old (Ok rest) to new =
-      Walks begins steps from.limits.max_item from bytes old to rest new × (item_at to.limits.max_item (place_of to) rest ≡ Short)
+      Walks begins steps from.limits.max_item from bytes old to rest new × (item_at to.limits.max_item (place_of to) rest ≡ Err Short)
   WalksAll from bytes old (Err fault) to new = Halts from bytes old fault to new
 
   -- whole items were walked over up to where no heap dump has room left, or up to a rest that needs more bytes, or up to one
@@ -96,7 +96,7 @@ module _ {S : Type 0} (begins : S → Header → S → Type 0) (steps : S → Fa
   abbrev pub WalksSubs : Progress → List ℕ → S → Result (List ℕ) PartFault → Progress → S → Type 0
   WalksSubs from bytes old (Ok rest) to new =
       Walks begins steps from.limits.max_item from bytes old to rest new
-      × (IsOutside to ⊎ (item_at to.limits.max_item (place_of to) rest ≡ Short))
+      × (IsOutside to ⊎ (item_at to.limits.max_item (place_of to) rest ≡ Err Short))
   WalksSubs from bytes old (Err fault) to new = Halts from bytes old fault to new
 
   -- bytes came behind those that were there of an item: it is whole now, it was handed on, and behind it these are left;
@@ -130,7 +130,7 @@ module _ {S : Type 0} (begins : S → Header → S → Type 0) (steps : S → Fa
   ReadsOn from front bytes old (Ok left) to rest new =
       (still : List ℕ) × Walks begins steps from.limits.max_item from (front ++ bytes) old to (still ++ left) new
       × IsRest from.limits.max_item (place_of to) still rest
-      × (item_at from.limits.max_item (place_of to) (still ++ left) ≡ Short) × ((still ≡ []) ⊎ (left ≡ []))
+      × (item_at from.limits.max_item (place_of to) (still ++ left) ≡ Err Short) × ((still ≡ []) ⊎ (left ≡ []))
   ReadsOn from front bytes old (Err fault) to rest new = IsHalted from front bytes old fault to new
 
 -- the bytes behind the reference

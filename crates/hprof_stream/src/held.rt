@@ -2,7 +2,6 @@
 
 ghost use Rattle.std.specs.Prelude.{◌≡◌, ◌⊎◌, ◌+◌, ◌<◌, ◌≤◌, ◌++◌, ℕ, List, [], length, vec_len, vec_capacity, min, max, true, None, Some};
 ghost use Rattle.std.specs.Prelude.{Err, IfOk, OnOk, OnErr, IfSome};
-ghost use Rattle.hprof_items.specs.declared.step.Step.TheVariants.{Short};
 ghost use Rattle.hprof_values.specs.Ids.{IsBytes};
 ghost use Rattle.hprof_items.specs.SubReading.{bounds_within};
 ghost use Rattle.hprof_items.specs.Walk.{StopsIn};
@@ -17,7 +16,7 @@ use crate::part_fault::PartFault;
 use crate::progress::Progress;
 use crate::rest::{Passing, Rest, pass_over};
 use crate::sink::Sink;
-use hprof_items::{Fact, HEAD_LEN, HEADER_LEN, HeadKind, Step, Stop, go_on, read_head};
+use hprof_items::{Fact, HEAD_LEN, HEADER_LEN, HeadKind, Stop, go_on, read_head};
 use hprof_values::BoundedBytes;
 
 /// Appends bytes to the held ones.
@@ -53,7 +52,7 @@ fn passing_at(progress: &Progress, bytes: &[u8]) -> Option<Passing>
     if progress.room > 0 {
         return None;
     }
-    let Step::Whole(head, _) = read_head(bytes, header.ids, progress.limits.max_item) else {
+    let Ok((head, _)) = read_head(bytes, header.ids, progress.limits.max_item) else {
         return None;
     };
     let HeadKind::Skipped = head.kind() else {
@@ -74,7 +73,7 @@ fn walks_short(progress: &Progress, rest: &mut Rest) -> bool
     ensures passing { rest.new.passing ≡ rest.old.passing }
     ensures walk { IsWalkOf progress.now.limits.max_item (place_of progress.now) rest.old.held.items rest.old.walk
         → IsWalkOf progress.now.limits.max_item (place_of progress.now) rest.old.held.items rest.new.walk
-        × (result ≡ true → item_at progress.now.limits.max_item (place_of progress.now) rest.old.held.items ≡ Short) }
+        × (result ≡ true → item_at progress.now.limits.max_item (place_of progress.now) rest.old.held.items ≡ Err Stop.Short) }
     ensures stands { (header : Header) → progress.now.header ≡ Some header → result ≡ true
         → StopsIn header.ids (bounds_within progress.now.room progress.now.limits.max_item rest.old.held.items) rest.old.held.items
         rest.new.walk Stop.Short }
@@ -103,7 +102,7 @@ fn count_passed(progress: &Progress, rest: &mut Rest)
     ensures len { rest_len rest.new ≤ rest_len rest.old }
     ensures shorter { length rest.new.held.items ≤ length rest.old.held.items }
     ensures room { vec_capacity rest.new.held ≡ vec_capacity rest.old.held }
-    ensures rest { item_at progress.now.limits.max_item (place_of progress.now) rest.old.held.items ≡ Short
+    ensures rest { item_at progress.now.limits.max_item (place_of progress.now) rest.old.held.items ≡ Err Stop.Short
         → IsWalkOf progress.now.limits.max_item (place_of progress.now) rest.old.held.items rest.old.walk
         → rest.old.passing ≡ None
         → IsRest progress.now.limits.max_item (place_of progress.now) rest.old.held.items rest.new }
@@ -220,7 +219,7 @@ pub(crate) fn keep(progress: &Progress, rest: &mut Rest, left: &[u8]) -> Result<
     requires counted { IsCounted progress.now (rest_len rest.old + length left.now) }
     requires sound { IsSound rest.old }
     ensures ok { OnOk result ((still : List ℕ) → IsRest progress.now.limits.max_item (place_of progress.now) still rest.old
-        → item_at progress.now.limits.max_item (place_of progress.now) (still ++ left.now) ≡ Short → (still ≡ []) ⊎ (left.now ≡ [])
+        → item_at progress.now.limits.max_item (place_of progress.now) (still ++ left.now) ≡ Err Stop.Short → (still ≡ []) ⊎ (left.now ≡ [])
         → IsRest progress.now.limits.max_item (place_of progress.now) (still ++ left.now) rest.new) }
     ensures err { OnErr result ((result ≡ Err PartFault.OutOfMemory) × (0 < length left.now)
         × ((still : List ℕ) → (still ≡ []) ⊎ (left.now ≡ [])

@@ -1,9 +1,8 @@
 //! The progress of reading a part, and the step over one item.
 
 ghost use Rattle.std.specs.Prelude.{◌≡◌, ℕ, true, ◌+◌, ◌≤◌, length, drop, Some, None, Option, IfOk, IfErr, OnOk};
-ghost use Rattle.hprof_items.specs.declared.step.Step.TheVariants.{Whole};
 ghost use Rattle.hprof_stream.specs.Item.{item_at};
-ghost use Rattle.hprof_stream.specs.ItemValue.{with_fact, bare, step_with};
+ghost use Rattle.hprof_stream.specs.ItemValue.{with_fact, bare, read_with};
 ghost use Rattle.hprof_stream.specs.ItemStep.{IsFound, IfRead, IsOfPlace, ItemLists, facts_stated};
 ghost use Rattle.hprof_items.specs.declared.header.Header.{Header};
 ghost use Rattle.hprof_items.specs.Spelling.{longest_body};
@@ -14,7 +13,7 @@ use crate::item::{Item, first_item, record_item};
 use crate::limits::Limits;
 use crate::part_fault::PartFault;
 use crate::sink::{Sink, SinkFault};
-use hprof_items::{Fact, Header, IdSize, Step, Stop, read_sub_into};
+use hprof_items::{Fact, Header, IdSize, Stop, read_sub_into};
 
 /// The progress of reading a part: the complete items from its start.
 #[derive(Clone, Copy)]
@@ -54,12 +53,12 @@ impl Progress {
     }
 
     /// Reads the header or the record at the front. Stores its fact in `fact`.
-    fn item<'a>(&self, bytes: &'a [u8], fact: &mut Fact<'a>) -> Step<Item>
+    fn item<'a>(&self, bytes: &'a [u8], fact: &mut Fact<'a>) -> Result<(Item, usize), Stop>
         requires { IsOutside self.now }
-        ensures found { IsFound (place_of self.now) (step_with result fact.new)
+        ensures found { IsFound (place_of self.now) (read_with result fact.new)
             (item_at self.now.limits.max_item (place_of self.now) bytes.now) }
-        ensures place { IfRead (step_with result fact.new) (IsOfPlace (place_of self.now) bytes.now) }
-        ensures lists { IfRead (step_with result fact.new) (ItemLists self.now.header) }
+        ensures place { IfRead (read_with result fact.new) (IsOfPlace (place_of self.now) bytes.now) }
+        ensures lists { IfRead (read_with result fact.new) (ItemLists self.now.header) }
     {
         let longest = self.limits.max_item;
         match self.header {
@@ -157,7 +156,7 @@ impl Progress {
     {
         let at = self.at;
         match self.item(bytes, fact) {
-            Step::Whole(item, len) => {
+            Ok((item, len)) => {
                 if let Err(fault) = give(&item, fact, sink) {
                     self.tell(&item);
                     return Err(PartFault::Sink(fault));
@@ -165,9 +164,9 @@ impl Progress {
                 self.advance(&item, len);
                 Ok(Some(len))
             }
-            Step::Short => Ok(None),
-            Step::TooLong => Err(PartFault::ItemTooLong { at }),
-            Step::Fault(reason) => Err(PartFault::Malformed { at, reason }),
+            Err(Stop::Short) => Ok(None),
+            Err(Stop::TooLong) => Err(PartFault::ItemTooLong { at }),
+            Err(Stop::Fault(reason)) => Err(PartFault::Malformed { at, reason }),
         }
     }
 

@@ -1,16 +1,12 @@
 pub mod SortedRows
 pub mod PageRows
 pub mod SortedList
-pub mod SortedTable
-pub mod Framed
-pub mod Spans
+pub mod TablePages
 pub mod SideBySide
 pub mod Merged
 pub mod Unions
 pub mod Contents
-pub mod Taking
 pub mod PlacedRows
 pub mod Missing
-pub mod SameTables
 pub mod Places
 pub mod Pages

@@ -6,9 +6,6 @@ pub mod Pages
 pub mod SortedTable
 pub mod PlacedRows
 pub mod Relation
-pub mod Spans
-pub mod StatedBytes
-pub mod BytesTable
 pub mod SideBySide
 pub mod Rows
 pub mod Places

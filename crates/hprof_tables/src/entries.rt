@@ -19,7 +19,7 @@ fn rows_of_page<V>(pages: &[Page<V>], number: usize) -> &[(u64, V)]
 
 /// An iterator over the rows of a table, in order of key.
 #[derive(Drop)]
-pub(crate) struct Entries<'a, V> {
+pub struct Entries<'a, V> {
     /// The rows of the current page that are still to come.
     pub(crate) rows: &'a [(u64, V)],
     /// The numbers of the pages after it.

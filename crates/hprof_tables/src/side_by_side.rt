@@ -4,19 +4,16 @@ ghost use Rattle.std.specs.Prelude.{◌≡◌, ◌↔◌, ℕ, List, IfOk, OnErr
 ghost use Rattle.hprof_tables.specs.SideBySide.{AreMissing, IsFirstDifference, LacksOne};
 ghost use Rattle.hprof_tables.specs.SortedRows.{IsAscending};
 ghost use Rattle.std.specs.Iterator.{YieldsFirstBy};
-ghost use Rattle.hprof_tables.specs.BytesTable.{byte_rows_left};
-ghost use Rattle.hprof_tables.specs.Spans.{the_bytes};
 ghost use Rattle.hprof_tables.specs.Relation.{contents_of};
 ghost use Rattle.hprof_tables.specs.Rows.{rows_left};
 
-use crate::bytes_table::BytesRows;
 use crate::content::Content;
 use crate::rows::Rows;
 use std::alloc::{AllocError, Global};
 use std::cmp::Ordering;
 
 /// An iterator over rows of any kind, with their keys.
-pub(crate) trait KeyedRows<R: Content> {
+pub trait KeyedRows<R: Content> {
     // The keys and contents that are still to come.
     ghost left: { Self → List (ℕ × List ℕ) };
 
@@ -47,38 +44,8 @@ impl<'a, V: Content> KeyedRows<&'a V> for Rows<'a, V> {
     }
 }
 
-/// A row of bytes.
-#[derive(Clone, Copy)]
-pub(crate) struct LentBytes<'a>(pub(crate) &'a [u8]);
-
-impl Content for LentBytes<'_> {
-    ghost content = { λ row. row.0.now };
-
-    ghost refuses = { λ _. ⊥ };
-
-    fn agrees(&self, other: &Self) -> bool {
-        self.0 == other.0
-    }
-
-    fn copied(&self, _alloc: Global) -> Result<Self, AllocError> {
-        Ok(*self)
-    }
-}
-
-impl<'a> KeyedRows<LentBytes<'a>> for BytesRows<'a> {
-    ghost left = { byte_rows_left };
-
-    fn next_row(&mut self) -> Option<(u64, LentBytes<'a>)> {
-        let (key, bytes) = self.next()?;
-        Some((key, LentBytes(bytes)))
-    }
-}
-
 /// Returns whether both have the same keys with the same contents.
-pub(crate) fn same_rows<R: Content + Drop, I: KeyedRows<R> + Drop>(
-    mut rows: I,
-    mut others: I,
-) -> bool
+pub fn same_rows<R: Content + Drop, I: KeyedRows<R> + Drop>(mut rows: I, mut others: I) -> bool
     ensures { IsTrue result ↔ (I.left rows ≡ I.left others) }
 {
     while let Some((key, row)) = rows.next_row() {
@@ -93,7 +60,7 @@ pub(crate) fn same_rows<R: Content + Drop, I: KeyedRows<R> + Drop>(
 }
 
 /// Returns the least key whose contents differ. Walks over each once.
-pub(crate) fn first_difference<R: Content + Drop, I: KeyedRows<R> + Drop>(
+pub fn first_difference<R: Content + Drop, I: KeyedRows<R> + Drop>(
     mut rows: I,
     mut others: I,
 ) -> Option<u64>
@@ -129,7 +96,7 @@ pub(crate) fn first_difference<R: Content + Drop, I: KeyedRows<R> + Drop>(
 }
 
 /// Returns the rows of `others` whose keys `rows` lacks. Walks over each once. If there are none, nothing is allocated.
-pub(crate) fn missing_rows<S, I, R, J>(
+pub fn missing_rows<S, I, R, J>(
     alloc: Global,
     mut rows: I,
     mut others: J,

@@ -32,7 +32,7 @@ pub(crate) struct Spot {
 
 /// Rows by key, in pages. Each key belongs to one page. The page of the last key is tried first.
 #[derive(Drop)]
-pub(crate) struct SortedTable<V> {
+pub struct SortedTable<V> {
     pages: Vec<Page<V>>,
     /// The number of each page, by its least key.
     places: BTreeMap<u64, usize>,
@@ -98,7 +98,7 @@ impl<V> SortedTable<V> {
     ghost use Rattle.hprof_tables.specs.SortedTable.{HasNoSpace, HasRoomAt, IsSpot, LacksRoom, entries_of, entries_left};
 
     /// Returns an empty table. Allocates nothing.
-    pub(crate) fn new(alloc: Global) -> Self
+    pub fn new(alloc: Global) -> Self
         ensures none { entries_of result ≡ [] }
         ensures no_room { HasNoSpace result }
     {
@@ -208,7 +208,7 @@ impl<V> SortedTable<V> {
 
     /// Returns the row under a key, looking near the finger first, and moves the finger there.
     #[inline(always)]
-    pub(crate) fn get_near(&self, key: u64, near: &mut Finger) -> Option<&V>
+    pub fn get_near(&self, key: u64, near: &mut Finger) -> Option<&V>
         ensures { option_copied result ≡ row_at key (entries_of self.now) }
     {
         if self.pages.is_empty() {
@@ -374,7 +374,7 @@ impl<V> SortedTable<V> {
 
     /// Visits the row under a key, or makes one if there is none.
     #[inline(always)]
-    pub(crate) fn visit<T: Visit<V> + Drop>(
+    pub fn visit<T: Visit<V> + Drop>(
         &mut self,
         key: u64,
         visitor: T,
@@ -400,7 +400,7 @@ impl<V> SortedTable<V> {
 
     /// Adds rows whose keys are new, in one pass over them and the table, which has a single page then. If there are no rows, nothing is
     /// allocated.
-    pub(crate) fn merge(&mut self, alloc: Global, fresh: Vec<(u64, V)>) -> Result<(), AllocError>
+    pub fn merge(&mut self, alloc: Global, fresh: Vec<(u64, V)>) -> Result<(), AllocError>
     where
         V: Drop,
         requires ascending { IsAscending fresh.items }
@@ -440,14 +440,14 @@ impl<V> SortedTable<V> {
     }
 
     /// Returns the number of rows.
-    pub(crate) fn len(&self) -> usize
+    pub fn len(&self) -> usize
         ensures { result ≡ length (entries_of self.now) }
     {
         self.len
     }
 
     /// Returns an iterator over the rows, in order of key.
-    pub(crate) fn iter(&self) -> Entries<'_, V>
+    pub fn iter(&self) -> Entries<'_, V>
         ensures all { entries_left result ≡ entries_of self.now }
         ensures ascending { IsAscending (entries_of self.now) }
     {

@@ -5,7 +5,7 @@ ghost use Rattle.std.specs.Prelude.{◌≡◌, ℕ, List, IfOk, OnErr};
 use std::alloc::AllocError;
 
 /// Visits a key: asks the row that is present, or makes one.
-pub(crate) trait Visit<V> {
+pub trait Visit<V> {
     /// The answer of a row.
     type Answer;
 

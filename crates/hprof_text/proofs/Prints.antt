@@ -137,7 +137,7 @@ IsAscii-tested bytes passes =
     (All-weaker (λ b. nat_lt b 128 ≡ true) (λ b. b < 128) (λ b. ltb-true b 128) bytes
     (AllPass-from_list_all (λ b. nat_lt b 128) bytes passes))
 
-IsAscii-hex : (bytes : List ℕ) → IsAscii (encode_lower bytes)
+pub IsAscii-hex : (bytes : List ℕ) → IsAscii (encode_lower bytes)
 IsAscii-hex bytes = IsAscii-encode_with lower_digits bytes (IsAscii-tested lower_digits refl)
 
 IsAscii-printed_unit : (unit : ℕ) → IsAscii (printed_unit unit)

@@ -4,6 +4,8 @@ ghost use Rattle.std.specs.Prelude.{◌≡◌, ℕ, ◌<◌, ◌^◌, List, Opti
 ghost use Rattle.hprof_text.specs.ModifiedUtf8.{IsModifiedUtf8, DecodesTo};
 ghost use Rattle.hprof_text.specs.Printed.{IsPrinted};
 ghost use Rattle.hprof_text.specs.Identifier.{id_digits, AreIdDigits, IsIdText, id_value};
+ghost use Rattle.hprof_text.specs.JavaFloats.{IsNumber, float_text, double_text};
+ghost use Rattle.hprof_text.specs.declared.java_floats.FloatFormat.TheVariants.{Float, Double};
 
 /// Bytes have at most one list of units.
 pub fn one_list_of_units()
@@ -35,4 +37,12 @@ pub fn digits_are_shortest()
 /// `parse_id` accepts the digits that `push_id` appends, and returns the identifier.
 pub fn digits_are_taken()
     ensures { (id : ℕ) → id < 2 ^ 64 → IsIdText (id_digits id) × (id_value (id_digits id) ≡ id) }
+{}
+
+/// Floats that are no NaN and have the same text have the same bits, and so have doubles.
+pub fn one_number_of_a_text()
+    ensures float { (a b : ℕ) → a < 2 ^ 32 → b < 2 ^ 32 → IsNumber Float a → IsNumber Float b
+        → float_text a ≡ float_text b → a ≡ b }
+    ensures double { (a b : ℕ) → a < 2 ^ 64 → b < 2 ^ 64 → IsNumber Double a → IsNumber Double b
+        → double_text a ≡ double_text b → a ≡ b }
 {}

@@ -39,6 +39,12 @@ WritesNoFile (tasks.Write product out parts) = ⊥
 WritesNoFile (tasks.Salvage out parts) = ⊥
 WritesNoFile other = ⊤
 
+-- the task reads nothing of the standard input
+abbrev pub ReadsNothing : Task → Type 0
+ReadsNothing tasks.JoinInput = ⊥
+ReadsNothing (tasks.Ask parts) = ⊥
+ReadsNothing other = ⊤
+
 -- the new file of the task, if it writes one, may be created once its parts are opened
 abbrev pub MayDo : {P W : Type 0} → Answered P W → Task → Type 0
 MayDo answered (tasks.Write product out parts) = MayCreateBehind answered parts.items out.name.now

@@ -16,7 +16,7 @@ ghost use Rattle.hprof_tool.specs.Folder.{MayCreateBehind};
 ghost use Rattle.hprof_tool.specs.Program.{IsMadeOfStream, IsMadeInFile, IsMadeOfFiles, IsFilesRefusal};
 ghost use Rattle.hprof_tool.specs.SalvagedFiles.{IsSalvagedFile};
 ghost use Rattle.hprof_tool.specs.Streams.{RefusesStream, RefusesReport};
-ghost use Rattle.hprof_tool.specs.Tasks.{DoesTask, IsMisnamedTask, MayDo, RefusesTask, WritesNoFile, new_file_making};
+ghost use Rattle.hprof_tool.specs.Tasks.{DoesTask, IsMisnamedTask, MayDo, ReadsNothing, RefusesTask, WritesNoFile, new_file_making};
 ghost use Rattle.hprof_tool.specs.Telling.{TellsFaults, TellsFront, RefusesSalvage, TellsRefusal, told_line};
 ghost use Rattle.hprof_tool.specs.Words.{is_new_file};
 
@@ -275,8 +275,15 @@ fn list_of(alloc: Global, words: io::Result<Args>) -> io::Result<Vec<String>> {
     Ok(words?.collect(alloc)?)
 }
 
+/// The standard input, and where a person is prompted for questions. They were not touched.
+#[derive(Drop)]
+struct Unread<I, P> {
+    input: I,
+    prompts: Option<P>,
+}
+
 /// Does what a task asks for. It gives back `output`, unless there was no memory for the buffer before it, and the new file, if it wrote
-/// one.
+/// one; and beside them `input` and `prompts`, if the task does not read.
 fn perform<F: Folder, I: Source + Drop, O: Write + Drop, E: Write, P: Write + Drop>(
     alloc: Global,
     files: &F,
@@ -285,48 +292,71 @@ fn perform<F: Folder, I: Source + Drop, O: Write + Drop, E: Write, P: Write + Dr
     mut output: O,
     errors: &mut E,
     prompts: Option<P>,
-) -> Ended<O, F::Out>
+) -> (Ended<O, F::Out>, Option<Unread<I, P>>)
     requires folder { MayDo (F.answered files.now) task }
     requires input { I.health input ≡ Well }
-    ensures done { result.status ≡ Status.Done → (after : O) × (result.output ≡ Some after) × DoesTask (F.answered files.now)
-        F.Part.left F.Part.health F.Part.pulls F.Out.contents I.left I.health I.pulls O.contents result.file task.entry input output after }
-    ensures refused { result.status ≡ Status.Refused → (why : Refused) × RefusesTask (F.answered files.now)
-        F.Part.left F.Part.health F.Part.pulls F.Out.contents I.left I.health I.pulls O.contents result.file task.entry input output why
-        result.output
+    ensures done { result.0.status ≡ Status.Done → (after : O) × (result.0.output ≡ Some after) × DoesTask (F.answered files.now)
+        F.Part.left F.Part.health F.Part.pulls F.Out.contents I.left I.health I.pulls O.contents result.0.file task.entry input output after }
+    ensures refused { result.0.status ≡ Status.Refused → (why : Refused) × RefusesTask (F.answered files.now)
+        F.Part.left F.Part.health F.Part.pulls F.Out.contents I.left I.health I.pulls O.contents result.0.file task.entry input output why
+        result.0.output
         × TellsRefusal why (E.contents errors.old) (E.contents errors.new) }
-    ensures silent { result.status ≡ Status.Done → errors.new ≡ errors.old }
-    ensures understood { result.status ≡ Status.NotUnderstood → result.output ≡ Some output }
-    ensures misnamed { result.status ≡ Status.NotUnderstood → (fault : Misnamed) × IsMisnamedTask task.entry fault
+    ensures silent { result.0.status ≡ Status.Done → errors.new ≡ errors.old }
+    ensures understood { result.0.status ≡ Status.NotUnderstood → result.0.output ≡ Some output }
+    ensures misnamed { result.0.status ≡ Status.NotUnderstood → (fault : Misnamed) × IsMisnamedTask task.entry fault
         × TellsFront (told_line (misnamed_text fault)) (E.contents errors.old) (E.contents errors.new) }
-    ensures no_file { WritesNoFile task.entry → result.file ≡ None }
+    ensures no_file { WritesNoFile task.entry → result.0.file ≡ None }
+    ensures unread { ReadsNothing task.entry → result.1 ≡ Some (record { input = input; prompts = prompts }) }
 {
     match task {
-        Task::JoinInput => join_input(alloc, input, output, errors),
+        Task::JoinInput => (join_input(alloc, input, output, errors), None),
         Task::Write {
             product,
             out,
             parts,
         } => {
-            let ended = write_dump(alloc, files, product, out, &parts, errors);
-            Ended {
-                status: ended.status,
-                output: Some(output),
-                file: ended.file,
-            }
+            let EndedFile { status, file } = write_dump(alloc, files, product, out, &parts, errors);
+            let output = Some(output);
+            (
+                Ended {
+                    status,
+                    output,
+                    file,
+                },
+                Some(Unread { input, prompts }),
+            )
         }
         Task::Salvage { out, parts } => {
-            let ended = salvage(alloc, files, out, &parts, &mut output, errors);
-            Ended {
-                status: ended.status,
-                output: Some(output),
-                file: ended.file,
-            }
+            let EndedFile { status, file } = salvage(
+                alloc,
+                files,
+                out,
+                &parts,
+                &mut output,
+                errors,
+            );
+            let output = Some(output);
+            (
+                Ended {
+                    status,
+                    output,
+                    file,
+                },
+                Some(Unread { input, prompts }),
+            )
         }
         Task::Report { word, text, parts } => {
-            report(alloc, files, word, text, &parts, output, errors)
+            let ended = report(alloc, files, word, text, &parts, output, errors);
+            (ended, Some(Unread { input, prompts }))
         }
-        Task::Compare { older, newer } => { compare(alloc, files, older, newer, output, errors) }
-        Task::Ask { parts } => { converse(alloc, files, &parts, input, prompts, output, errors) }
+        Task::Compare { older, newer } => {
+            let ended = compare(alloc, files, older, newer, output, errors);
+            (ended, Some(Unread { input, prompts }))
+        }
+        Task::Ask { parts } => (
+            converse(alloc, files, &parts, input, prompts, output, errors),
+            None,
+        ),
     }
 }
 
@@ -359,7 +389,7 @@ fn perform_metered<S: Files + Clock, I: Read + Drop, O: Write + Drop, E: Write, 
         writer,
     });
     let input = Device::new(input);
-    let ended = perform(alloc, &files, task, input, output, &mut errors, prompts);
+    let (ended, _) = perform(alloc, &files, task, input, output, &mut errors, prompts);
     meter.clear();
     ended.status
 }

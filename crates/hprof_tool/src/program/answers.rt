@@ -86,7 +86,8 @@ pub(crate) fn answer_words<O: Write, E: Write>(
     output: &mut O,
     errors: &mut E,
 ) -> Status
-    ensures { IsStatusOfWords (kind_of error.now) result }
+    ensures status { IsStatusOfWords (kind_of error.now) result }
+    ensures quiet { result ≡ Status.NotUnderstood → output.new ≡ output.old }
 {
     if error.kind() == ErrorKind::OutOfMemory {
         return refuse(alloc, &Refused::OutOfMemory, errors);
@@ -105,6 +106,8 @@ pub(crate) fn answer_words<O: Write, E: Write>(
 pub(crate) fn answer_no_words<E: Write>(alloc: Global, error: &io::Error, errors: &mut E) -> Status
     ensures memory { error_kind error.now ≡ OutOfMemory → result ≡ Status.Refused }
     ensures no_text { error_kind error.now ≢ OutOfMemory → result ≡ Status.NotUnderstood }
+    ensures told { error_kind error.now ≢ OutOfMemory
+        → TellsFront (told_line (codes "the words are no text")) (E.contents errors.old) (E.contents errors.new) }
 {
     if error.kind() == io::ErrorKind::OutOfMemory {
         return refuse(alloc, &Refused::OutOfMemory, errors);

@@ -32,7 +32,8 @@ pub(crate) trait Folder {
         ensures well { IfOk result (λ part. Self.Part.health part ≡ Well) }
         ensures fails { OnErr result ((answered self.now).CannotOpen name.now) };
 
-    /// Creates a new file, if there is none, behind a buffer. If there is no memory for the buffer, no new file is left.
+    /// Creates a new file, if there is none, behind a buffer. If there is no memory for the buffer, the file is removed; if it cannot be
+    /// removed, it stays.
     fn create_out(&self, alloc: Global, out: OutName<'_>) -> Result<BufWriter<Self::Out>, Refused>
         requires { (answered self.now).MayCreate out.name.now }
         ensures created { IfOk result (λ buffered. (answered self.now).IsCreated out.entry.name.now (writer_inner buffered)) }

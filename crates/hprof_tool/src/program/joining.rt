@@ -39,8 +39,8 @@ pub(crate) fn join_stream<I: Source + Drop, O: Write + Drop>(
     write_through_buffer(alloc, &Dump, &mut part, output)
 }
 
-/// Writes the product of parts in files to a new file, which it gives back. It is created once all parts are
-/// opened. After a refusal no new file is left.
+/// Writes the product of parts in files to a new file, which it gives back. It is created once all parts are opened. After a refusal it
+/// is removed; if it cannot be removed, it stays.
 pub(crate) fn write_file<P: Product, F: Folder>(
     alloc: Global,
     files: &F,

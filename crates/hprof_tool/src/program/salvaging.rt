@@ -47,8 +47,8 @@ fn salvage_into<R: Source, W: Write + Drop>(
     take_apart(saved, target)
 }
 
-/// Salvages parts in files to a new file, which it gives back. It is created once all parts are opened. After a refusal no new file is
-/// left.
+/// Salvages parts in files to a new file, which it gives back. It is created once all parts are opened. After a refusal it is removed; if
+/// it cannot be removed, it stays.
 pub(crate) fn salvage_file<F: Folder>(
     alloc: Global,
     files: &F,

@@ -2,7 +2,8 @@ use Rattle.std.proofs.Common.{◌≡◌}
 use Rattle.hprof_heap.specs.HeapFacts.{facts_of, size_of}
 use Rattle.hprof_edges.specs.declared.edge.Edge.{Edge}
 use Rattle.hprof_edges.specs.DumpEdges.{GivenByClass, GivenByObject}
-use Rattle.hprof_edges.proofs.OnlyDumps.{dumps_from}
+use Rattle.hprof_edges.specs.LeftOut.{IsKept, fields_in}
+use Rattle.hprof_edges.proofs.LeftOutEdges.{kept_from}
 use Rattle.hprof_edges.proofs.PutTogether.{put_both}
 use Rattle.hprof_edges.proofs.from_known.known_edges.Goals as goal
 
@@ -10,7 +11,9 @@ pub returns-clause-holds : goal.returns-clause-holds
 returns-clause-holds g c = λ edges knows held.
     let size = size_of c.args.heap.now in
     let facts = facts_of c.args.heap.now in
+    let fields = fields_in c.args.left_out.now in
     put_both edges (g.C.Collect.holds c.put_of_class.new.into) (g.C.Collect.holds c.put_of_known_object.new.into)
     (λ (edge : Edge). (edge.from ≡ c.args.id) × GivenByClass facts edge)
-    (λ (edge : Edge). (edge.from ≡ c.args.id) × GivenByObject size facts edge) _ (c.in_ok-put_of_class.ensures.holds edges held)
-    (λ longer held_more. c.in_ok-put_of_known_object.ensures.holds longer knows held_more) (dumps_from size facts c.args.id)
+    (λ (edge : Edge). (edge.from ≡ c.args.id) × GivenByObject size facts edge × IsKept fields facts edge) _
+    (c.in_ok-put_of_class.ensures.holds edges held)
+    (λ longer held_more. c.in_ok-put_of_known_object.ensures.holds longer knows held_more) (kept_from size facts fields c.args.id)

@@ -11,7 +11,7 @@ use Rattle.hprof_graph_cases.proofs.one_fact.answers_of_one_fact.Goals as goal
 
 pub returns : goal.returns
 returns c =
-    let parts = one_fact c.args.header (value_of c.in-Whole.fact) in
+    let parts = one_fact c.args.header (value_of c.in_ok-fact.fact) in
     let id = c.args.id in
     let live = c.in-Ok.live in
     let gathers : Gathers nothing_gathered parts (seen_by live) = c.in-Ok.ensures.gathers in

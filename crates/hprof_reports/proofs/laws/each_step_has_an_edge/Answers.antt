@@ -14,4 +14,4 @@ pub returns-clause-edge : goal.returns-clause-edge
 returns-clause-edge c = λ ids facts id place nodes path below none.
     let leads = ((path_walks (IsStart facts) (IsStep ids facts) id nodes path).steps place below).0 in
     none (record { from = slice_index nodes place; via = leads.via; position = leads.position; to = slice_index nodes (place + 1) })
-    (record { edge_is = leads.edge; from_is = refl; to_is = refl })
+    (record { edge_is = leads.edge; from_is = refl; to_is = refl; holds = tt })

@@ -12,7 +12,7 @@ returns-clause-line c = λ naming line is_naming knows skips is.
     let ids = size_of c.args.heap.now in
     let facts = facts_of c.args.heap.now in
     let edge = c.in-Some.edge in
-    let least = subst (IsLeastEdge ids facts c.args.from c.args.to) c.in-Some.is (c.in_ok-found.ensures knows) in
+    let least = subst (IsLeastEdge ids facts c.args.from c.args.to) c.in-Some.is (c.in_ok-found.ensures.all knows c.none.ensures) in
     let same = step_once facts c.holds_of_heap.ensures.agree ids naming c.args.from c.args.to (edge_line naming edge c.in_ok-name.name) line
     (record {
       edge = Some edge;

@@ -5,7 +5,7 @@ use Rattle.std.proofs.lemmas.Result.{err_from_is_err_and}
 use Rattle.hprof_items.specs.declared.walk.Walk.{Walk}
 use Rattle.hprof_values.proofs.Numbers.{IsBytes-take}
 use Rattle.hprof_values.specs.Ids.{IsBytes}
-use Rattle.hprof_items.specs.declared.step.Step.TheVariants.{Short}
+use Rattle.hprof_values.specs.declared.stop.Stop.TheVariants.{Short}
 use Rattle.hprof_stream.specs.declared.progress.Progress.{Progress}
 use Rattle.hprof_stream.specs.Progress.{place_of}
 use Rattle.hprof_stream.specs.Item.{item_at}
@@ -148,7 +148,7 @@ returns-clause-finished g c front is =
     let rest = c.count_passed.new.rest in
     let step = rw c.in_default.is at c.in_ok-len.ensures.step in
     let to = c.step.new.self in
-    let short = subst (λ (p : Progress). item_at p.limits.max_item (place_of p) (front ++ more) ≡ Short) step.1
+    let short = subst (λ (p : Progress). item_at p.limits.max_item (place_of p) (front ++ more) ≡ Err Short) step.1
     (ap (item_at longest place) (sym shown) ∙ step.0) in
     let on = subst (λ (p : Progress). IsWalkOf p.limits.max_item (place_of p) (front ++ more) c.walks_short.new.rest.walk) step.1
     (subst (λ (b : List ℕ). IsWalkOf longest place b c.walks_short.new.rest.walk) held.all walk.0) in

@@ -1,7 +1,7 @@
-use Rattle.std.proofs.Common.{ℕ, ◌+◌, ltb, length, take, drop, Result, ap, ◌∙◌, arith}
+use Rattle.std.proofs.Common.{ℕ, ◌+◌, ltb, length, take, drop, Result, ap, ◌∙◌, arith, Err}
 use Rattle.std.proofs.lemmas.Bool.{cond-false, le-ltb}
 use Rattle.hprof_values.specs.declared.reason.Reason.{Reason}
-use Rattle.hprof_items.specs.declared.step.Step.TheVariants.{Short}
+use Rattle.hprof_values.specs.declared.stop.Stop.TheVariants.{Short}
 use Rattle.hprof_items.specs.FactValue.{FactValue}
 use Rattle.hprof_items.specs.Reading.{body_at}
 use Rattle.hprof_stream.specs.Item.{found_fact}
@@ -13,6 +13,6 @@ returns-in-Ok-clause-found c =
     let head = c.args.head.now in
     let header = c.args.header.now in
     let read : Result FactValue Reason = body_at header.ids head.tag (take head.length (drop 9 bytes)) in
-    cond-false (ltb (length bytes) (9 + head.length)) Short (found_fact header read (9 + head.length)) (le-ltb _ _ (omega arith))
+    cond-false (ltb (length bytes) (9 + head.length)) (Err Short) (found_fact header read (9 + head.length)) (le-ltb _ _ (omega arith))
     ∙ ap (λ (r : Result FactValue Reason). found_fact header r (9 + head.length))
     (ap (λ (n : ℕ). body_at header.ids head.tag (take n (drop 9 bytes))) (omega arith) ∙ c.in-Ok.ensures.exact)

@@ -5,7 +5,7 @@ use Rattle.std.proofs.lemmas.List.{append-nil, length-append}
 use Rattle.std.proofs.lemmas.Option.{slice_get_read}
 use Rattle.hprof_tables.specs.declared.page.Page.{Page}
 use Rattle.hprof_tables.specs.Pages.{AreChained, rows_along, rows_in}
-use Rattle.hprof_tables.proofs.SortedTable.{moved_rows, some_chain, taken_page}
+use Rattle.hprof_tables.proofs.TablePages.{moved_rows, some_chain, taken_page}
 use Rattle.hprof_tables.proofs.sorted_table.move_rows.Goals as goal
 
 pub loop-number-init : goal.loop-number-init

@@ -2,7 +2,7 @@ use Rattle.std.proofs.Common.{◌≡◌, ◌∷◌, ℕ, List, drop, sym, ap, �
 use Rattle.hprof_values.specs.declared.ids.IdSize.{IdSize}
 use Rattle.hprof_values.specs.Ids.{width_of}
 use Rattle.hprof_items.specs.FactValue.{value_of}
-use Rattle.hprof_tables.specs.BytesTable.{byte_rows}
+use Rattle.hprof_byte_tables.specs.BytesTable.{byte_rows}
 use Rattle.hprof_rows.specs.Kept.{without_id}
 use Rattle.hprof_rows.proofs.KeptObjects.{object_stated, behind_tag}
 use Rattle.hprof_heap.proofs.tables.Tables.state_object.Goals as goal

@@ -4,9 +4,9 @@ use Rattle.hprof_values.specs.declared.ids.IdSize.{IdSize}
 use Rattle.hprof_values.specs.FieldGroups.{field_bytes}
 use Rattle.hprof_values.specs.Lists.{id_widths, identifiers_of}
 use Rattle.hprof_tables.specs.declared.relation.Stated.{Stated}
-use Rattle.hprof_tables.specs.BytesTable.{byte_rows}
+use Rattle.hprof_byte_tables.specs.BytesTable.{byte_rows}
 use Rattle.hprof_tables.specs.Relation.{States}
-use Rattle.hprof_tables.specs.Spans.{the_bytes}
+use Rattle.hprof_byte_tables.specs.Spans.{the_bytes}
 use Rattle.hprof_heap.proofs.tables.Tables.state_trace.Goals as goal
 
 -- what was stated of bytes was stated of the content that they are

@@ -1,10 +1,11 @@
 use Rattle.std.proofs.Common.{◌≡◌, ◌<◌, ℕ, [], sym, ◌∙◌, arith}
 use Rattle.hprof_heap.specs.HeapFacts.{facts_of, size_of}
 use Rattle.hprof_edges.specs.EdgeSet.{SetOf}
+use Rattle.hprof_edges.specs.LeftOut.{fields_in}
 use Rattle.hprof_search.specs.Sources.{end_of, start_of}
 use Rattle.hprof_reach.specs.Referring.{StandsAt}
 use Rattle.hprof_reach.proofs.Froms.{puts_referrers}
-use Rattle.hprof_reach.proofs.Putting.{node_there, put_next, put_same, put_zero}
+use Rattle.hprof_reach.proofs.Putting.{all_put, node_there, put_next, put_same, put_zero}
 use Rattle.hprof_reach.proofs.index.ReferrerIndex.put_of_sources.Goals as goal
 use Rattle.hprof_reach.proofs.index.ReferrerIndex.put_of_sources.Goals.{else-from-last, then-from-last+in_ok-known_edges-2}
 
@@ -12,8 +13,12 @@ pub loop-place-init : goal.loop-place-init
 loop-place-init c = record {
   put = λ is_index empty.
       let sources = c.args.self.now.sources in
-      rw c.start-first.ensures (put_zero (size_of c.args.heap.now) (facts_of c.args.heap.now) sources (start_of sources c.args.id)
-      (SetOf c.known_edges.new.into) (c.in_ok-known_edges.ensures.holds [] is_index.knows empty));
+      let ids = size_of c.args.heap.now in
+      let facts = facts_of c.args.heap.now in
+      let after = SetOf c.known_edges.new.into in
+      rw c.start-first.ensures (put_zero ids facts sources (start_of sources c.args.id) after
+      (all_put ids facts (fields_in c.none-none.result) c.none-none.ensures after [] 0
+      (c.in_ok-known_edges.ensures.holds [] is_index.knows empty)));
   keeps = c.in_ok-known_edges.ensures.keeps;
 }
 
@@ -40,7 +45,8 @@ loop-place-preserved c =
             put = λ is_index empty.
                 let so_far = was.put is_index empty in
                 rw (w.set-is, w.last-is) (put_next ids facts sources start before place last so_far after from
-                (next.holds so_far.edges is_index.knows so_far.held) is);
+                (all_put ids facts (fields_in c.none-none.result) c.none-none.ensures after so_far.edges from
+                (next.holds so_far.edges is_index.knows so_far.held)) is);
             keeps = rw w.set-is (next.keeps ∙ was.keeps);
           }
       | else-from-last w ↦ record {

@@ -4,7 +4,7 @@ use Rattle.hprof_tables.specs.Pages.{HasKey}
 use Rattle.hprof_tables.specs.SortedRows.{row_at}
 use Rattle.hprof_tables.proofs.Pages.{listed-within}
 use Rattle.hprof_tables.proofs.SortedList.{at_err}
-use Rattle.hprof_tables.proofs.SortedTable.{cut_has, cut_tried, lacks_there, spot_at, spot_new}
+use Rattle.hprof_tables.proofs.TablePages.{cut_has, cut_tried, lacks_there, spot_at, spot_new}
 use Rattle.hprof_tables.proofs.sorted_table.SortedTable.cut_spot.Goals as goal
 
 pub cut_page-requires-clause-new : goal.cut_page-requires-clause-new

@@ -1,5 +1,5 @@
 use Rattle.std.proofs.Common.{sym, ◌∙◌}
-use Rattle.hprof_tables.proofs.SortedTable.{key_row}
+use Rattle.hprof_tables.proofs.TablePages.{key_row}
 use Rattle.hprof_tables.proofs.sorted_table.SortedTable.get_near.Goals as goal
 
 pub returns : goal.returns

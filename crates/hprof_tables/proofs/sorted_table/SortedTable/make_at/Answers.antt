@@ -3,7 +3,7 @@ use Rattle.std.specs.Map.{values_of}
 use Rattle.hprof_tables.specs.Pages.{rows_along}
 use Rattle.hprof_tables.specs.SortedTable.{HasRoomIn}
 use Rattle.hprof_tables.proofs.Pages.{insert-length, listed-replaced, rows-put}
-use Rattle.hprof_tables.proofs.SortedTable.{spot_at, spot_new, spot_within}
+use Rattle.hprof_tables.proofs.TablePages.{spot_at, spot_new, spot_within}
 use Rattle.hprof_tables.proofs.sorted_table.SortedTable.make_at.Goals as goal
 
 pub returns-in_err-row-clause-absent : goal.returns-in_err-row-clause-absent

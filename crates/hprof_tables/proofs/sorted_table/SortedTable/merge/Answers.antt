@@ -5,7 +5,7 @@ use Rattle.hprof_tables.specs.Pages.{rows_along}
 use Rattle.hprof_tables.specs.Union.{AreUnion}
 use Rattle.hprof_tables.proofs.SortedRows.{merged-length}
 use Rattle.hprof_tables.proofs.Pages.{listed-ascending}
-use Rattle.hprof_tables.proofs.SortedTable.{all_merged, single_listed, single_rows}
+use Rattle.hprof_tables.proofs.TablePages.{all_merged, single_listed, single_rows}
 use Rattle.hprof_tables.proofs.Unions.{merged_union, nothing_taken}
 use Rattle.hprof_tables.proofs.sorted_table.SortedTable.merge.Goals as goal
 

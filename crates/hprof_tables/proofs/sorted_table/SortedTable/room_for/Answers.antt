@@ -3,7 +3,7 @@ use Rattle.hprof_tables.specs.declared.sorted_table.SortedTable.{SortedTable}
 use Rattle.hprof_tables.specs.SortedTable.{HasRoomIn, LacksRoomThere}
 use Rattle.hprof_tables.proofs.Pages.{get_replaced, listed-replaced, rows-replaced}
 use Rattle.hprof_tables.proofs.SortedList.{at_err}
-use Rattle.hprof_tables.proofs.SortedTable.{spot_at, spot_stays}
+use Rattle.hprof_tables.proofs.TablePages.{spot_at, spot_stays}
 use Rattle.hprof_tables.proofs.sorted_table.SortedTable.room_for.Goals as goal
 
 pub invariant_of-self : goal.invariant_of-self

@@ -2,7 +2,7 @@ use Rattle.std.proofs.Common.{Option, subst, sym, ◌∙◌}
 use Rattle.hprof_tables.specs.declared.page.Page.{Page}
 use Rattle.hprof_tables.specs.Pages.{HasKey}
 use Rattle.hprof_tables.proofs.PageRows.{found_there}
-use Rattle.hprof_tables.proofs.SortedTable.{key_row, page_found, spot_is}
+use Rattle.hprof_tables.proofs.TablePages.{key_row, page_found, spot_is}
 use Rattle.hprof_tables.proofs.sorted_table.SortedTable.spot_in.Goals as goal
 
 pub unreachable-requires : goal.unreachable-requires

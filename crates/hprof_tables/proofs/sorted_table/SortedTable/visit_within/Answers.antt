@@ -2,7 +2,7 @@ use Rattle.std.proofs.Common.{ap, sym, ◌∙◌}
 use Rattle.hprof_tables.specs.SortedRows.{row_at}
 use Rattle.hprof_tables.proofs.PageRows.{goes_new}
 use Rattle.hprof_tables.proofs.SortedList.{at_err}
-use Rattle.hprof_tables.proofs.SortedTable.{key_row, row_there}
+use Rattle.hprof_tables.proofs.TablePages.{key_row, row_there}
 use Rattle.hprof_tables.proofs.sorted_table.SortedTable.visit_within.Goals as goal
 
 pub returns-in_err-spot-in-Err-clause-absent : goal.returns-in_err-spot-in-Err-clause-absent

@@ -1,0 +1,4 @@
+pub mod Framed
+pub mod Spans
+pub mod Taking
+pub mod SameTables

@@ -1,0 +1,3 @@
+pub mod Spans
+pub mod StatedBytes
+pub mod BytesTable

@@ -1,5 +1,0 @@
-use Rattle.std.proofs.Common.{rules}
-use Rattle.hprof_tables.proofs.bytes_table.BytesTable.first_difference.Goals as goal
-
-pub returns : goal.returns
-returns c = search rules
