@@ -1,5 +1,6 @@
 pub mod Naming
 pub mod ClassNames
+pub mod Called
 pub mod TypeWord
 pub mod TypeNames
 pub mod MeantLabel

@@ -1,6 +1,7 @@
 //! Names, classes and types as reports print them, and the text of strings and arrays.
 #![tactic(auto)]
 
+mod called;
 mod class_names;
 pub mod laws;
 mod meant_label;
@@ -10,10 +11,11 @@ mod text;
 mod type_names;
 mod types;
 
+pub use called::{is_called, is_named};
 pub use class_names::ClassNames;
 pub use meant_label::MeantLabel;
 pub use naming::{class_label, label_of, name_text};
-pub use object_text::text_of;
+pub use object_text::{target_of_field, text_of};
 pub use text::{Coding, Text, Units};
 pub use type_names::arrays_named;
 pub use types::type_word;

@@ -1,29 +1,18 @@
 //! Finding the text of an object.
 
-ghost use Rattle.std.specs.Prelude.{◌≡◌, true, false, IfOk};
+ghost use Rattle.std.specs.Prelude.{◌≡◌, IfOk};
 ghost use Rattle.hprof_heap.specs.HeapFacts.{facts_of, size_of};
-ghost use Rattle.hprof_heap.specs.Names.{HasName};
 ghost use Rattle.hprof_heap.specs.ObjectDump.{fact_of_object};
 ghost use Rattle.hprof_layouts.specs.Fields.{AreFields, FieldsValue};
 ghost use Rattle.hprof_naming.specs.Texts.{IsFirstNamed, IsInstanceText, IsStringText, IsText};
 ghost use Rattle.hprof_naming.specs.Texts.{array_text, is_wide_coder, target_of_field, text_value};
 
+use crate::called::is_named;
 use crate::text::{Coding, Text, Units};
-use hprof_heap::{Heap, ObjectDump, find_class, find_name, find_object};
+use hprof_heap::{Heap, ObjectDump, find_class, find_object};
 use hprof_layouts::{FieldValue, Fields, fields, refers};
 use hprof_values::Basic;
 use std::alloc::{AllocError, Global};
-
-/// Returns whether a name has exactly these bytes.
-fn is_named(heap: &Heap, name: u64, word: &[u8]) -> bool
-    ensures yes { result ≡ true → HasName (facts_of heap.now) name word.now }
-    ensures no { result ≡ false → ¬ (HasName (facts_of heap.now) name word.now) }
-{
-    match find_name(heap, name) {
-        Some(bytes) => bytes == word,
-        None => false,
-    }
-}
 
 /// Returns the first of the values whose name has exactly these bytes, or `None` if there is none.
 fn first_named(heap: &Heap, word: &[u8], values: &[FieldValue]) -> Option<FieldValue>
@@ -48,7 +37,7 @@ fn is_wide_coder(coder: Option<FieldValue>) -> bool
 }
 
 /// Returns the identifier that a field refers to, or 0 if it refers to nothing.
-fn target_of_field(field: Option<FieldValue>) -> u64
+pub fn target_of_field(field: Option<FieldValue>) -> u64
     ensures { result ≡ target_of_field field }
 {
     match field {

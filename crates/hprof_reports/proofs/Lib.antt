@@ -5,7 +5,6 @@ pub mod TextWriting
 pub mod ObjectParts
 pub mod PathTold
 pub mod ClassLists
-pub mod UnitCounts
 pub mod PrintedPieces
 pub mod KnownChains
 pub mod Places

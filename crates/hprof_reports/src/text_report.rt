@@ -11,7 +11,7 @@ ghost use Rattle.hprof_reports.specs.TextReport.{IsTextLine, no_text_line, text_
 
 use crate::lines::{write_line, write_str};
 use crate::object::nothing_line;
-use crate::units::{unit_count, write_units};
+use crate::units::write_units;
 use hprof_devices::Target;
 use hprof_engine::WriteStop;
 use hprof_heap::{Heap, holds_of_heap};
@@ -43,7 +43,7 @@ fn write_units_line<W: Target>(
         (units_line (units_of units.entry.coding units.entry.bytes.now)) }
     ensures health { LeavesTarget result (W.health target.new) }
 {
-    write_line(text_start(alloc, unit_count(units)), target)?;
+    write_line(text_start(alloc, units.count()), target)?;
     write_units(alloc, units, target)?;
     write_str("\n", target)
 }

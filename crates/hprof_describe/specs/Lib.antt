@@ -1,0 +1,5 @@
+pub mod Quoted
+pub mod Findings
+pub mod Nodes
+pub mod References
+pub mod Values

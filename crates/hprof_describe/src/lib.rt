@@ -1,0 +1,13 @@
+//! Classes, objects and values, each in a line as people read it.
+#![tactic(auto)]
+
+pub mod laws;
+mod nodes;
+mod quoted;
+mod references;
+mod values;
+
+pub use nodes::{kind_text, node_text};
+pub use quoted::quoted;
+pub use references::{object_words, reference_text};
+pub use values::value_text;

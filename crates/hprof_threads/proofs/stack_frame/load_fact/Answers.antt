@@ -1,0 +1,6 @@
+use Rattle.hprof_heap.specs.HeapFacts.{facts_of}
+use Rattle.hprof_threads.proofs.stack_frame.load_fact.Goals as goal
+
+pub returns : goal.returns
+unfolding facts_of
+returns c = c.load.ensures

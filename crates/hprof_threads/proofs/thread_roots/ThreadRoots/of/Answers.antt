@@ -1,0 +1,29 @@
+use Rattle.std.proofs.Common.{ℕ, ap}
+use Rattle.std.specs.Ordering.{nat_cmp}
+use Rattle.std.specs.BTreeMap.{is_at}
+use Rattle.std.specs.Map.{lookup}
+use Rattle.hprof_items.specs.FactValue.{value_of}
+use Rattle.hprof_rows.specs.declared.table.Table.TheVariants as tables
+use Rattle.hprof_rows.specs.FactsLeft.{facts_left}
+use Rattle.hprof_rows.specs.Tables.{facts_of_table}
+use Rattle.hprof_heap.specs.HeapFacts.{facts_of}
+use Rattle.hprof_threads.proofs.FirstRoots.{roots_of_none, roots_of_more, roots_of_all}
+use Rattle.hprof_threads.proofs.thread_roots.ThreadRoots.of.Goals as goal
+
+pub loop-fact-init : goal.loop-fact-init
+loop-fact-init c =
+    rw c.into_iter-fact-iterator.ensures.into_iter_gives
+    (roots_of_none (facts_of_table tables.Roots (facts_of c.args.heap.now)) (facts_left c.table_facts-fact-items.result)
+    (record { roots = c.new.result }) c.table_facts-fact-items.ensures.all c.table_facts-fact-items.ensures.ordered
+    (λ (serial : ℕ). ap (lookup (is_at (nat_cmp serial))) c.new.ensures.empty))
+
+pub loop-fact-preserved : goal.loop-fact-preserved
+loop-fact-preserved c =
+    roots_of_more (facts_of_table tables.Roots (facts_of c.args.heap.now)) (facts_left c.loop-fact.fact-iterator)
+    (facts_left c.next.new.self) c.loop-fact.roots c.note.new.self (value_of c.in-Some.fact) c.in-Some.ensures.steps.0
+    c.loop-fact.invariant c.in_ok-note.ensures
+
+pub returns : goal.returns
+returns c =
+    roots_of_all (facts_of c.args.heap.now) (facts_left c.loop-fact.fact-iterator) c.loop-fact.roots c.in-None.ensures.steps.0.0
+    c.loop-fact.invariant

@@ -1,0 +1,4 @@
+pub mod Threads
+pub mod ThreadRoots
+pub mod Frames
+pub mod ThreadNames

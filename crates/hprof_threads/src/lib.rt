@@ -1,0 +1,18 @@
+//! Threads of a heap: the root of each thread, its object, its stack and its name, and the lines of stack frames.
+#![tactic(auto)]
+
+mod frame_lines;
+pub mod laws;
+mod stack_frame;
+mod thread_names;
+mod thread_objects;
+mod thread_root;
+mod thread_roots;
+mod thread_stacks;
+
+pub use frame_lines::frame_line;
+pub use thread_names::thread_name;
+pub use thread_objects::thread_object;
+pub use thread_root::ThreadRoot;
+pub use thread_roots::ThreadRoots;
+pub use thread_stacks::thread_stack;
