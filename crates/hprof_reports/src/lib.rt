@@ -30,7 +30,7 @@ pub use classes::write_classes;
 pub use field_names::FieldNames;
 pub use histogram_report::write_histogram;
 pub use lines::{write_line, write_str};
-pub use object::{nothing_line, write_object};
+pub use object::{no_fields_line, nothing_line, write_object};
 pub use objects::write_objects;
 pub use path::{distance_line, write_path};
 pub use place_names::place_name;

@@ -48,7 +48,7 @@ fn write_class<W: Target>(
 }
 
 /// Returns the line that says why an instance has no fields, or an empty text for any other answer.
-fn no_fields_line(alloc: Global, why: &Fields) -> Result<String, AllocError>
+pub fn no_fields_line(alloc: Global, why: &Fields) -> Result<String, AllocError>
     ensures { IfOk result (λ line. string_bytes line ≡ why_no_fields (fields_value why.now)) }
 {
     match why {
