@@ -1,14 +1,16 @@
 //! The names of all classes of a heap, collected in one pass.
 
-ghost use Rattle.std.specs.Prelude.{◌↔◌, IfOk, IsTrue, List, OnOk};
+ghost use Rattle.std.specs.Prelude.{◌≡◌, ◌↔◌, IfOk, IsTrue, List, OnOk, string_bytes};
 ghost use Rattle.std.specs.Ordering.{nat_cmp};
 ghost use Rattle.std.specs.BTreeMap.{get};
 ghost use Rattle.hprof_items.specs.FactValue.{FactValue, value_of};
 ghost use Rattle.hprof_heap.specs.ClassName.{NamesClass};
 ghost use Rattle.hprof_heap.specs.HeapFacts.{facts_of};
 ghost use Rattle.hprof_naming.specs.ClassNames.{AreClassNames, IsBelow, NotesFact};
+ghost use Rattle.hprof_naming.specs.Naming.{IsNaming, Naming};
 
-use hprof_heap::{Heap, Table, table_facts};
+use crate::naming::label_of;
+use hprof_heap::{Heap, Table, holds_of_heap, table_facts};
 use hprof_items::Fact;
 use std::alloc::{AllocError, Global};
 use std::collections::BTreeMap;
@@ -78,5 +80,16 @@ impl ClassNames {
     {
         let named = self.names.get(&class)?;
         Some(named.name)
+    }
+
+    /// Returns the label of a class, as [`class_label`](crate::class_label) does, but finds its name by a lookup. If memory runs out, the
+    /// answer is `AllocError`.
+    pub fn label(&self, alloc: Global, heap: &Heap, class: u64) -> Result<String, AllocError>
+        requires { AreClassNames (facts_of heap.now) self.now }
+        ensures { (naming : Naming) → IsNaming (facts_of heap.now) naming
+            → IfOk result (λ text. string_bytes text ≡ naming.label class) }
+    {
+        holds_of_heap(heap);
+        label_of(alloc, heap, self.name_of(class))
     }
 }
