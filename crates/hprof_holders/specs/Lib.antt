@@ -6,3 +6,4 @@ pub mod Sums
 pub mod WhoText
 pub mod Folding
 pub mod WhyText
+pub mod Views

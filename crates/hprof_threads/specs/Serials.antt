@@ -1,10 +1,13 @@
 -- The threads of a heap: heapDumper.cpp, "HPROF binary format". Which serials count is this project's own rule.
-use Rattle.std.specs.Prelude.{◌≡◌, ◌⊎◌, ◌↔◌, ℕ, List, Option, Some, None, Contains}
+use Rattle.std.specs.Prelude.{◌≡◌, ◌⊎◌, ◌↔◌, ℕ, List, [], ◌∷◌, Option, Some, None, Contains, if◌then◌else◌}
+use Rattle.std.specs.BTreeMap.{is_at}
+use Rattle.std.specs.BTreeSet.{BTreeSet, keys}
+use Rattle.std.specs.List.{list_any}
 use Rattle.std.specs.List.Sorted.{IsStrictlySortedBy}
 use Rattle.std.specs.Ordering.{nat_cmp}
 use Rattle.hprof_values.specs.declared.root.Root.{Root}
 use Rattle.hprof_values.specs.declared.root.Root.TheVariants as roots
-use Rattle.hprof_items.specs.FactValue.{End, FactValue, Rooted}
+use Rattle.hprof_items.specs.FactValue.{End, FactValue, Rooted, Start}
 use Rattle.hprof_rows.specs.Facts.{Has}
 use Rattle.hprof_threads.specs.Threads.{IsStarted}
 
@@ -37,3 +40,24 @@ IsThread facts serial = IsOfRoot facts serial ⊎ IsRunning facts serial
 pub record AreSerials (facts : List FactValue) (serials : List ℕ) : Type 0 where
   pub ascend : IsStrictlySortedBy nat_cmp serials
   pub exact : (serial : ℕ) → Contains serials serial ↔ IsThread facts serial
+
+-- ---- one by one
+
+-- the threads that have ended
+abbrev pub AreEnded : List FactValue → BTreeSet ℕ → Type 0
+AreEnded facts ended = (serial : ℕ) → Contains (keys ended) serial ↔ Has facts (End serial)
+
+abbrev pub as_list : Option ℕ → List ℕ
+as_list (Some serial) = serial ∷ []
+as_list None = []
+
+-- the thread of the root that a fact is
+abbrev pub serials_of_root : FactValue → List ℕ
+serials_of_root (Rooted root) = as_list (thread_of_root root)
+serials_of_root fact = []
+
+-- the thread that a fact says was started, if it is none of those that have ended
+abbrev pub serials_of_start : List ℕ → FactValue → List ℕ
+serials_of_start ended (Start serial object trace name group parent_group) =
+    if list_any (is_at (nat_cmp serial)) ended then [] else serial ∷ []
+serials_of_start ended fact = []

@@ -1,17 +1,17 @@
 //! The serial numbers of all threads of a heap.
 
-ghost use Rattle.std.specs.Prelude.{◌≡◌, ◌↔◌, ◌++◌, ℕ, Contains, IfOk, OnOk, IsTrue};
-ghost use Rattle.std.specs.List.Sorted.{IsStrictlySortedBy};
-ghost use Rattle.std.specs.Ordering.{nat_cmp};
-ghost use Rattle.hprof_items.specs.FactValue.{End, value_of};
-ghost use Rattle.hprof_rows.specs.Facts.{Has};
+ghost use Rattle.std.specs.Prelude.{◌≡◌, ◌↔◌, ◌⊎◌, ◌++◌, ℕ, Contains, IfOk, OnOk};
+ghost use Rattle.std.specs.BTreeSet.{keys};
+ghost use Rattle.hprof_items.specs.FactValue.{value_of};
 ghost use Rattle.hprof_heap.specs.HeapFacts.{facts_of};
-ghost use Rattle.hprof_threads.specs.Serials.{AreSerials, serials_of_root, serials_of_start, thread_of_root};
+ghost use Rattle.hprof_threads.specs.Serials.{AreEnded, AreSerials, IsOfRoot, IsRunning, serials_of_root, serials_of_start};
+ghost use Rattle.hprof_threads.specs.Serials.{thread_of_root};
 
-use hprof_heap::{Heap, Table, table_facts};
+use hprof_heap::{Heap, Table, holds_of_heap, table_facts};
 use hprof_items::Fact;
 use hprof_values::Root;
 use std::alloc::{AllocError, Global};
+use std::collections::BTreeSet;
 
 /// Returns the serial number of the thread that a root names, or `None` if it names none.
 pub fn thread_of_root(root: Root) -> Option<u32>
@@ -39,8 +39,52 @@ fn push_of_root(serials: &mut Vec<u32>, fact: &Fact<'_>) -> Result<(), AllocErro
     Ok(())
 }
 
+/// Appends the serial numbers of the threads that the GC roots of a heap name.
+fn push_of_roots(serials: &mut Vec<u32>, heap: &Heap) -> Result<(), AllocError>
+    ensures { OnOk result ((serial : ℕ) → Contains serials.new.items serial
+        ↔ (Contains serials.old.items serial ⊎ IsOfRoot (facts_of heap.now) serial)) }
+{
+    for fact in table_facts(heap, Table::Roots) {
+        push_of_root(serials, &fact)?;
+    }
+    Ok(())
+}
+
+/// Appends the serial number of the thread that a fact says was started, if it has not ended.
+fn push_of_start(
+    serials: &mut Vec<u32>,
+    fact: &Fact<'_>,
+    ended: &BTreeSet<u32>,
+) -> Result<(), AllocError>
+    ensures { OnOk result (serials.new.items ≡ serials.old.items ++ serials_of_start (keys ended.now) (value_of fact.now)) }
+{
+    if let Fact::Start { thread, .. } = *fact {
+        if !ended.contains(&thread) {
+            serials.push(thread)?;
+        }
+    }
+    Ok(())
+}
+
+/// Appends the serial numbers of the threads of a heap that were started and are none of those that have ended.
+fn push_running(
+    serials: &mut Vec<u32>,
+    heap: &Heap,
+    ended: &BTreeSet<u32>,
+) -> Result<(), AllocError>
+    requires { AreEnded (facts_of heap.now) ended.now }
+    ensures { OnOk result ((serial : ℕ) → Contains serials.new.items serial
+        ↔ (Contains serials.old.items serial ⊎ IsRunning (facts_of heap.now) serial)) }
+{
+    for fact in table_facts(heap, Table::Starts) {
+        push_of_start(serials, &fact, ended)?;
+    }
+    Ok(())
+}
+
 /// Returns the serial numbers of the threads that have ended, which END_THREAD states.
 fn ended_threads(alloc: Global, heap: &Heap) -> Result<BTreeSet<u32>, AllocError>
+    ensures { IfOk result (AreEnded (facts_of heap.now)) }
 {
     let mut ended = BTreeSet::new(alloc);
     for fact in table_facts(heap, Table::Ends) {
@@ -56,6 +100,7 @@ fn ended_threads(alloc: Global, heap: &Heap) -> Result<BTreeSet<u32>, AllocError
 pub fn thread_serials(alloc: Global, heap: &Heap) -> Result<Vec<u32>, AllocError>
     ensures { IfOk result (λ serials. AreSerials (facts_of heap.now) serials.items) }
 {
+    holds_of_heap(heap);
     let ended = ended_threads(alloc, heap)?;
     let mut serials = Vec::new(alloc);
     push_running(&mut serials, heap, &ended)?;
