@@ -5,7 +5,7 @@ from html.parser import HTMLParser
 
 from view.look import SCRIPT, STYLE
 
-EMPTY = {"input", "link", "meta", "br"}
+EMPTY = {"input", "link", "meta", "br", "wbr"}
 KNOWN = EMPTY | set(
     "html head title style body header main h1 h2 p a b i q small code pre dl dt dd ol ul li table thead tbody tr th td div span nav"
     " form button output progress script noscript".split()

@@ -26,6 +26,11 @@ def hprof():
     return os.environ["HPROF"]
 
 
+def time_of(path):
+    """When a file was written last, as pages tell it."""
+    return time.strftime("%Y-%m-%d %H:%M UTC", time.gmtime(os.path.getmtime(path)))
+
+
 class Response:
     def __init__(self, data):
         head, _, self.body = data.partition(b"\r\n\r\n")

@@ -52,7 +52,7 @@ class Attacks(unittest.TestCase):
     def stands(self):
         """The server goes on, and answers at once."""
         start = time.monotonic()
-        self.assertEqual(self.viewer.page(LEAF).heading, "shop/Session")
+        self.assertEqual(self.viewer.page(LEAF).heading, "shop.Session")
         self.assertLess(time.monotonic() - start, request.SECONDS)
 
     def refused(self, response, status):
@@ -194,7 +194,7 @@ class Attacks(unittest.TestCase):
             connection.sendall(request_bytes)
         for connection in open_now:
             with connection:
-                self.assertEqual(Response(received(connection)).page.heading, "shop/Session")
+                self.assertEqual(Response(received(connection)).page.heading, "shop.Session")
 
     def test_a_client_that_goes_away(self):
         for sent in (b"", b"GET", f"GET {self.viewer.base} HTTP/1.1\r\nHost: 127.0.0.1:{self.viewer.port}\r\n\r\n".encode()):

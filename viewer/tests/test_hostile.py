@@ -62,8 +62,8 @@ class Hostile(unittest.TestCase):
 
     def test_long_names(self):
         page = self.of_class("long")
-        self.assertEqual(page.heading, NAMES["long"].decode())
-        self.assertIn("very/" + "long" * 73 + "lon\u2026", page.text)
+        self.assertEqual(page.heading, NAMES["long"].decode().replace("/", "."))
+        self.assertIn("very." + "long" * 73 + "lon\u2026", page.text)
         self.assertEqual(len(self.of_class("long escapes").heading), 33_000 * 6)
         self.assertLess(len(self.viewer.get("").body), 200_000)
 
@@ -79,7 +79,7 @@ class Hostile(unittest.TestCase):
     def test_names_of_fields(self):
         page = self.viewer.page("object/2000")
         self.assertEqual(page.rows[1][:3], ["<script>alert(1)</script>", "int", "-2"])
-        self.assertEqual(page.rows[2][2], "3000 java/lang/String <script>\\u202e\\u0000\\n\u20ac</pre>")
+        self.assertEqual(page.rows[2][2], "3000 java.lang.String <script>\\u202e\\u0000\\n\u20ac</pre>")
         page = self.of_class("script")
         self.assertIn(["<script>alert(1)</script>", "char", "'<' 60"], page.rows)
         self.assertIn(["0", "boolean", "2, neither true nor false"], page.rows)
@@ -87,7 +87,7 @@ class Hostile(unittest.TestCase):
 
     def test_circles_and_missing_classes(self):
         chains = {
-            "100": "circle/Other the superclasses run in a circle",
+            "100": "circle.Other the superclasses run in a circle",
             "120": "none" "the superclasses run in a circle",
             "130": "140 this class is missing",
         }
@@ -99,7 +99,7 @@ class Hostile(unittest.TestCase):
 
     def test_a_class_without_a_dump(self):
         page = self.viewer.page("class/150")
-        self.assertEqual(page.heading, "lost/Class<i>")
+        self.assertEqual(page.heading, "lost.Class<i>")
         self.assertIn("no class dump", page.text)
         self.assertIn(["2840", "8"], page.rows)
         self.assertIn("1 object by size", page.text)
@@ -109,15 +109,15 @@ class Hostile(unittest.TestCase):
     def test_one_identifier_for_a_class_and_an_object(self):
         self.assertIn("an object has this identifier too", self.viewer.page("class/1000").text)
         page = self.viewer.page("object/1000")
-        self.assertEqual(page.heading, "java/lang/String")
+        self.assertEqual(page.heading, "java.lang.String")
         self.assertIn("a class has this identifier too", page.text)
         self.assertIn("<script>", page.text)
 
     def test_pages_of_entries(self):
         page = self.viewer.page("class/400?statics=3&subclasses=2&constants=2&fields=3")
-        for name in ("static200", "static249", "field249", "many/Sub100", "many/Sub109"):
+        for name in ("static200", "static249", "field249", "many.Sub100", "many.Sub109"):
             self.assertIn(name, page.text)
-        for name in ("static199", "field199", "many/Sub99"):
+        for name in ("static199", "field199", "many.Sub99"):
             self.assertNotIn(name, page.text)
         self.assertIn("250 static fields", page.text)
         self.assertIn("page 2 of 2", page.text)
@@ -137,7 +137,7 @@ class Hostile(unittest.TestCase):
     def test_pages_of_elements(self):
         rows = self.viewer.page("object/430?page=3").rows
         self.assertEqual(rows[1:6], [["200", "2000 <script>alert(1)</script>"], ["201", "null"], ["202", "9999 not in the dump"],
-                                     ["203", "430 [Ljava/lang/Object; 300 elements"], ["204", "10 class java/lang/Object"]])
+                                     ["203", "430 java.lang.Object[] 300 elements"], ["204", "10 class java.lang.Object"]])
         self.assertEqual(len(rows), 101)
         self.assertIn("It has no elements.", self.viewer.page("object/440").text)
         self.assertEqual([row[0] for row in self.viewer.page("object/5610?page=2").rows], ["Index", *map(str, range(100, 200, 10))])
@@ -179,25 +179,25 @@ class Hostile(unittest.TestCase):
         page = self.viewer.page("refs/2000?page=3")
         self.assertIn("310 references", page.text)
         self.assertEqual(len(page.rows), 101)
-        self.assertEqual(self.viewer.page("refs/2000").rows[1], ["400", "class many/Entries", "static field static0"])
-        self.assertIn(["430", "[Ljava/lang/Object;", "element 245"], self.viewer.page("refs/2000?page=3").rows)
+        self.assertEqual(self.viewer.page("refs/2000").rows[1], ["400", "class many.Entries", "static field static0"])
+        self.assertIn(["430", "java.lang.Object[]", "element 245"], self.viewer.page("refs/2000?page=3").rows)
         script = "<script>alert(1)</script>"
         self.assertIn(["1000", f"class {script}", f"static field {script}"], self.viewer.page("refs/1000").rows)
 
     def test_loader_signers_and_domain(self):
         page = self.viewer.page("class/ffffffffffffffff")
-        label = "[Ljava/lang/Object;"
+        label = "java.lang.Object[]"
         self.assertIn(f"Loader9999 not in the dumpSigners430 {label} 300 elementsDomain440 {label} 0 elements", page.text)
         for id, way in (("430", "has it as signers"), ("440", "has it as protection domain")):
-            self.assertIn(["ffffffffffffffff", "class edge/Last", way], self.viewer.page(f"refs/{id}").rows)
+            self.assertIn(["ffffffffffffffff", "class edge.Last", way], self.viewer.page(f"refs/{id}").rows)
 
     def test_a_class_whose_objects_have_no_bytes(self):
-        rows = [row for row in self.viewer.page("find?q=java.lang.Object").rows if row[0] == "java/lang/Object"]
-        self.assertEqual(rows, [["java/lang/Object", "0", "1", "10"]])
+        rows = [row for row in self.viewer.page("find?q=java.lang.Object").rows if row[0] == "java.lang.Object"]
+        self.assertEqual(rows, [["java.lang.Object", "0", "1", "10"]])
 
     def test_identifiers_at_the_edges(self):
-        self.assertEqual(self.viewer.page("class/ffffffffffffffff").heading, "edge/Last")
-        self.assertEqual(self.viewer.page("object/0").heading, "java/lang/Object")
+        self.assertEqual(self.viewer.page("class/ffffffffffffffff").heading, "edge.Last")
+        self.assertEqual(self.viewer.page("object/0").heading, "java.lang.Object")
         self.assertEqual(self.viewer.get("find?q=ffffffffffffffff").headers["Location"], self.viewer.base + "object/ffffffffffffffff")
 
 
@@ -207,6 +207,6 @@ class ShortIdentifiers(unittest.TestCase):
             dump = Path(folder) / "hostile.hprof"
             dump.write_bytes(hostile(4))
             with Viewer(dump) as viewer:
-                self.assertEqual(viewer.page("class/ffffffff").heading, "edge/Last")
-                self.assertEqual(viewer.page("object/2000").rows[2][2], "3000 java/lang/String <script>\\u202e\\u0000\\n\u20ac</pre>")
-                self.assertIn(["204", "10 class java/lang/Object"], viewer.page("object/430?page=3").rows)
+                self.assertEqual(viewer.page("class/ffffffff").heading, "edge.Last")
+                self.assertEqual(viewer.page("object/2000").rows[2][2], "3000 java.lang.String <script>\\u202e\\u0000\\n\u20ac</pre>")
+                self.assertIn(["204", "10 class java.lang.Object"], viewer.page("object/430?page=3").rows)

@@ -6,7 +6,7 @@ import unittest
 from view.answers import Answer, Stream
 from view.pages.of_class import superclass
 
-from .running import FRIDAY, MONDAY, Viewer
+from .running import FRIDAY, MONDAY, Viewer, time_of
 
 
 LATER = re.compile(r"=([3-9]|\d\d+)$")
@@ -38,21 +38,27 @@ class Sample(unittest.TestCase):
 
     def test_overview(self):
         page = self.viewer.page("")
-        self.assertEqual((page.title, page.heading), ("Overview \u00b7 friday.hprof", "Overview"))
+        self.assertEqual((page.title, page.heading), (f"Overview \u00b7 friday.hprof, {time_of(FRIDAY)}", "Overview"))
         self.assertIn("1,403 bytes in 82 objects of 7 classes and types.", page.text)
         self.assertEqual(page.rows[:3], [
             ["Class or type", "Bytes", "Share", "Objects", "Identifier"],
             ["byte[]", "466", "33.2 %", "29", ""],
-            ["shop/Session", "288", "20.5 %", "9", "7400003a0"],
+            ["shop.Session", "288", "20.5 %", "9", "7400003a0"],
         ])
-        self.assertEqual(len([row for row in page.rows if row[0] in ("java/lang/Thread", "shop/Session")]), 2)
+        self.assertEqual(len([row for row in page.rows if row[0] in ("java.lang.Thread", "shop.Session")]), 2)
         self.assertEqual(page.rows[-1], ["0", "friday.hprof", "1.0.2", "2026-11-27 08:00:00 UTC", "8", "49", "145", "yes"])
         self.assertIn("objects82bad names0", page.text)
 
+    def test_filter(self):
+        page = self.viewer.page("?filter=shop.s*ion")
+        self.assertEqual([row[0] for row in page.rows[1:2]], ["shop.Session"])
+        self.assertIn("1 of 7", page.text)
+        self.assertIn("No class or type has such a name.", self.viewer.page("?filter=nope").text)
+
     def test_class(self):
         page = self.viewer.page("class/7400001c0")
-        self.assertEqual(page.title, "java/util/ArrayList \u00b7 friday.hprof")
-        self.assertIn("java/util/AbstractList \u2192 java/lang/Object", page.text)
+        self.assertEqual(page.title, f"java.util.ArrayList \u00b7 friday.hprof, {time_of(FRIDAY)}")
+        self.assertIn("java.util.AbstractList \u2192 java.lang.Object", page.text)
         above = [link[len(self.viewer.base) :] for link in page.links if "/class/" in link]
         self.assertEqual(above[:2], ["class/740000150", "class/740000000"])
         self.assertIn("2 own fields", page.text)
@@ -63,16 +69,16 @@ class Sample(unittest.TestCase):
     def test_statics_and_loader(self):
         page = self.viewer.page("class/740000410")
         self.assertIn("2 static fields", page.text)
-        self.assertEqual(page.rows[1:3], [["SESSIONS", "object", "740000e58 java/util/ArrayList"], ["port", "int", "8080"]])
+        self.assertEqual(page.rows[1:3], [["SESSIONS", "object", "740000e58 java.util.ArrayList"], ["port", "int", "8080"]])
         self.assertIn(self.viewer.base + "object/740000e58", page.links)
-        self.assertIn("740000380 jdk/internal/loader/ClassLoaders$AppClassLoader", page.text)
+        self.assertIn("740000380 jdk.internal.loader.ClassLoaders$AppClassLoader", page.text)
         self.assertIn("0 objects by size", page.text)
 
     def test_subclasses(self):
         page = self.viewer.page("class/740000000")
         self.assertIn("7 subclasses", page.text)
-        self.assertIn(["java/lang/String", "280", "20"], page.rows)
-        self.assertNotIn("java/util/ArrayList", page.text)
+        self.assertIn(["java.lang.String", "280", "20"], page.rows)
+        self.assertNotIn("java.util.ArrayList", page.text)
         self.assertIn("none (the bootstrap loader)", page.text)
 
     def test_strings_of_a_class(self):
@@ -82,13 +88,13 @@ class Sample(unittest.TestCase):
 
     def test_instance(self):
         page = self.viewer.page("object/740000850")
-        self.assertEqual(page.heading, "shop/Session")
+        self.assertEqual(page.heading, "shop.Session")
         self.assertEqual(page.rows, [
             ["Field", "Type", "Value", "Declared by"],
-            ["user", "object", "7400007f0 java/lang/String cyd", "shop/Session"],
-            ["cart", "object", "7400007b8 java/util/ArrayList", "shop/Session"],
-            ["page", "object", "740000810 byte[] 45 elements <h1>Hello cyd</h1><p>1 items in your cart</p>", "shop/Session"],
-            ["opened", "long", "1795766220000", "shop/Session"],
+            ["user", "object", "7400007f0 java.lang.String cyd", "shop.Session"],
+            ["cart", "object", "7400007b8 java.util.ArrayList", "shop.Session"],
+            ["page", "object", "740000810 byte[] 45 elements <h1>Hello cyd</h1><p>1 items in your cart</p>", "shop.Session"],
+            ["opened", "long", "1795766220000", "shop.Session"],
         ])
         self.assertIn(self.viewer.base + "refs/740000850", page.links)
         self.assertIn(self.viewer.base + "why/740000850", page.links)
@@ -96,12 +102,12 @@ class Sample(unittest.TestCase):
     def test_string(self):
         page = self.viewer.page("object/7400007f0")
         self.assertIn("Text, 3 units" + "cyd", page.text)
-        self.assertIn(["hashIsZero", "boolean", "false", "java/lang/String"], page.rows)
+        self.assertIn(["hashIsZero", "boolean", "false", "java.lang.String"], page.rows)
 
     def test_array_of_objects(self):
         page = self.viewer.page("object/740000df8")
         self.assertEqual(page.rows[0], ["Index", "Element"])
-        self.assertEqual(page.rows[3], ["2", "740000850 shop/Session"])
+        self.assertEqual(page.rows[3], ["2", "740000850 shop.Session"])
         self.assertEqual(page.rows[-1], ["9", "null"])
 
     def test_array_of_numbers(self):
@@ -119,18 +125,18 @@ class Sample(unittest.TestCase):
 
     def test_references(self):
         page = self.viewer.page("refs/740000e58")
-        self.assertIn("740000e58 java/util/ArrayList", page.text)
-        self.assertEqual(page.rows[1:], [["740000410", "class shop/Server", "static field SESSIONS"]])
+        self.assertIn("740000e58 java.util.ArrayList", page.text)
+        self.assertEqual(page.rows[1:], [["740000410", "class shop.Server", "static field SESSIONS"]])
         self.assertIn(self.viewer.base + "class/740000410", page.links)
-        self.assertEqual(self.viewer.page("refs/740000850").rows[1:], [["740000df8", "[Ljava/lang/Object;", "element 2"]])
-        self.assertIn(["7400007f0", "java/lang/String", "field value"], self.viewer.page("refs/7400007d8").rows)
+        self.assertEqual(self.viewer.page("refs/740000850").rows[1:], [["740000df8", "java.lang.Object[]", "element 2"]])
+        self.assertIn(["7400007f0", "java.lang.String", "field value"], self.viewer.page("refs/7400007d8").rows)
         self.assertIn("0 referencesNothing refers to it.", self.viewer.page("refs/1").text)
 
     def test_references_to_a_class(self):
         rows = self.viewer.page("refs/740000150").rows
-        self.assertEqual(rows[1:], [["7400001c0", "class java/util/ArrayList", "has it as superclass"]])
-        self.assertIn(["740000850", "shop/Session", "is of this class"], self.viewer.page("refs/7400003a0").rows)
-        self.assertIn(["740000410", "class shop/Server", "has it as class loader"], self.viewer.page("refs/740000380").rows)
+        self.assertEqual(rows[1:], [["7400001c0", "class java.util.ArrayList", "has it as superclass"]])
+        self.assertIn(["740000850", "shop.Session", "is of this class"], self.viewer.page("refs/7400003a0").rows)
+        self.assertIn(["740000410", "class shop.Server", "has it as class loader"], self.viewer.page("refs/740000380").rows)
 
     def test_nothing_there(self):
         for path in ("object/1", "class/1"):
@@ -168,10 +174,13 @@ class Search(unittest.TestCase):
         self.leads_to("&label=", "")
 
     def test_names(self):
-        rows = [["shop/Session", "288", "9", "7400003a0"], ["shop/Server", "0", "0", "740000410"]]
+        rows = [["shop.Session", "288", "9", "7400003a0"], ["shop.Server", "0", "0", "740000410"]]
         self.assertEqual(self.viewer.page("find?q=SHOP").rows[1:], rows)
-        self.assertEqual(self.viewer.page("find?q=java.util.abstract").rows[1:], [["java/util/AbstractList", "0", "0", "740000150"]])
+        self.assertEqual(self.viewer.page("find?q=java.util.abstract").rows[1:], [["java.util.AbstractList", "0", "0", "740000150"]])
         self.assertEqual(self.viewer.page("find?q=byte").rows[1:], [["byte[]", "466", "29", ""]])
+        for word in ("object[]", "java.lang.O*t[]", "[Ljava/lang/Object;", "*ect[]"):
+            self.assertEqual([row[0] for row in self.viewer.page("find?q=" + word).rows[1:]], ["java.lang.Object[]"], word)
+        self.assertEqual([row[0] for row in self.viewer.page("find?q=java.*.string").rows[1:]], ["java.lang.String"])
         self.assertIn("0 classes and types with face in the name.", self.viewer.page("find?q=face").text)
         self.assertIn("8 classes and types with a in the name.", self.viewer.page("find?q=a").text)
 
@@ -214,14 +223,14 @@ class Growth(unittest.TestCase):
     def test_what_grew(self):
         self.assertTrue(self.viewer.line.endswith("/grew\n"))
         page = self.viewer.page("grew")
-        self.assertEqual(page.title, "What grew \u00b7 monday.hprof \u2192 friday.hprof")
+        self.assertEqual(page.title, f"What grew \u00b7 monday.hprof, {time_of(MONDAY)} \u2192 friday.hprof, {time_of(FRIDAY)}")
         self.assertEqual(page.rows, [
             ["Class or type", "Bytes", "Less \u00b7 more", "Objects"],
             ["byte[]", "+306", "", "+18"],
-            ["shop/Session", "+192", "", "+6"],
-            ["java/lang/String", "+168", "", "+12"],
-            ["java/util/ArrayList", "+96", "", "+6"],
-            ["[Ljava/lang/Object;", "+48", "", "+6"],
+            ["shop.Session", "+192", "", "+6"],
+            ["java.lang.String", "+168", "", "+12"],
+            ["java.util.ArrayList", "+96", "", "+6"],
+            ["java.lang.Object[]", "+48", "", "+6"],
         ])
         self.assertIn("+810 bytes and +48 objects", page.text)
         self.assertIn('<span class="half less"><span class="bar w0"', page.source)

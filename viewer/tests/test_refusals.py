@@ -246,4 +246,4 @@ class Words(unittest.TestCase):
                 named, options = opened(cat.stdout.fileno())
                 with Viewer(*named, **options) as viewer:
                     self.assertIn("82 objects", viewer.page("").text)
-                    self.assertEqual(viewer.page("object/740000850").heading, "shop/Session")
+                    self.assertEqual(viewer.page("object/740000850").heading, "shop.Session")

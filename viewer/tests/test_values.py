@@ -4,7 +4,8 @@ import re
 import unittest
 
 from view import subjects
-from view.pages.find import pattern_of, printed_form
+from view.class_names import written
+from view.names import Wanted, printed_form
 from view.pages.overview import moment
 from view.paging import Part, page, pager
 from view.printed import cut, shown, titled
@@ -101,9 +102,9 @@ class Identifiers(unittest.TestCase):
 
     def test_what_a_person_writes(self):
         for text in ("7f", "7F", "0x7f", "0X7F", "@7f", "@ 0x7f", " 7f ", "007f", "@0x007F"):
-            self.assertEqual(subjects.written(text), 0x7F, text)
+            self.assertEqual(subjects.number_of(text), 0x7F, text)
         for text in ("", "0x", "@", "x7f", "7f 7f", "0x0x7f", "1" * 17, "\uff17f"):
-            self.assertIsNone(subjects.written(text), text)
+            self.assertIsNone(subjects.number_of(text), text)
 
     def test_questions(self):
         self.assertEqual(subjects.about("refs", 0x7F), "refs 7f")
@@ -119,7 +120,18 @@ class Identifiers(unittest.TestCase):
 
     def test_words_of_a_search(self):
         self.assertEqual(printed_form("a.b\u00e9\\\U0001f600"), rb"a.b\u00e9\u005c\ud83d\ude00")
-        self.assertTrue(pattern_of("java.util.Array").search(b"java/util/ArrayList"))
-        self.assertTrue(pattern_of("ARRAY").search(b"java/util/ArrayList"))
-        self.assertFalse(pattern_of("a.c").search(b"abc"))
-        self.assertTrue(pattern_of("$1[]*").search(b"X$1[]*"))
+        for word, label in (
+            ("java.util.Array", b"java/util/ArrayList"), ("ARRAY", b"java/util/ArrayList"), ("$1[]", b"[LX$1;"), ("*.x$*[]", b"[La/X$1;"),
+            ("[LX$1;", b"[LX$1;"), ("byte[][]", b"[[B"), ("te[]", b"byte[]"), ("a*b*c", b"abc"), ("*", b"anything"), ("", b""),
+        ):
+            self.assertTrue(Wanted(word).in_name(label), word)
+            self.assertTrue(Wanted(word).in_line.search(b"1 2 3 " + label), word)
+        for word, label in (("a.c", b"abc"), ("a*b", b"ba"), ("x[]", b"X"), ("int[]", b"[J")):
+            self.assertFalse(Wanted(word).in_name(label), word)
+
+    def test_names_of_classes(self):
+        for label, name in (
+            (b"[Ljava/util/HashMap$Node;", b"java.util.HashMap$Node[]"), (b"[[I", b"int[][]"), (b"a/b-c", b"a.b-c"), (b"byte[]", b"byte[]"),
+            (b"[Lx", b"[Lx"), (b"[V", b"[V"), (b"a//b", b"a//b"), (b"</b>", b"</b>"), (b"\\u00e9/x", b"\\u00e9.x"), (b"", b""),
+        ):
+            self.assertEqual(written(label), name)

@@ -98,6 +98,6 @@ class OfTheSample(unittest.TestCase):
             if "why ID" not in can_be_asked():
                 return self.assertIn("This hprof cannot tell it: it has no question why ID.", page.text)
             self.assertIn("root: JNI global 7f0070000008", page.text)
-            self.assertIn("class shop/Server 740000410static field SESSIONS \u2192 java/util/ArrayList 740000e58", page.text)
-            self.assertIn("element 2 \u2192 shop/Session 740000850", page.text)
+            self.assertIn("class shop.Server 740000410static field SESSIONS \u2192 java.util.ArrayList 740000e58", page.text)
+            self.assertIn("element 2 \u2192 shop.Session 740000850", page.text)
             self.assertIn("No GC root leads to it", viewer.page("why/740000f20").text)

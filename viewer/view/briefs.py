@@ -3,8 +3,9 @@
 from collections import namedtuple
 
 from . import lines
+from .class_names import name_of, title_of
 from .markup import Markup, element, joined, link
-from .printed import SHORT, cut, meant, readable, shown
+from .printed import SHORT, cut, meant, readable
 from .subjects import about
 from .values import REFERENCES, WIDTHS, text_of, thousands
 
@@ -78,9 +79,16 @@ def briefs(heap, numbers):
 
 
 def named(of_class, label):
-    """The label of a node; one without any still has a place to click at."""
-    prefix = "class " if of_class else ""
-    return joined([prefix, shown(label)]) if label else joined([prefix, element("i", "(a name without bytes)")])
+    """The name of a node's class; one without any still has a place to click at."""
+    return joined(["class " if of_class else "", name_of(label)])
+
+
+def words_for(id, one):
+    """A class or an object in words without markup, for a heading and a title: its name and its identifier."""
+    if one.head is None and one.of_class is None:
+        return f"{id:x}"
+    label = one.of_class.label if one.of_class else one.head.label
+    return f"{'class ' if one.of_class else ''}{title_of(label)} {id:x}"
 
 
 def target(frame, number, found):

@@ -1,6 +1,8 @@
 """What stands around every page: its title, the way to the others, and the field for a search."""
 
 import os
+import stat
+from datetime import datetime, timezone
 
 from .look import SCRIPT, STYLE
 from .markup import Markup, element, joined, link
@@ -39,14 +41,30 @@ def plain(status, title, sentence, **headers):
     return Reply(status, document(title, main), **headers)
 
 
+def written_at(path):
+    """When a file was written last, in words. None of what is no file, as a pipe."""
+    try:
+        found = os.stat(path)
+    except OSError:
+        return None
+    if not stat.S_ISREG(found.st_mode):
+        return None
+    return datetime.fromtimestamp(found.st_mtime, timezone.utc).strftime("%Y-%m-%d %H:%M UTC")
+
+
+def joined_words(name, time):
+    return f"{name}, {time}" if time else name
+
+
 class Frame:
     """The frame of the pages below one address."""
 
     def __init__(self, base, parts, compares):
         self.base = base
         self.parts = [visible(os.path.basename(part)) for part in parts]
+        self.dated = [joined_words(name, written_at(part)) for name, part in zip(self.parts, parts)]
         self.compares = compares
-        self.named = " \u2192 ".join(self.parts) if compares else self.parts[0]
+        self.named = " \u2192 ".join(self.dated) if compares else self.dated[0]
 
     def at(self, *words):
         """The address of a page: words and numbers, which are identifiers."""
@@ -58,7 +76,12 @@ class Frame:
 
     def header(self, word=""):
         grew = [link(self.at("grew"), "What grew")] if self.compares else []
-        return element("header", *grew, link(self.at(""), "Overview"), self.search(word))
+        return element("header", *grew, link(self.at(""), "Overview"), self.files(), self.search(word))
+
+    def files(self):
+        """The names and the times of the files; of many parts the first, and how many more there are."""
+        more = f" and {len(self.parts) - 1:,} more" if len(self.parts) > 1 and not self.compares else ""
+        return element("span", self.named + more, class_="files")
 
     def page(self, title, *children, heading=None, status=200, word="", heads=()):
         """A page with the frame around it. The heading is the title if nothing else is said."""

@@ -18,12 +18,14 @@ header form{margin-left:auto}
 h1{font-size:1.3rem;margin:.6rem 0;overflow-wrap:anywhere}h2{font-size:1.05rem;margin:1.4rem 0 .4rem}
 a{color:var(--link)}a:focus-visible,button:focus-visible,input:focus-visible,summary:focus-visible{outline:2px solid var(--link);
 outline-offset:2px}
-.wide{overflow-x:auto}
+.wide{overflow-x:auto}.wide.cut::before{content:"The table is wider than the window: scroll it to the right.";display:block;
+position:sticky;left:0;color:var(--soft);font-size:.85em}
+.files{color:var(--soft);overflow-wrap:anywhere}
 table{border-collapse:collapse}table.sortable{width:100%;margin-top:.4rem}
 th,td{text-align:left;vertical-align:top;padding:.2rem 1rem .2rem 0;border-bottom:1px solid var(--line)}
 th{background:var(--head);font-weight:600;white-space:nowrap}
 th.n,td.n{text-align:right;font-variant-numeric:tabular-nums;white-space:nowrap}
-td.name{overflow-wrap:anywhere;min-width:9rem}
+td.name{overflow-wrap:break-word;min-width:9rem}
 td.share{width:22%;min-width:5rem;white-space:nowrap}
 td.both{width:30%;min-width:7rem}th.both{text-align:center}
 th button{font:inherit;font-weight:600;color:inherit;background:none;border:0;padding:0;cursor:pointer}
@@ -45,6 +47,8 @@ dt{color:var(--soft)}dd{margin:0;overflow-wrap:anywhere}
 ol.path{padding-left:1.2rem}ol.path li{margin:.25rem 0;overflow-wrap:anywhere}
 .refusal{border-left:4px solid var(--more);padding-left:.8rem}
 progress{width:100%;height:1.2rem}
+@media (max-width:40rem){header,main{padding:.4rem .6rem}header form{margin-left:0}.extra,th.share,td.share{display:none}
+th,td{padding-right:.6rem}td.name{min-width:7rem}}
 """
     + BARS
 )
@@ -79,24 +83,19 @@ for (const table of document.querySelectorAll("table.sortable")) {
   });
 }
 if (document.querySelector("progress")) setTimeout(() => location.reload(), 100);
-for (const form of document.querySelectorAll("form.filter")) {
-  form.hidden = false;
-  const field = form.querySelector("input");
-  const count = form.querySelector("output");
-  const rows = Array.from(document.querySelector("table.sortable").tBodies[0].rows);
-  const named = rows.map((row) => [row, row.querySelector(".name").textContent.toLowerCase().replaceAll(".", "/")]);
-  const filter = () => {
-    const part = field.value.trim().toLowerCase().replaceAll(".", "/");
-    let left = 0;
-    for (const [row, name] of named) {
-      row.hidden = !name.includes(part);
-      left += row.hidden ? 0 : 1;
-    }
-    count.textContent = part ? left.toLocaleString("en") + " of " + rows.length.toLocaleString("en") : "";
-  };
-  field.addEventListener("input", filter);
-  filter();
-}
+document.addEventListener("keydown", (event) => {
+  const field = document.querySelector("header input[type=search]");
+  if (event.key !== "/" || event.ctrlKey || event.metaKey || event.altKey || !field) return;
+  if (event.target.closest("input, textarea, select")) return;
+  event.preventDefault();
+  field.focus();
+  field.select();
+});
+const scrolled = () => {
+  for (const box of document.querySelectorAll(".wide")) box.classList.toggle("cut", box.scrollWidth > box.clientWidth);
+};
+addEventListener("resize", scrolled);
+scrolled();
 """
 
 

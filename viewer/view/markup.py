@@ -9,7 +9,7 @@ class Markup(str):
     __slots__ = ()
 
 
-EMPTY = ("input", "link", "meta", "br")
+EMPTY = ("input", "link", "meta", "br", "wbr")
 
 
 def escaped(child):

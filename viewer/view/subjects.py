@@ -17,7 +17,7 @@ def identifier(text):
     return int(text, 16) if CANONICAL.fullmatch(text) else None
 
 
-def written(text):
+def number_of(text):
     """The number that a person wrote, with `0x`, `@`, capitals or zeros in front of it. None for any other text."""
     match = WRITTEN.fullmatch(text.strip())
     return int(match.group(1), 16) if match else None

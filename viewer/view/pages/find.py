@@ -5,32 +5,14 @@ import re
 from .. import lines
 from ..frame import Reply
 from ..markup import element
+from ..names import LONGEST, Wanted
 from ..paging import PAGE, Kept, is_there, page, pager
 from ..printed import SHORT, readable
-from ..subjects import about, is_marked, written
+from ..subjects import about, is_marked, number_of
 from ..tables import cell, number, row, table
 from ..values import counted, thousands
 from ..visit import Missing
 from .overview import kind_link
-
-LONGEST = 1000
-
-
-def printed_form(word):
-    """A word as hprof prints names: ASCII but the backslash as it is, each other UTF-16 unit escaped."""
-    pieces = []
-    for character in word:
-        if " " <= character <= "~" and character != "\\":
-            pieces.append(character)
-        else:
-            held = character.encode("utf-16-be", "surrogatepass").hex()
-            pieces.extend("\\u" + held[place : place + 4] for place in range(0, len(held), 4))
-    return "".join(pieces).encode("ascii")
-
-
-def pattern_of(word):
-    """Names that have the word as a part, whatever the case. A dot and a slash are one."""
-    return re.compile(b"[./]".join(re.escape(part) for part in re.split(rb"[./]", printed_form(word))), re.IGNORECASE)
 
 
 class Search:
@@ -98,13 +80,13 @@ def show(visit):
     word = visit.words.get("q", "")[:LONGEST].strip()
     if not word:
         return Reply(303, location=visit.frame.at(""))
-    id = written(word)
+    id = number_of(word)
     if id is not None:
         ((is_there_one),) = visit.ask((about("object", id), lambda answer: not answer.line().startswith(b"nothing at ")))
         if is_there_one or is_marked(word):
             return Reply(303, location=visit.frame.at("object", id))
-    pattern = pattern_of(word)
-    part = Search(pattern, pattern.search, page(visit.number(), PAGE)).made(visit)
+    wanted = Wanted(word)
+    part = Search(wanted.in_line, wanted.in_name, page(visit.number(), PAGE)).made(visit)
     if not is_there(part):
         raise Missing
     return results(visit, part, word, q=word)

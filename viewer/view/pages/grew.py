@@ -3,26 +3,29 @@
 from urllib.parse import urlencode
 
 from .. import lines
+from ..class_names import name_of
 from ..markup import element, joined, link
+from ..names import LONGEST, Wanted
 from ..paging import Kept, is_there, page, pager
-from ..printed import shown
 from ..tables import bar, cell, number, row, table
 from ..visit import Missing
-from .find import LONGEST
-from .overview import ROWS, filter_field
+from .overview import ROWS, filter_field, filter_word, filter_words
 
 
 class Growth:
-    """The rows of one page of `diff`, and over all rows their number, their sums, and the most bytes to either side."""
+    """The rows of one page of `diff` whose name is wanted, and over all rows their number, their sums, and the most bytes to either side."""
 
-    def __init__(self, page):
+    def __init__(self, wanted, page):
+        self.wanted = wanted
         self.kept = Kept(page)
-        self.bytes = self.objects = self.most = 0
+        self.bytes = self.objects = self.most = self.total = 0
 
     def read(self, answer):
         for line in answer.lines(limit=LONGEST + 100):
             one = lines.grown(line)
-            self.kept.add(lines.grown, line)
+            self.total += 1
+            if self.wanted.in_name(one.label):
+                self.kept.add(lines.grown, line)
             self.bytes += one.bytes
             self.objects += one.count
             self.most = max(self.most, abs(one.bytes))
@@ -42,7 +45,7 @@ def both_sides(one, most):
 
 def name(frame, label):
     """The name, which leads to the class in the newer dump; one that is too long for an address leads nowhere."""
-    text = shown(label) if label else element("i", "(a name without bytes)")
+    text = name_of(label)
     return link(frame.at("find") + "?" + urlencode({"label": label.decode("ascii")}), text) if 0 < len(label) <= LONGEST else text
 
 
@@ -52,17 +55,19 @@ def grown_row(frame, growth, one):
 
 
 def show(visit):
-    growth = visit.growth.read(Growth(page(visit.number(), ROWS)).read)
+    word = filter_word(visit)
+    growth = visit.growth.read(Growth(Wanted(word), page(visit.number(), ROWS)).read)
     part = growth.kept.part()
     if not is_there(part):
         raise Missing
     heads = ["Class or type", ("Bytes", "n", "descending"), ("Less \u00b7 more", "plain both"), ("Objects", "n")]
     rows = [grown_row(visit.frame, growth, one) for one in part.entries]
-    said = f"{signed(growth.bytes)} bytes and {signed(growth.objects)} objects from the old dump to the new one. Names lead to the new one."
+    old, new = visit.frame.dated
+    said = f"{signed(growth.bytes)} bytes and {signed(growth.objects)} objects from {old} to {new}. Names lead to {visit.frame.parts[1]}."
     return visit.frame.page(
         "What grew",
-        element("p", said if rows else "Nothing grew: no class or type has another number of bytes or objects."),
-        filter_field(visit.frame) if rows else "",
+        element("p", said if growth.total else "Nothing grew: no class or type has another number of bytes or objects."),
+        filter_field(visit.frame.at("grew"), word, part, growth.total) if growth.total else "",
         table(heads, rows, "sortable") if rows else "",
-        pager(part),
+        pager(part, **filter_words(word)),
     )

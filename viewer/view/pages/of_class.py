@@ -5,9 +5,10 @@ from collections import namedtuple
 
 from .. import lines
 from ..briefs import briefs, target, texts
+from ..class_names import name_of, title_of
 from ..markup import Markup, element, joined, link
 from ..paging import Kept, Part, is_there, page, pager
-from ..printed import SHORT, shown, titled
+from ..printed import SHORT, shown
 from ..subjects import about, objects_of
 from ..tables import cell, facts, number, row, table
 from ..values import REFERENCES, counted, thousands
@@ -18,7 +19,6 @@ from .overview import kind_link
 
 # More superclasses are left out.
 CHAIN = 100
-NAMELESS = "(a name without bytes)"
 VALUE = re.compile(rb"^own .* value$", re.MULTILINE)
 SECTIONS = {b"static": ("statics", lines.static), b"own": ("fields", lines.own), b"constant": ("constants", lines.constant)}
 Contents = namedtuple("Contents", "head parts has_object has_value")
@@ -110,7 +110,7 @@ def chain(visit, head):
 
 def shown_chain(frame, above, end):
     """The superclasses as links."""
-    steps = [joined([link(frame.at("class", id), shown(label) if label else f"{id:x}"), " "]) for id, label in above]
+    steps = [joined([link(frame.at("class", id), name_of(label) if label else f"{id:x}"), " "]) for id, label in above]
     parts = [joined(["\u2192 ", step]) if index else step for index, step in enumerate(steps)]
     return joined([*parts, element("small", end)]) if parts else joined(["none", element("small", end)])
 
@@ -191,7 +191,7 @@ def without_dump(visit, id, contents, objects):
         if contents.has_object:
             return visit.frame.missing("No class", joined(["At ", link(visit.frame.at("object", id), f"{id:x}"), " is an object."]))
         return visit.frame.missing(f"Nothing at {id:x}", "The dump has neither a class nor an object with this identifier.")
-    title = titled(label) if label else f"Class {id:x}"
+    title = title_of(label) if label else f"Class {id:x}"
     note = element("p", "The dump has no class dump of this class: its fields and its superclass are not known.")
     return visit.frame.page(title, note, ways(visit.frame, id), by_size(visit.frame, objects, {}))
 
@@ -210,11 +210,11 @@ def show(visit, id):
     strings = {id: text for id, text in strings.items() if text}
     label = content.head.label
     return visit.frame.page(
-        titled(label) or NAMELESS,
+        title_of(label),
         head_facts(visit, content, part, above, end, found),
         ways(visit.frame, id),
         sections(visit.frame, content.parts, found),
         below(visit.frame, subclasses),
         by_size(visit.frame, part, strings),
-        heading=shown(label, len(label)) or element("i", NAMELESS),
+        heading=name_of(label, is_whole=True),
     )

@@ -4,16 +4,18 @@ from collections import namedtuple
 
 from .. import lines
 from ..briefs import OBJECTS, briefs, named, target
+from ..class_names import name_of, title_of
 from ..frame import Reply
 from ..markup import Markup, element, joined, link
 from ..paging import PAGE, Part, is_there, page, pager, taken
-from ..printed import SHORT, readable, shown, titled
+from ..printed import SHORT, readable, shown
 from ..subjects import about
 from ..tables import cell, facts, number, row, table
 from ..values import REFERENCES, WIDTHS, counted, text_of, thousands
 from ..values import number as value_of
 from ..visit import Missing
-from .of_class import NAMELESS, ways
+from . import entries as map_or_list
+from .of_class import ways
 
 # The bytes of a string's own page that its text may have as printed.
 TEXT = 60_000
@@ -74,7 +76,7 @@ def value(frame, field, found):
 def field_rows(frame, part, found):
     for field in part.entries:
         owner = found.get(field.owner)
-        label = shown(owner.of_class.label) if owner and owner.of_class else f"{field.owner:x}"
+        label = name_of(owner.of_class.label) if owner and owner.of_class else f"{field.owner:x}"
         yield row(
             cell(shown(field.name), "name"),
             cell(field.type),
@@ -126,7 +128,7 @@ def plain(kind, bits):
 
 def head_facts(frame, content):
     head, of_values = content.head, content.head.form == "values"
-    kind = link(frame.at("type" if of_values else "class", head.kind), shown(head.label) or NAMELESS)
+    kind = link(frame.at("type" if of_values else "class", head.kind), name_of(head.label))
     other = link(frame.at("class", head.id), "a class has this identifier too") if content.of_class else None
     return facts([
         ("Identifier", element("code", f"{head.id:x}")),
@@ -156,6 +158,11 @@ def referred(content):
     return [field.owner for field in fields] + [int(field.bits, 16) for field in fields if field.type in REFERENCES]
 
 
+def entries_of(visit, content):
+    """The entries of a map or a list."""
+    return map_or_list.shown(visit, content.head.id, content.head.label) if content.head.form == "instance" else Markup()
+
+
 def body(frame, content, found):
     if content.head.form == "values":
         return numbers(content)
@@ -173,10 +180,11 @@ def show(visit, id):
         raise Missing
     found = briefs(visit.heap, referred(content))
     return frame.page(
-        titled(content.head.label) or NAMELESS,
+        title_of(content.head.label),
         head_facts(frame, content),
         ways(frame, id),
         text_of_string(visit, content),
+        entries_of(visit, content),
         body(frame, content, found),
         heading=named(False, content.head.label),
     )

@@ -1,16 +1,20 @@
 """The overview: what `check` says, and the classes and types with the most bytes."""
 
 from datetime import datetime, timezone
+from urllib.parse import urlencode
 
 from .. import lines
+from ..class_names import name_of
 from ..markup import element, joined, link
-from ..paging import Kept, is_there, page, pager
-from ..printed import SHORT, shown
+from ..names import LONGEST, Wanted
+from ..paging import Part, is_there, page, pager
+from ..printed import SHORT
 from ..tables import bar, cell, facts, number, row, table
 from ..values import counted, thousands
 from ..visit import Missing
 
-ROWS = 2000
+# The rows of a page, and the parts that are told.
+ROWS, PARTS = 100, 2000
 
 
 def moment(milliseconds):
@@ -28,26 +32,48 @@ def checked(answer):
         words = line.decode("ascii").split(" ")
         if words[0] != "part":
             counts.append((" ".join(words[:-1]), int(words[-1])))
-        elif len(parts) < ROWS:
+        elif len(parts) < PARTS:
             parts.append(words)
     return parts, counts
 
 
-class Weights:
-    """The rows of one page of `histo`, and the sums of all."""
+class Weight:
+    """The classes of one name, or a type: their bytes and objects, how many there are, and one of them."""
 
-    def __init__(self, page):
-        self.kept = Kept(page)
-        self.bytes = self.objects = self.largest = 0
+    def __init__(self, one):
+        self.label, self.kind = one.label, one.kind
+        self.bytes = self.objects = self.classes = 0
+
+    def add(self, one):
+        self.bytes += one.bytes
+        self.objects += one.count
+        self.classes += 1
+
+
+class Weights:
+    """The rows of `histo` by name, and the sums of all."""
+
+    def __init__(self):
+        self.named = {}
+        self.bytes = self.objects = 0
 
     def read(self, answer):
-        for line in answer.lines(limit=SHORT):
-            size, count = map(int, line.split(b" ", 2)[:2])
-            self.kept.add(lines.row, line)
-            self.bytes += size
-            self.objects += count
-            self.largest = max(self.largest, size)
+        for line in answer.lines(limit=LONGEST + 100):
+            one = lines.row(line)
+            name = (one.label, isinstance(one.kind, str)) if len(one.label) <= LONGEST else one.kind
+            self.named.setdefault(name, Weight(one)).add(one)
+            self.bytes += one.bytes
+            self.objects += one.count
         return self
+
+    def page_of(self, wanted, page):
+        """A page of those whose name is wanted, by size."""
+        found = [one for one in self.named.values() if wanted.in_name(one.label)]
+        found.sort(key=lambda one: -one.bytes)
+        return Part(found[page.first : page.first + page.size], len(found), page)
+
+    def largest(self):
+        return max((one.bytes for one in self.named.values()), default=0)
 
 
 def part_row(name, words):
@@ -65,49 +91,67 @@ def checks(names, parts, counts):
 
 def kind_link(frame, kind, label):
     """A link to the page of a class or a type."""
-    name = shown(label) if label else element("i", "(a name without bytes)")
-    return link(frame.at("type", kind) if isinstance(kind, str) else frame.at("class", kind), name)
+    return link(frame.at("type", kind) if isinstance(kind, str) else frame.at("class", kind), name_of(label))
 
 
-def weight_row(frame, weights, one):
+def classes_link(frame, one):
+    """A link to the class or the type, or to a list of the classes of one name."""
+    if one.classes == 1:
+        return kind_link(frame, one.kind, one.label)
+    address = frame.at("find") + "?" + urlencode({"label": one.label.decode("ascii")})
+    return joined([link(address, name_of(one.label)), " ", element("small", f"{thousands(one.classes)} classes")])
+
+
+def weight_row(frame, weights, largest, one):
     share = f"{100 * one.bytes / weights.bytes:.1f} %" if weights.bytes else ""
-    track = element("span", bar(one.bytes, weights.largest), class_="track")
+    track = element("span", bar(one.bytes, largest), class_="track")
+    id = f"{one.kind:x}" if isinstance(one.kind, int) and one.classes == 1 else ""
     return row(
-        cell(kind_link(frame, one.kind, one.label), "name"),
+        cell(classes_link(frame, one), "name"),
         number(thousands(one.bytes)),
         cell(joined([track, share]), "share"),
-        number(thousands(one.count)),
-        cell(element("span", f"{one.kind:x}" if isinstance(one.kind, int) else "", class_="bits")),
+        number(thousands(one.objects)),
+        cell(element("span", id, class_="bits"), "extra"),
     )
 
 
-def filter_field(frame):
-    """A field that filters the rows of this page, if scripts run; with Enter it searches all."""
-    field = element("input", type="search", name="q", placeholder="filter by name", aria_label="Filter by name")
-    count = element("output")
-    return element("form", field, " ", count, class_="filter", hidden=True, action=frame.at("find"), method="get")
+def filter_field(address, word, part, total):
+    """A field that filters all rows by name."""
+    field = element("input", type="search", name="filter", value=word, placeholder="filter by name", aria_label="Filter by name")
+    count = element("output", f"{thousands(part.total)} of {thousands(total)}" if word else "")
+    return element("form", field, " ", element("button", "Filter"), " ", count, class_="filter", action=address, method="get")
+
+
+def filter_word(visit):
+    return visit.words.get("filter", "")[:LONGEST].strip()
+
+
+def filter_words(word):
+    """The words of an address that keep a filter."""
+    return {"filter": word} if word else {}
 
 
 def summary(weights):
-    kinds = counted(weights.kept.total, "class or type", "classes and types")
+    kinds = counted(len(weights.named), "class or type", "classes and types")
     totals = f"{counted(weights.bytes, 'byte')} in {counted(weights.objects, 'object')} of {kinds}. "
     return element("p", totals, "Bytes are the field and element data in the dump, without object headers and padding.")
 
 
 def show(visit):
-    wanted = page(visit.number(), ROWS)
+    word = filter_word(visit)
     parts, counts = visit.heap.ask_once("check", checked)
-    (weights,) = visit.ask(("histo", Weights(wanted).read))
-    part = weights.kept.part()
+    weights = visit.heap.ask_once("histo", Weights().read)
+    part = weights.page_of(Wanted(word), page(visit.number(), ROWS))
     if not is_there(part):
         raise Missing
-    heads = ["Class or type", ("Bytes", "n", "descending"), ("Share", "n share"), ("Objects", "n"), ("Identifier", "plain")]
-    rows = [weight_row(visit.frame, weights, one) for one in part.entries]
+    heads = ["Class or type", ("Bytes", "n", "descending"), ("Share", "n share"), ("Objects", "n"), ("Identifier", "plain extra")]
+    rows = [weight_row(visit.frame, weights, weights.largest(), one) for one in part.entries]
+    none = "No class or type has such a name." if weights.named else "The dump has no objects."
     return visit.frame.page(
         "Overview",
         summary(weights),
-        filter_field(visit.frame),
-        table(heads, rows, "sortable") if rows else element("p", "The dump has no objects."),
-        pager(part),
+        filter_field(visit.frame.at(""), word, part, len(weights.named)),
+        table(heads, rows, "sortable") if rows else element("p", none),
+        pager(part, **filter_words(word)),
         checks(visit.frame.parts[-1:] if visit.frame.compares else visit.frame.parts, parts, counts),
     )

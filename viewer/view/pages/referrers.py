@@ -3,7 +3,7 @@
 from collections import namedtuple
 
 from .. import lines
-from ..briefs import OBJECTS, brief, named, target
+from ..briefs import OBJECTS, brief, named, target, words_for
 from ..markup import element, joined, link
 from ..paging import is_there, page, pager, taken
 from ..printed import SHORT, shown
@@ -84,7 +84,7 @@ def show(visit, id):
     rows = [reference(visit.frame, one, found[one.id]) for one in part.entries]
     heading = element("h2", counted(part.total, "reference"))
     return visit.frame.page(
-        "Who refers to it",
+        f"Who refers to {words_for(id, subject)}",
         element("p", target(visit.frame, id, {id: subject}) if id else "0 is null."),
         ways(visit.frame, id),
         heading,

@@ -3,7 +3,7 @@
 from collections import namedtuple
 
 from .. import lines
-from ..briefs import brief, target
+from ..briefs import brief, named, target, words_for
 from ..markup import element, joined, link
 from ..paging import PAGE, Kept, is_there, page, pager
 from ..printed import SHORT, shown
@@ -75,7 +75,7 @@ def by_way_of(edge):
 
 def step(frame, node):
     address = frame.at("class" if node.of_class else "object", node.id)
-    text = joined(["class " if node.of_class else "", shown(node.label) or element("i", "(a name without bytes)")])
+    text = named(node.of_class, node.label)
     shown_node = joined([link(address, text), " ", element("small", f"{node.id:x}")])
     return element("li", joined([by_way_of(node.edge), " \u2192 ", shown_node]) if node.edge else shown_node)
 
@@ -105,7 +105,7 @@ def show(visit, id):
     if not is_there(path.part):
         raise Missing
     return visit.frame.page(
-        TITLE,
+        f"Why {words_for(id, subject)} is alive",
         element("p", target(visit.frame, id, {id: subject}) if id else "0 is null."),
         ways(visit.frame, id),
         told(visit.frame, path),
