@@ -1,0 +1,13 @@
+pub mod Labels
+pub mod FlagLists
+pub mod SlotPlaces
+pub mod LinkLists
+pub mod SubclassLists
+pub mod Clearings
+pub mod Pushing
+pub mod Members
+pub mod Standing
+pub mod WeakFirsts
+pub mod WeakPuts
+pub mod ByField
+pub mod WeakEdges
