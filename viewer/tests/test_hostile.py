@@ -99,7 +99,7 @@ class Hostile(unittest.TestCase):
 
     def test_a_class_without_a_dump(self):
         page = self.viewer.page("class/150")
-        self.assertEqual(page.heading, "lost.Class<i>")
+        self.assertEqual(page.heading, "lost/Class<i>")
         self.assertIn("no class dump", page.text)
         self.assertIn(["2840", "8"], page.rows)
         self.assertIn("1 object by size", page.text)

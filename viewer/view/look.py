@@ -48,7 +48,7 @@ ol.path{padding-left:1.2rem}ol.path li{margin:.25rem 0;overflow-wrap:anywhere}
 .refusal{border-left:4px solid var(--more);padding-left:.8rem}
 progress{width:100%;height:1.2rem}
 @media (max-width:40rem){header,main{padding:.4rem .6rem}header form{margin-left:0}.extra,th.share,td.share{display:none}
-th,td{padding-right:.6rem}td.name{min-width:7rem}}
+th,td{padding-right:.5rem}table{font-size:.9em}td.name{min-width:7rem}}
 """
     + BARS
 )

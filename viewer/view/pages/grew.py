@@ -13,7 +13,7 @@ from .overview import ROWS, filter_field, filter_word, filter_words
 
 
 class Growth:
-    """The rows of one page of `diff` whose name is wanted, and over all rows their number, their sums, and the most bytes to either side."""
+    """The rows of one page of `diff` whose name is wanted, and over all rows their number, their sums, and the most bytes to a side."""
 
     def __init__(self, wanted, page):
         self.wanted = wanted
