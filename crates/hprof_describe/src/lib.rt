@@ -3,11 +3,11 @@
 
 pub mod laws;
 mod nodes;
-mod quoted;
+mod quotes;
 mod references;
 mod values;
 
 pub use nodes::{kind_text, node_text};
-pub use quoted::quoted;
+pub use quotes::quoted;
 pub use references::{object_words, reference_text};
 pub use values::value_text;

@@ -1,6 +1,6 @@
 //! Classes and objects in a line.
 
-ghost use Rattle.std.specs.Prelude.{◌≡◌, ◌++◌, IfOk, codes, string_bytes};
+ghost use Rattle.std.specs.Prelude.{◌≡◌, IfOk, string_bytes};
 ghost use Rattle.std.specs.Option.{option_map};
 ghost use Rattle.hprof_heap.specs.ClassDump.{class_value};
 ghost use Rattle.hprof_heap.specs.HeapFacts.{facts_of, size_of};
@@ -11,18 +11,14 @@ ghost use Rattle.hprof_describe.specs.Findings.{AreFindings, Findings};
 ghost use Rattle.hprof_describe.specs.Nodes.{kind_of, kind_of_object, kind_text, name_of_node, node_text};
 ghost use Rattle.hprof_describe.specs.Quoted.{behind_label};
 
-use crate::quoted::behind_label;
+use crate::quotes::behind_label;
 use hprof_heap::{ClassDump, Heap, ObjectDump, find_class, find_object, holds_of_heap};
 use hprof_naming::{ClassNames, class_label, type_word};
 use hprof_threads::thread_name;
 use std::alloc::{AllocError, Global};
 
 /// Returns what an object is: the label of its class, or its type.
-fn kind_of_object(
-    alloc: Global,
-    heap: &Heap,
-    dump: ObjectDump<'_>,
-) -> Result<String, AllocError>
+fn kind_of_object(alloc: Global, heap: &Heap, dump: ObjectDump<'_>) -> Result<String, AllocError>
     ensures { (naming : Naming) → IsNaming (facts_of heap.now) naming
         → IfOk result (λ text. string_bytes text ≡ kind_of_object naming (fact_of_object dump.entry)) }
 {
@@ -69,6 +65,22 @@ pub fn kind_text(alloc: Global, heap: &Heap, node: u64) -> Result<String, AllocE
     kind_of(alloc, heap, node, class, object)
 }
 
+/// Returns what stands behind what an object is: the name of the thread in quotes, or an empty text if it has none.
+fn thread_behind(
+    alloc: Global,
+    heap: &Heap,
+    classes: &ClassNames,
+    object: u64,
+) -> Result<String, AllocError>
+    requires { AreClassNames (facts_of heap.now) classes.now }
+    ensures { (found : Findings) → AreFindings (size_of heap.now) (facts_of heap.now) found
+        → IfOk result (λ text. string_bytes text ≡ behind_label (found.thread_name object)) }
+{
+    holds_of_heap(heap);
+    let name = thread_name(alloc, heap, classes, object)?;
+    behind_label(alloc, name)
+}
+
 /// Returns what stands behind what a node is: the name of the thread in quotes, or an empty text if it has none or is a class.
 fn name_behind(
     alloc: Global,
@@ -83,15 +95,12 @@ fn name_behind(
     holds_of_heap(heap);
     match find_class(heap, node) {
         Some(_) => Ok(String::new(alloc)),
-        None => {
-            let name = thread_name(alloc, heap, classes, node)?;
-            behind_label(alloc, name)
-        }
+        None => thread_behind(alloc, heap, classes, node),
     }
 }
 
-/// Returns a node in a line, without a line feed: the identifier, what it is, as [`kind_text`] does, and the name of the thread in quotes if
-/// it is the object of one. `classes` are the names of the heap's classes. If memory runs out, the answer is `AllocError`.
+/// Returns a node in a line, without a line feed: the identifier, what it is, as [`kind_text`] does, and the name of the thread in quotes
+/// if it is the object of one. `classes` are the names of the heap's classes. If memory runs out, the answer is `AllocError`.
 pub fn node_text(
     alloc: Global,
     heap: &Heap,

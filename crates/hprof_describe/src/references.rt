@@ -1,27 +1,29 @@
 //! What references lead to, in a line.
 
-ghost use Rattle.std.specs.Prelude.{◌≡◌, IfOk, string_bytes};
+ghost use Rattle.std.specs.Prelude.{◌≡◌, ◌++◌, ◌/◌, ℕ, IfOk, bytes_eq, codes, length, string_bytes};
+ghost use Rattle.std.specs.Fmt.{decimal};
 ghost use Rattle.std.specs.Option.{option_map};
+ghost use Rattle.hprof_values.specs.Basic.{width_of_basic};
 ghost use Rattle.hprof_heap.specs.ClassDump.{class_value};
 ghost use Rattle.hprof_heap.specs.HeapFacts.{facts_of, size_of};
 ghost use Rattle.hprof_heap.specs.ObjectDump.{fact_of_object};
 ghost use Rattle.hprof_naming.specs.ClassNames.{AreClassNames};
+ghost use Rattle.hprof_naming.specs.Naming.{IsNaming, Naming};
+ghost use Rattle.hprof_naming.specs.TypeWord.{type_word};
 ghost use Rattle.hprof_threads.specs.ThreadNames.{units_in, units_value};
 ghost use Rattle.hprof_describe.specs.Findings.{AreFindings, Findings};
+ghost use Rattle.hprof_describe.specs.Quoted.{behind_label};
 ghost use Rattle.hprof_describe.specs.References.{object_words, reference_text, reference_words, text_of_instance};
 
-use crate::quoted::behind_label;
+use crate::quotes::behind_label;
 use hprof_heap::{ClassDump, Heap, ObjectDump, find_class, find_object, holds_of_heap, id_size};
 use hprof_naming::{ClassNames, Text, Units, class_label, text_of, type_word};
 use hprof_threads::thread_name;
+use hprof_values::{Basic, IdSize};
 use std::alloc::{AllocError, Global};
 
 /// Returns the text of an object, if it has one. The units borrow from the heap.
-fn text_units<'a>(
-    alloc: Global,
-    heap: &'a Heap,
-    id: u64,
-) -> Result<Option<Units<'a>>, AllocError>
+fn text_units<'a>(alloc: Global, heap: &'a Heap, id: u64) -> Result<Option<Units<'a>>, AllocError>
     ensures { (found : Findings) → AreFindings (size_of heap.now) (facts_of heap.now) found
         → IfOk result (λ units. option_map units_value units ≡ units_in (found.text id)) }
 {
@@ -30,6 +32,13 @@ fn text_units<'a>(
         Text::Units(units) => Ok(Some(units)),
         _ => Ok(None),
     }
+}
+
+/// Returns whether a label is that of java.lang.String.
+fn is_string(label: &str) -> bool
+    ensures { result ≡ bytes_eq label.now (codes "java/lang/String") }
+{
+    label == "java/lang/String"
 }
 
 /// Returns the text of a String, or the name of the thread that another instance is the object of; `None` if it has neither. The units
@@ -42,12 +51,12 @@ fn text_of_instance<'a>(
     label: &str,
 ) -> Result<Option<Units<'a>>, AllocError>
     requires { AreClassNames (facts_of heap.now) classes.now }
-    ensures { (found : Findings) (class : _) → AreFindings (size_of heap.now) (facts_of heap.now) found
+    ensures { (found : Findings) (class : ℕ) → AreFindings (size_of heap.now) (facts_of heap.now) found
         → label.now ≡ found.naming.label class
         → IfOk result (λ units. option_map units_value units ≡ text_of_instance found id class) }
 {
     holds_of_heap(heap);
-    if label == "java/lang/String" {
+    if is_string(label) {
         return text_units(alloc, heap, id);
     }
     thread_name(alloc, heap, classes, id)
@@ -71,6 +80,35 @@ fn instance_words(
     format!(in alloc; "{label}{behind}")
 }
 
+/// Returns an array of that number of objects in a line, without its identifier.
+fn elements_words(
+    alloc: Global,
+    heap: &Heap,
+    class: u64,
+    count: usize,
+) -> Result<String, AllocError>
+    ensures { (naming : Naming) → IsNaming (facts_of heap.now) naming
+        → IfOk result (λ text. string_bytes text ≡ naming.label class ++ codes " of " ++ decimal count) }
+{
+    let label = class_label(alloc, heap, class)?;
+    format!(in alloc; "{label} of {count}")
+}
+
+/// Returns an array of that number of numbers or truth values in a line, without its identifier.
+fn values_words(alloc: Global, elem: Basic, count: usize) -> Result<String, AllocError>
+    ensures { IfOk result (λ text. string_bytes text ≡ type_word elem ++ codes "[] of " ++ decimal count) }
+{
+    let word = type_word(elem);
+    format!(in alloc; "{word}[] of {count}")
+}
+
+/// Returns the number of the elements of an array of numbers or truth values.
+fn values_len(ids: IdSize, elem: Basic, bytes: &[u8]) -> usize
+    ensures { result ≡ length bytes.now / width_of_basic ids elem }
+{
+    bytes.len() / elem.width(ids) as usize
+}
+
 /// Returns an object in a line, without its identifier: the label of an instance's class, with its text if it is a String, or the name of
 /// the thread if it is the object of one; the label or the type of an array, and the number of its elements.
 ///
@@ -89,16 +127,12 @@ pub fn object_words(
     match dump {
         ObjectDump::Instance { class, .. } => instance_words(alloc, heap, classes, id, class),
         ObjectDump::ObjArray {
-            class, elements, ..
-        } => {
-            let label = class_label(alloc, heap, class)?;
-            let count = elements.len();
-            format!(in alloc; "{label} of {count}")
-        }
+            class,
+            elements,
+            ..
+        } => elements_words(alloc, heap, class, elements.len()),
         ObjectDump::PrimArray { elem, bytes, .. } => {
-            let word = type_word(elem);
-            let count = bytes.len() / elem.width(id_size(heap)) as usize;
-            format!(in alloc; "{word}[] of {count}")
+            values_words(alloc, elem, values_len(id_size(heap), elem, bytes))
         }
     }
 }

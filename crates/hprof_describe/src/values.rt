@@ -13,6 +13,15 @@ use hprof_text::{double_text, float_text, push_unit};
 use hprof_values::Basic;
 use std::alloc::{AllocError, Global};
 
+/// The number of values of one byte.
+const ONE_BYTE: u64 = 0x100;
+
+/// The number of values of two bytes.
+const TWO_BYTES: u64 = 0x1_0000;
+
+/// The number of values of four bytes.
+const FOUR_BYTES: u64 = 0x1_0000_0000;
+
 /// Returns a boolean in print: `false`, `true`, or another byte in decimal.
 fn boolean_text(alloc: Global, bits: u64) -> Result<String, AllocError>
     ensures { IfOk result (λ text. string_bytes text ≡ boolean_text bits) }
@@ -29,7 +38,7 @@ fn char_text(alloc: Global, bits: u64) -> Result<String, AllocError>
     ensures { IfOk result (λ text. string_bytes text ≡ char_text bits) }
 {
     let mut unit = Vec::new(alloc);
-    push_unit(&mut unit, bits as u16)?;
+    push_unit(&mut unit, (bits % TWO_BYTES) as u16)?;
     let unit = String::from_utf8(unit).unwrap();
     format!(in alloc; "'{unit}'")
 }
@@ -40,6 +49,7 @@ fn char_text(alloc: Global, bits: u64) -> Result<String, AllocError>
 ///
 /// Of `bits` as many are taken as the type has. `classes` are the names of the heap's classes. If memory runs out, the answer is
 /// `AllocError`.
+#[tactic(auto, unfolding(crate::specs::Values::value_text))]
 pub fn value_text(
     alloc: Global,
     heap: &Heap,
@@ -55,18 +65,18 @@ pub fn value_text(
         Basic::Array | Basic::Object => reference_text(alloc, heap, classes, bits),
         Basic::Boolean => boolean_text(alloc, bits),
         Basic::Char => char_text(alloc, bits),
-        Basic::Float => String::from_str(alloc, &float_text(bits as u32)),
+        Basic::Float => String::from_str(alloc, &float_text((bits % FOUR_BYTES) as u32)),
         Basic::Double => String::from_str(alloc, &double_text(bits)),
         Basic::Byte => {
-            let number = (bits as u8).cast_signed();
+            let number = ((bits % ONE_BYTE) as u8).cast_signed();
             format!(in alloc; "{number}")
         }
         Basic::Short => {
-            let number = (bits as u16).cast_signed();
+            let number = ((bits % TWO_BYTES) as u16).cast_signed();
             format!(in alloc; "{number}")
         }
         Basic::Int => {
-            let number = (bits as u32).cast_signed();
+            let number = ((bits % FOUR_BYTES) as u32).cast_signed();
             format!(in alloc; "{number}")
         }
         Basic::Long => {

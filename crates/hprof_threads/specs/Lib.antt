@@ -2,5 +2,3 @@ pub mod Threads
 pub mod ThreadRoots
 pub mod Frames
 pub mod ThreadNames
-pub mod Held
-pub mod Serials

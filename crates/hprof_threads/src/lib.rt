@@ -2,9 +2,7 @@
 #![tactic(auto)]
 
 mod frame_lines;
-mod held;
 pub mod laws;
-mod serials;
 mod stack_frame;
 mod thread_names;
 mod thread_objects;
@@ -13,8 +11,6 @@ mod thread_roots;
 mod thread_stacks;
 
 pub use frame_lines::frame_line;
-pub use held::{Held, HeldObjects, Place};
-pub use serials::{thread_of_root, thread_serials};
 pub use thread_names::thread_name;
 pub use thread_objects::thread_object;
 pub use thread_root::ThreadRoot;

@@ -17,7 +17,8 @@ fn holds_name(heap: &Heap, classes: &ClassNames, field: &FieldValue) -> bool
     ensures yes { AreClassNames (facts_of heap.now) classes.now → result ≡ true → HoldsName (facts_of heap.now) field.now }
     ensures no { AreClassNames (facts_of heap.now) classes.now → result ≡ false → ¬ (HoldsName (facts_of heap.now) field.now) }
 {
-    is_named(heap, field.name, b"name") && is_called(heap, classes, field.class, b"java/lang/Thread")
+    is_named(heap, field.name, b"name")
+        && is_called(heap, classes, field.class, b"java/lang/Thread")
 }
 
 /// Returns the first of the fields that holds the name of a thread, or `None` if none does.

@@ -1,5 +1,0 @@
-pub mod ClassLines
-pub mod FieldLines
-pub mod ElementLines
-pub mod NumberLines
-pub mod ShowText
