@@ -17,7 +17,7 @@ ghost use Rattle.hprof_describe.specs.References.{object_words, reference_text, 
 
 use crate::quotes::behind_label;
 use hprof_heap::{ClassDump, Heap, ObjectDump, find_class, find_object, holds_of_heap, id_size};
-use hprof_naming::{ClassNames, Text, Units, class_label, text_of, type_word};
+use hprof_naming::{ClassNames, Text, Units, text_of, type_word};
 use hprof_threads::thread_name;
 use hprof_values::{Basic, IdSize};
 use std::alloc::{AllocError, Global};
@@ -74,7 +74,7 @@ fn instance_words(
     ensures { (found : Findings) → AreFindings (size_of heap.now) (facts_of heap.now) found
         → IfOk result (λ text. string_bytes text ≡ found.naming.label class ++ behind_label (text_of_instance found id class)) }
 {
-    let label = class_label(alloc, heap, class)?;
+    let label = classes.label(alloc, heap, class)?;
     let units = text_of_instance(alloc, heap, classes, id, &label)?;
     let behind = behind_label(alloc, units)?;
     format!(in alloc; "{label}{behind}")
@@ -84,13 +84,15 @@ fn instance_words(
 fn elements_words(
     alloc: Global,
     heap: &Heap,
+    classes: &ClassNames,
     class: u64,
     count: usize,
 ) -> Result<String, AllocError>
+    requires { AreClassNames (facts_of heap.now) classes.now }
     ensures { (naming : Naming) → IsNaming (facts_of heap.now) naming
         → IfOk result (λ text. string_bytes text ≡ naming.label class ++ codes " of " ++ decimal count) }
 {
-    let label = class_label(alloc, heap, class)?;
+    let label = classes.label(alloc, heap, class)?;
     format!(in alloc; "{label} of {count}")
 }
 
@@ -130,7 +132,7 @@ pub fn object_words(
             class,
             elements,
             ..
-        } => elements_words(alloc, heap, class, elements.len()),
+        } => elements_words(alloc, heap, classes, class, elements.len()),
         ObjectDump::PrimArray { elem, bytes, .. } => {
             values_words(alloc, elem, values_len(id_size(heap), elem, bytes))
         }
@@ -152,7 +154,7 @@ fn reference_words(
 {
     match (class, object) {
         (Some(_), _) => {
-            let label = class_label(alloc, heap, id)?;
+            let label = classes.label(alloc, heap, id)?;
             format!(in alloc; "class {label}")
         }
         (None, Some(dump)) => object_words(alloc, heap, classes, id, dump),

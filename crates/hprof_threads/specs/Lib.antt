@@ -2,3 +2,5 @@ pub mod Threads
 pub mod ThreadRoots
 pub mod Frames
 pub mod ThreadNames
+pub mod Held
+pub mod Serials

@@ -2,7 +2,9 @@
 #![tactic(auto)]
 
 mod frame_lines;
+mod held;
 pub mod laws;
+mod serials;
 mod stack_frame;
 mod thread_names;
 mod thread_objects;
@@ -11,6 +13,8 @@ mod thread_roots;
 mod thread_stacks;
 
 pub use frame_lines::frame_line;
+pub use held::{Held, HeldObjects, Place};
+pub use serials::{thread_of_root, thread_serials};
 pub use thread_names::thread_name;
 pub use thread_objects::thread_object;
 pub use thread_root::ThreadRoot;

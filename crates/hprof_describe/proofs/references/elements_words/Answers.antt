@@ -11,4 +11,4 @@ returns c = λ naming is.
     of_text (λ text. string_bytes text ≡ label ++ (codes " of " ++ count))
     (λ text. string_bytes text ≡ naming.label c.args.class ++ codes " of " ++ count) c.format.result
     (λ text e. e ∙ sym (append_assoc label (codes " of ") count)
-    ∙ ap (λ (l : List ℕ). l ++ codes " of " ++ count) (c.in_ok-label.ensures.named naming is)) c.format.ensures.ok
+    ∙ ap (λ (l : List ℕ). l ++ codes " of " ++ count) (c.in_ok-label.ensures naming is)) c.format.ensures.ok

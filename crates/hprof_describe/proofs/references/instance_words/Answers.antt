@@ -14,7 +14,7 @@ returns c = λ found are.
     let class = c.args.class in
     let label = c.in_ok-label.label in
     let behind = c.in_ok-behind.behind in
-    let is : string_bytes label ≡ found.naming.label class = c.in_ok-label.ensures.named found.naming are.is_naming in
+    let is : string_bytes label ≡ found.naming.label class = c.in_ok-label.ensures found.naming are.is_naming in
     of_text (λ text. string_bytes text ≡ string_bytes label ++ string_bytes behind)
     (λ text. string_bytes text ≡ found.naming.label class ++ behind_label (text_of_instance found id class)) c.format.result
     (λ text e. e ∙ instance_of_parts found id class (string_bytes label) (string_bytes behind)

@@ -1,0 +1,6 @@
+pub mod ToldElements
+pub mod ToldFields
+pub mod Rows
+pub mod OneReport
+pub mod Regrouped
+pub mod LineParts

@@ -1,0 +1,15 @@
+use Rattle.std.proofs.Common.{◌≡◌, drop}
+use Rattle.hprof_devices.specs.declared.health.Health.TheVariants.{Well}
+use Rattle.hprof_devices.proofs.Writes.{Pushed}
+use Rattle.hprof_heap.specs.HeapFacts.{facts_of, size_of}
+use Rattle.hprof_describe.specs.Findings.{AreFindings, Findings}
+use Rattle.hprof_show.specs.FieldLines.{fields_from}
+use Rattle.hprof_show.proofs.field_lines.write_values.Given as goal
+
+abbrev pub invariant-loop-place : goal.invariant-loop-place
+invariant-loop-place g l = record {
+  pushed : (found : Findings) → AreFindings (size_of l.heap) (facts_of l.heap) found
+      → Pushed (g.W.Target.written l.fn.target) (g.W.Target.written l.target) (fields_from found l.class 0 l.values)
+      (fields_from found l.before l.place (drop l.place l.values));
+  well : g.W.Target.health l.target ≡ Well;
+}

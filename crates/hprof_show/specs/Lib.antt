@@ -1,0 +1,5 @@
+pub mod ClassLines
+pub mod FieldLines
+pub mod ElementLines
+pub mod NumberLines
+pub mod ShowText

@@ -1,0 +1,12 @@
+//! The report `show`: the contents of a class, an instance or an array, decoded.
+#![tactic(auto)]
+
+mod class_lines;
+mod element_lines;
+mod entries;
+mod field_lines;
+pub mod laws;
+mod number_lines;
+mod show;
+
+pub use show::write_show;
