@@ -1,4 +1,4 @@
-"""Maps and lists as people see them: their entries, found from the fields of java.util's classes, JDK 8 to 25.
+"""Maps and lists as people see them: their entries, found from the fields of java.util's classes, as JDK 17 and 25 have them.
 
 Where a field is missing, or is of another type, or leads to another class, nothing is told of the collection: its layout is another one.
 """
