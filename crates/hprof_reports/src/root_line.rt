@@ -15,7 +15,7 @@ use std::alloc::{AllocError, Global};
 const NO_FRAME: u32 = u32::MAX;
 
 /// Returns the words for a frame, or that there is none.
-fn frame_words(alloc: Global, frame: u32) -> Result<String, AllocError>
+pub fn frame_words(alloc: Global, frame: u32) -> Result<String, AllocError>
     ensures { IfOk result (λ words. string_bytes words ≡ frame_words frame) }
 {
     if frame == NO_FRAME {

@@ -1,0 +1,9 @@
+pub mod Cuts
+pub mod PlaceOrder
+pub mod RowCuts
+pub mod LeftRows
+pub mod Gathered
+pub mod SomeHeld
+pub mod SomeSerials
+pub mod ThreadTexts
+pub mod SomeThreads

@@ -1,0 +1,3 @@
+pub mod ThreadFindings
+pub mod ThreadsText
+pub mod PlaceLines

@@ -1,0 +1,14 @@
+//! Laws of the definitions. The contract of each function is a theorem; its body is empty.
+
+ghost use Rattle.std.specs.Prelude.{◌≡◌, ℕ, List};
+ghost use Rattle.hprof_values.specs.declared.ids.IdSize.{IdSize};
+ghost use Rattle.hprof_items.specs.FactValue.{FactValue};
+ghost use Rattle.hprof_rows.specs.Conflict.{IsConsistent};
+ghost use Rattle.hprof_holders.specs.ThreadsText.{IsThreadsText};
+
+/// If facts agree, the report `threads` has exactly one text.
+pub fn one_threads_text()
+    ensures exists { (ids : IdSize) (facts : List FactValue) → IsConsistent facts → (text : List ℕ) × IsThreadsText ids facts text }
+    ensures once { (ids : IdSize) (facts : List FactValue) (one other : List ℕ) → IsThreadsText ids facts one
+        → IsThreadsText ids facts other → one ≡ other }
+{}
