@@ -1,3 +1,5 @@
-pub mod ThreadFindings
-pub mod ThreadsText
-pub mod PlaceLines
+pub mod RootsText
+pub mod Steps
+pub mod Sums
+pub mod Views
+pub mod WhoText
