@@ -1,3 +1,4 @@
+pub mod RootLines
 pub mod RootsText
 pub mod Steps
 pub mod Sums

@@ -6,7 +6,7 @@ use Rattle.hprof_values.specs.declared.root.Root.TheVariants as roots
 use Rattle.hprof_threads.specs.Serials.{thread_of_root}
 use Rattle.hprof_describe.specs.Findings.{Findings}
 use Rattle.hprof_describe.specs.Nodes.{node_text}
-use Rattle.hprof_reports.specs.RootLines.{root_line}
+use Rattle.hprof_holders.specs.RootLines.{root_line}
 use Rattle.hprof_holders.specs.ThreadFindings.{ThreadFindings, frames_of}
 
 -- the number of the frame that a root names, if it names one: heapDumper.cpp, HPROF_GC_ROOT_JAVA_FRAME, -1 for empty

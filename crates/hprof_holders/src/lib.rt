@@ -4,6 +4,7 @@
 mod held_lines;
 mod held_rows;
 pub mod laws;
+mod root_line;
 mod root_lines;
 mod steps;
 mod sums;

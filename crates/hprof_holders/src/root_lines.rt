@@ -10,11 +10,12 @@ ghost use Rattle.hprof_holders.specs.ThreadFindings.{AreThreadFindings, ThreadFi
 ghost use Rattle.hprof_holders.specs.RootsText.{frame_of_root, frame_words_of, object_words, roots_text, thread_line, words_line};
 ghost use Rattle.hprof_holders.specs.Views.{IsView};
 
+use crate::root_line::root_line;
 use crate::view::HeapView;
 use hprof_describe::node_text;
 use hprof_devices::Target;
 use hprof_engine::WriteStop;
-use hprof_reports::{root_line, write_line};
+use hprof_reports::write_line;
 use hprof_threads::{frame_line, thread_object, thread_of_root, thread_stack};
 use hprof_values::Root;
 use std::alloc::{AllocError, Global};

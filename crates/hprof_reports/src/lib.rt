@@ -35,6 +35,6 @@ pub use objects::write_objects;
 pub use path::{distance_line, write_path};
 pub use place_names::place_name;
 pub use refs::{via_word, write_refs};
-pub use root_line::{frame_words, root_line};
+pub use root_line::frame_words;
 pub use text_report::write_text;
 pub use why_report::write_why;

@@ -25,7 +25,7 @@ pub fn frame_words(alloc: Global, frame: u32) -> Result<String, AllocError>
 }
 
 /// Returns the line of a GC root. If memory runs out, the answer is `AllocError`.
-pub fn root_line(alloc: Global, root: Root) -> Result<String, AllocError>
+fn root_line(alloc: Global, root: Root) -> Result<String, AllocError>
     ensures { IfOk result (λ line. string_bytes line ≡ root_line root) }
 {
     match root {
