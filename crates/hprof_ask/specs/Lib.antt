@@ -13,5 +13,6 @@ pub mod HeapAnswers
 pub mod OneHeapAnswer
 pub mod SomeHeapAnswer
 pub mod Asks
+pub mod Surveys
 pub mod Kept
 pub mod PartsAnswers

@@ -183,3 +183,15 @@ ID is hexadecimal, without 0x or @. Two dumps of one process are two heaps: ask
 each alone.
 
 Exit status: 0 done, 1 refused (one line on standard error), 2 not understood.";
+
+/// The report `threads`.
+pub(crate) const THREADS: &str = "\
+threads";
+
+/// The report `show`.
+pub(crate) const SHOW: &str = "\
+show";
+
+/// The report `who`.
+pub(crate) const WHO: &str = "\
+who";

@@ -7,3 +7,4 @@ pub mod SomeHeld
 pub mod SomeSerials
 pub mod ThreadTexts
 pub mod SomeThreads
+pub mod OneWho
