@@ -80,7 +80,7 @@ all_commands =
 -- the program with these commands
 abbrev pub command_line_with : List CommandWord → App
 command_line_with some = record {
-  top = record (new_shape (codes "hprof")) { is_leaf = is_empty some; has_version = true; disable_help_subcommand = true };
+  top = record (new_shape (codes "hprof")) { is_leaf = is_empty some; has_version = true };
   subs = map shape_of_command some;
 }
 

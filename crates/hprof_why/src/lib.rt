@@ -1,7 +1,6 @@
 //! The report `why`: a shortest path of strong references, told with names, threads and frames, and folded where it is monotonous.
 #![tactic(auto)]
 
-mod folded;
 pub mod laws;
 mod why_report;
 

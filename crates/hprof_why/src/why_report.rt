@@ -13,6 +13,7 @@ use hprof_devices::Target;
 use hprof_engine::WriteStop;
 use hprof_holders::HeapView;
 use hprof_reach::Reach;
+use hprof_reports::{nothing_line, write_line};
 use std::alloc::Global;
 
 /// Writes the report `why` on an identifier. `strong` is the search without the weak fields of `view`. `all` is the search by all edges; it
@@ -39,4 +40,5 @@ pub fn write_why<W: Target>(
     ensures health { LeavesTarget result (W.health target.new) }
     ensures all { IfSome all.new (IsReach (size_of view.entry.heap.now) (facts_of view.entry.heap.now)) }
 {
+    write_line(nothing_line(alloc, id), target)
 }
