@@ -47,7 +47,7 @@ impl Sums {
         for (text, count) in self.counts {
             sums.push(Sum { count, text })?;
         }
-        sums.sort_by_key(|sum| Reverse(sum.count));
+        sums.sort_by_key(|sum| Reverse(sum.count))?;
         Ok(sums)
     }
 }
