@@ -1,3 +1,6 @@
+pub mod ThreadFindings
+pub mod ThreadsText
+pub mod PlaceLines
 pub mod RootLines
 pub mod RootsText
 pub mod Steps

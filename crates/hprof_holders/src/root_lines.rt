@@ -1,6 +1,6 @@
 //! The lines of GC roots, each with its thread.
 
-ghost use Rattle.std.specs.Prelude.{◌≡◌, ◌×◌, IfOk, string_bytes};
+ghost use Rattle.std.specs.Prelude.{◌≡◌, IfOk, string_bytes};
 ghost use Rattle.std.specs.Option.{option_map};
 ghost use Rattle.hprof_devices.specs.declared.health.Health.TheVariants.{Well};
 ghost use Rattle.hprof_heap.specs.HeapFacts.{facts_of, size_of};

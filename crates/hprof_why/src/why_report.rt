@@ -1,6 +1,6 @@
 //! The report `why`: the shortest path of strong references from a GC root, with names.
 
-ghost use Rattle.std.specs.Prelude.{◌×◌, ℕ, List, IfSome};
+ghost use Rattle.std.specs.Prelude.{◌≡◌, ℕ, List, IfSome};
 ghost use Rattle.hprof_devices.specs.declared.health.Health.TheVariants.{Well};
 ghost use Rattle.hprof_edges.specs.LeftOut.{IsKept, fields_in};
 ghost use Rattle.hprof_heap.specs.HeapFacts.{facts_of, size_of};
