@@ -1,9 +1,9 @@
 -- How often each text stands among others.
-use Rattle.std.specs.Prelude.{◌≡◌, ◌×◌, ◌↔◌, ℕ, List, length, Contains, bytes_eq}
+use Rattle.std.specs.Prelude.{◌≡◌, ◌↔◌, ℕ, List, length, Contains, bytes_eq}
 use Rattle.std.specs.Cmp.Lexicographic.{slice_cmp}
 use Rattle.std.specs.List.{filter}
 use Rattle.std.specs.List.Sorted.{IsStrictlySortedBy}
-use Rattle.std.specs.Ordering.{nat_cmp, ordering_reverse, then_with}
+use Rattle.std.specs.Ordering.{nat_cmp, ordering_then}
 use Rattle.std.specs.declared.cmp.Ordering.{Ordering}
 
 -- a text, and how often it stands there
@@ -13,7 +13,7 @@ pub record SumValue : Type 0 where
 
 -- the greater number comes first, and of equal numbers the lesser text, byte by byte
 abbrev pub sum_cmp : SumValue → SumValue → Ordering
-sum_cmp one other = then_with (ordering_reverse (nat_cmp one.count other.count)) (slice_cmp nat_cmp one.text other.text)
+sum_cmp one other = ordering_then (nat_cmp other.count one.count) (slice_cmp nat_cmp one.text other.text)
 
 -- how often a text stands among these
 abbrev pub times_in : List ℕ → List (List ℕ) → ℕ

@@ -7,6 +7,7 @@ ghost use Rattle.hprof_heap.specs.HeapFacts.{facts_of, size_of};
 ghost use Rattle.hprof_reports.specs.Stopping.{LeavesTarget, WritesText};
 ghost use Rattle.hprof_describe.specs.Findings.{AreFindings, Findings};
 ghost use Rattle.hprof_holders.specs.ThreadFindings.{AreThreadFindings, ThreadFindings};
+ghost use Rattle.hprof_threads.specs.Serials.{thread_of_root};
 ghost use Rattle.hprof_holders.specs.RootsText.{frame_of_root, frame_words_of, object_words, roots_text, thread_line, words_line};
 ghost use Rattle.hprof_holders.specs.Views.{IsView};
 
@@ -40,10 +41,10 @@ fn object_words(
     view: HeapView<'_>,
     serial: u32,
 ) -> Result<Option<String>, AllocError>
-    requires { IsView view.entry }
+    requires { IsView view }
     ensures { (found : Findings) (threads : ThreadFindings)
-        → AreFindings (size_of view.entry.heap.now) (facts_of view.entry.heap.now) found
-        → AreThreadFindings (facts_of view.entry.heap.now) found.naming threads
+        → AreFindings (size_of view.heap.now) (facts_of view.heap.now) found
+        → AreThreadFindings (facts_of view.heap.now) found.naming threads
         → IfOk result (λ words. option_map string_bytes words ≡ object_words found (threads.object serial)) }
 {
     let object = thread_object(view.heap, view.threads, serial);
@@ -61,10 +62,10 @@ fn frame_words(
     serial: u32,
     number: Option<u32>,
 ) -> Result<Option<String>, AllocError>
-    requires { IsView view.entry }
+    requires { IsView view }
     ensures { (found : Findings) (threads : ThreadFindings)
-        → AreFindings (size_of view.entry.heap.now) (facts_of view.entry.heap.now) found
-        → AreThreadFindings (facts_of view.entry.heap.now) found.naming threads
+        → AreFindings (size_of view.heap.now) (facts_of view.heap.now) found
+        → AreThreadFindings (facts_of view.heap.now) found.naming threads
         → IfOk result (λ words. option_map string_bytes words ≡ frame_words_of threads serial number) }
 {
     let (Some(number), Some(frames)) = (number, thread_stack(view.heap, view.threads, serial)) else {
@@ -96,10 +97,10 @@ fn words_line(
 
 /// Returns the line of a root's thread, or an empty text if it has none.
 fn thread_line(alloc: Global, view: HeapView<'_>, root: Root) -> Result<String, AllocError>
-    requires { IsView view.entry }
+    requires { IsView view }
     ensures { (found : Findings) (threads : ThreadFindings)
-        → AreFindings (size_of view.entry.heap.now) (facts_of view.entry.heap.now) found
-        → AreThreadFindings (facts_of view.entry.heap.now) found.naming threads
+        → AreFindings (size_of view.heap.now) (facts_of view.heap.now) found
+        → AreThreadFindings (facts_of view.heap.now) found.naming threads
         → IfOk result (λ line. string_bytes line ≡ thread_line found threads root (thread_of_root root)) }
 {
     let Some(serial) = thread_of_root(root) else {
@@ -117,11 +118,11 @@ pub fn write_roots<W: Target>(
     roots: &[Root],
     target: &mut W,
 ) -> Result<(), WriteStop>
-    requires view { IsView view.entry }
+    requires view { IsView view }
     requires well { W.health target.old ≡ Well }
     ensures bytes { (found : Findings) (threads : ThreadFindings)
-        → AreFindings (size_of view.entry.heap.now) (facts_of view.entry.heap.now) found
-        → AreThreadFindings (facts_of view.entry.heap.now) found.naming threads
+        → AreFindings (size_of view.heap.now) (facts_of view.heap.now) found
+        → AreThreadFindings (facts_of view.heap.now) found.naming threads
         → WritesText (W.written target.old) (W.written target.new) result (roots_text found threads roots.now) }
     ensures health { LeavesTarget result (W.health target.new) }
 {

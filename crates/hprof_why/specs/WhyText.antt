@@ -1,5 +1,5 @@
 -- The report `why`: a shortest path of strong references from a GC root, with names, threads and frames. Its form is this project's own.
-use Rattle.std.specs.Prelude.{◌≡◌, ◌×◌, ◌⊎◌, ℕ, List, [], ◌∷◌, ◌++◌, Option, Some, None, codes}
+use Rattle.std.specs.Prelude.{◌≡◌, ◌⊎◌, ℕ, List, [], ◌∷◌, ◌++◌, Option, Some, None, codes}
 use Rattle.std.specs.List.{flat_map}
 use Rattle.hprof_values.specs.declared.ids.IdSize.{IdSize}
 use Rattle.hprof_values.specs.declared.root.Root.{Root}
@@ -19,7 +19,7 @@ use Rattle.hprof_describe.specs.Nodes.{kind_text, node_text}
 use Rattle.hprof_holders.specs.ThreadFindings.{AreThreadFindings, ThreadFindings}
 use Rattle.hprof_holders.specs.RootsText.{roots_text}
 use Rattle.hprof_holders.specs.Steps.{AreEdgeFindings, EdgeFindings, step_kind, step_text}
-use Rattle.hprof_holders.specs.Folding.{AreParts, Link, Part, part_text}
+use Rattle.hprof_why.specs.Folding.{AreParts, Link, Part, part_text}
 
 -- what is found of identifiers, threads and edges
 pub record PathFindings : Type 0 where

@@ -31,14 +31,14 @@ pub fn write_why<W: Target>(
     target: &mut W,
 ) -> Result<(), WriteStop>
     requires well { W.health target.old ≡ Well }
-    requires view { IsView view.entry }
-    requires strong { IsReachBy (IsKept (fields_in view.entry.weak.now) (facts_of view.entry.heap.now)) (size_of view.entry.heap.now)
-        (facts_of view.entry.heap.now) strong.now }
-    requires all { IfSome all.old (IsReach (size_of view.entry.heap.now) (facts_of view.entry.heap.now)) }
-    ensures bytes { (text : List ℕ) × IsWhyText (size_of view.entry.heap.now) (facts_of view.entry.heap.now) id text
+    requires view { IsView view }
+    requires strong { IsReachBy (IsKept (fields_in view.weak.now) (facts_of view.heap.now)) (size_of view.heap.now)
+        (facts_of view.heap.now) strong.now }
+    requires all { IfSome all.old (IsReach (size_of view.heap.now) (facts_of view.heap.now)) }
+    ensures bytes { (text : List ℕ) × IsWhyText (size_of view.heap.now) (facts_of view.heap.now) id text
         × WritesText (W.written target.old) (W.written target.new) result text }
     ensures health { LeavesTarget result (W.health target.new) }
-    ensures all { IfSome all.new (IsReach (size_of view.entry.heap.now) (facts_of view.entry.heap.now)) }
+    ensures all { IfSome all.new (IsReach (size_of view.heap.now) (facts_of view.heap.now)) }
 {
     write_line(nothing_line(alloc, id), target)
 }
