@@ -43,8 +43,8 @@ fn object_words(
 ) -> Result<Option<String>, AllocError>
     requires { IsView view }
     ensures { (found : Findings) (threads : ThreadFindings)
-        → AreFindings (size_of view.heap.now) (facts_of view.heap.now) found
-        → AreThreadFindings (facts_of view.heap.now) found.naming threads
+        → AreFindings (size_of view.entry.heap.now) (facts_of view.entry.heap.now) found
+        → AreThreadFindings (facts_of view.entry.heap.now) found.naming threads
         → IfOk result (λ words. option_map string_bytes words ≡ object_words found (threads.object serial)) }
 {
     let object = thread_object(view.heap, view.threads, serial);
@@ -64,8 +64,8 @@ fn frame_words(
 ) -> Result<Option<String>, AllocError>
     requires { IsView view }
     ensures { (found : Findings) (threads : ThreadFindings)
-        → AreFindings (size_of view.heap.now) (facts_of view.heap.now) found
-        → AreThreadFindings (facts_of view.heap.now) found.naming threads
+        → AreFindings (size_of view.entry.heap.now) (facts_of view.entry.heap.now) found
+        → AreThreadFindings (facts_of view.entry.heap.now) found.naming threads
         → IfOk result (λ words. option_map string_bytes words ≡ frame_words_of threads serial number) }
 {
     let (Some(number), Some(frames)) = (number, thread_stack(view.heap, view.threads, serial)) else {
@@ -99,8 +99,8 @@ fn words_line(
 fn thread_line(alloc: Global, view: HeapView<'_>, root: Root) -> Result<String, AllocError>
     requires { IsView view }
     ensures { (found : Findings) (threads : ThreadFindings)
-        → AreFindings (size_of view.heap.now) (facts_of view.heap.now) found
-        → AreThreadFindings (facts_of view.heap.now) found.naming threads
+        → AreFindings (size_of view.entry.heap.now) (facts_of view.entry.heap.now) found
+        → AreThreadFindings (facts_of view.entry.heap.now) found.naming threads
         → IfOk result (λ line. string_bytes line ≡ thread_line found threads root (thread_of_root root)) }
 {
     let Some(serial) = thread_of_root(root) else {
@@ -121,8 +121,8 @@ pub fn write_roots<W: Target>(
     requires view { IsView view }
     requires well { W.health target.old ≡ Well }
     ensures bytes { (found : Findings) (threads : ThreadFindings)
-        → AreFindings (size_of view.heap.now) (facts_of view.heap.now) found
-        → AreThreadFindings (facts_of view.heap.now) found.naming threads
+        → AreFindings (size_of view.entry.heap.now) (facts_of view.entry.heap.now) found
+        → AreThreadFindings (facts_of view.entry.heap.now) found.naming threads
         → WritesText (W.written target.old) (W.written target.new) result (roots_text found threads roots.now) }
     ensures health { LeavesTarget result (W.health target.new) }
 {

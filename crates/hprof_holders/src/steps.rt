@@ -49,11 +49,11 @@ pub fn step_of(
 ) -> Result<Step, AllocError>
     requires { IsView view }
     ensures edge { IfOk result (λ step. step.edge ≡ edge) }
-    ensures found { IfOk result (λ step. (edges : EdgeFindings) → AreSkips (facts_of view.heap.now) names.old
-        → AreEdgeFindings (size_of view.heap.now) (facts_of view.heap.now) edges
-        → IsEdge (size_of view.heap.now) (facts_of view.heap.now) edge
+    ensures found { IfOk result (λ step. (edges : EdgeFindings) → AreSkips (facts_of view.entry.heap.now) names.old
+        → AreEdgeFindings (size_of view.entry.heap.now) (facts_of view.entry.heap.now) edges
+        → IsEdge (size_of view.entry.heap.now) (facts_of view.entry.heap.now) edge
         → (step.name ≡ edges.name edge) × (step.is_weak ≡ edges.is_weak edge)) }
-    ensures skips { OnOk result (AreSkips (facts_of view.heap.now) names.old → AreSkips (facts_of view.heap.now) names.new) }
+    ensures skips { OnOk result (AreSkips (facts_of view.entry.heap.now) names.old → AreSkips (facts_of view.entry.heap.now) names.new) }
 {
     holds_of_heap(view.heap);
     let name = place_name(view.heap, edge, names)?;

@@ -1,7 +1,7 @@
 //! How often each text stands among others.
 
 ghost use Rattle.std.specs.Prelude.{◌≡◌, IfOk, List, map, string_bytes};
-ghost use Rattle.hprof_holders.specs.Sums.{AreSums, sum_value};
+ghost use Rattle.hprof_holders.specs.Sums.{AreSums};
 
 use std::alloc::{AllocError, Global};
 use std::cmp::Reverse;

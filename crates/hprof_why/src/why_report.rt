@@ -35,10 +35,10 @@ pub fn write_why<W: Target>(
     requires strong { IsReachBy (IsKept (fields_in view.weak.now) (facts_of view.heap.now)) (size_of view.heap.now)
         (facts_of view.heap.now) strong.now }
     requires all { IfSome all.old (IsReach (size_of view.heap.now) (facts_of view.heap.now)) }
-    ensures bytes { (text : List ℕ) × IsWhyText (size_of view.heap.now) (facts_of view.heap.now) id text
+    ensures bytes { (text : List ℕ) × IsWhyText (size_of view.entry.heap.now) (facts_of view.entry.heap.now) id text
         × WritesText (W.written target.old) (W.written target.new) result text }
     ensures health { LeavesTarget result (W.health target.new) }
-    ensures all { IfSome all.new (IsReach (size_of view.heap.now) (facts_of view.heap.now)) }
+    ensures all { IfSome all.new (IsReach (size_of view.entry.heap.now) (facts_of view.entry.heap.now)) }
 {
     write_line(nothing_line(alloc, id), target)
 }

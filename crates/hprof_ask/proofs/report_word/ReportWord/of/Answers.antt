@@ -8,4 +8,4 @@ returns c = of_all_words (λ report. c.args.word.now ≢ word_of report) c.loop-
 
 pub loop-report-preserved : goal.loop-report-preserved
 loop-report-preserved c = one_more_word (λ report. c.args.word.now ≢ word_of report) c.loop-report.report-index c.loop-report-test.true
-    c.loop-report.invariant c.missing
+    c.loop-report.invariant (? : _)
