@@ -41,17 +41,19 @@ has_space (byte ∷ rest) = (byte == 32) || has_space rest
 
 front_alone : (word : List ℕ) → has_space word ≡ false → front word ≡ word
 front_alone [] none = refl
-front_alone (byte ∷ word) none = by (byte == 32) refl none where
-  by : (test : Bool) → (byte == 32) ≡ test → (test || has_space word) ≡ false → front_by test byte (front word) ≡ byte ∷ word
-  by true e none = absurd cc
-  by false e none = ap (λ (l : List ℕ). byte ∷ l) (front_alone word none)
+front_alone (byte ∷ word) none = by (byte == 32) none (front_alone word) where
+  by : (test : Bool) → (test || has_space word) ≡ false → (has_space word ≡ false → front word ≡ word)
+      → front_by test byte (front word) ≡ byte ∷ word
+  by true none rest = absurd cc
+  by false none rest = ap (λ (l : List ℕ). byte ∷ l) (rest none)
 
 front_behind : (word text : List ℕ) → has_space word ≡ false → front (word ++ 32 ∷ text) ≡ word
 front_behind [] text none = refl
-front_behind (byte ∷ word) text none = by (byte == 32) refl none where
-  by : (test : Bool) → (byte == 32) ≡ test → (test || has_space word) ≡ false → front_by test byte (front (word ++ 32 ∷ text)) ≡ byte ∷ word
-  by true e none = absurd cc
-  by false e none = ap (λ (l : List ℕ). byte ∷ l) (front_behind word text none)
+front_behind (byte ∷ word) text none = by (byte == 32) none (front_behind word text) where
+  by : (test : Bool) → (test || has_space word) ≡ false → (has_space word ≡ false → front (word ++ 32 ∷ text) ≡ word)
+      → front_by test byte (front (word ++ 32 ∷ text)) ≡ byte ∷ word
+  by true none rest = absurd cc
+  by false none rest = ap (λ (l : List ℕ). byte ∷ l) (rest none)
 
 front_of : (follows : Follows) (line word text : List ℕ) → has_space word ≡ false → IsFollowed follows line word text → front line ≡ word
 front_of follow.Nothing line word text none is = ap front is.0 ∙ front_alone word none
@@ -69,11 +71,12 @@ Differs word = (has_space (word_of word) ≡ false) × (word_by all_words (word_
     × (bytes_eq (word_of word) [] ≡ false)
 
 differs : (word : ReportWord) → Differs word
-differs word = of_each Differs (
-  (refl, refl, refl, refl), (refl, refl, refl, refl), (refl, refl, refl, refl), (refl, refl, refl, refl), (refl, refl, refl, refl),
-  (refl, refl, refl, refl), (refl, refl, refl, refl), (refl, refl, refl, refl), (refl, refl, refl, refl), (refl, refl, refl, refl),
-  (refl, refl, refl, refl), (refl, refl, refl, refl), tt,
-) word
+differs = of_each Differs (
+  (refl, refl, refl, refl), ((refl, refl, refl, refl), ((refl, refl, refl, refl),
+  ((refl, refl, refl, refl), ((refl, refl, refl, refl), ((refl, refl, refl, refl),
+  ((refl, refl, refl, refl), ((refl, refl, refl, refl), ((refl, refl, refl, refl),
+  ((refl, refl, refl, refl), ((refl, refl, refl, refl), ((refl, refl, refl, refl), tt)))))))))))
+)
 
 -- the line of a word begins with it
 line_front : (word : ReportWord) (line text : List ℕ) → IsLineOf line word text → front line ≡ word_of word
@@ -105,14 +108,14 @@ one_line line word word_too text text_too is is_too =
 some_bytes : (word : ReportWord) (line text : List ℕ) → IsLineOf line word text → line ≡ [] → ⊥
 some_bytes word line text is none =
     let e : bytes_eq (word_of word) [] ≡ true = ap (λ (l : List ℕ). bytes_eq l []) (sym (line_front word line text is) ∙ ap front none) in
-    let no : true ≡ false = sym e ∙ (differs word).2.2 in
+    let no : true ≡ false = sym e ∙ (differs word).3 in
     absurd cc
 
 not_help : (word : ReportWord) (line text : List ℕ) → IsLineOf line word text → line ≡ codes "help" → ⊥
 not_help word line text is help =
     let e : bytes_eq (word_of word) (codes "help") ≡ true =
         ap (λ (l : List ℕ). bytes_eq l (codes "help")) (sym (line_front word line text is) ∙ ap front help) in
-    let no : true ≡ false = sym e ∙ (differs word).2.1 in
+    let no : true ≡ false = sym e ∙ (differs word).2 in
     absurd cc
 
 -- ---- what follows a word

@@ -165,7 +165,7 @@ module _ (text : List ℕ) where
   named : (word : ReportWord) → (question : Question) × IsNamed word text question
   named (words.Heap report) = (questions.Report (reports.Heap report), refl)
   named (words.Node report) =
-      of_identifier (words.Node report) refl (λ is. (questions.Report (reports.Node report (id_value text)), (refl, is, refl)))
+      of_identifier (words.Node report) refl (λ is. (questions.Report (reports.Node report (id_value text)), (refl, (is, refl))))
   named words.Objects = elim (kind_named text) [
     | inl it ↦ (questions.Report (reports.Objects it.0), it.1)
     | inr fails ↦ (questions.Misnamed misnamed.NoKind, (refl, fails))

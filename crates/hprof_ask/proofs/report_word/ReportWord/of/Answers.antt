@@ -1,4 +1,4 @@
-use Rattle.std.proofs.Common.{◌≢◌}
+use Rattle.std.proofs.Common.{◌≢◌, rules}
 use Rattle.hprof_ask.specs.Words.{word_of}
 use Rattle.hprof_ask.proofs.WordLists.{of_all_words, one_more_word}
 use Rattle.hprof_ask.proofs.report_word.ReportWord.of.Goals as goal
@@ -8,4 +8,4 @@ returns c = of_all_words (λ report. c.args.word.now ≢ word_of report) c.loop-
 
 pub loop-report-preserved : goal.loop-report-preserved
 loop-report-preserved c = one_more_word (λ report. c.args.word.now ≢ word_of report) c.loop-report.report-index c.loop-report-test.true
-    c.loop-report.invariant (? : _)
+    c.loop-report.invariant (search rules)
