@@ -1,4 +1,4 @@
--- The lines of GC roots: heapDumper.cpp, "HPROF binary format", HPROF_GC_ROOT_UNKNOWN and those behind it. The words are this project's own.
+-- The lines of GC roots: heapDumper.cpp, "HPROF binary format", HPROF_GC_ROOT_UNKNOWN and those behind it. Their words are this project's.
 use Rattle.std.specs.Prelude.{◌==◌, ℕ, List, [], ◌∷◌, ◌++◌, codes, if◌then◌else◌}
 use Rattle.std.specs.Fmt.{decimal}
 use Rattle.hprof_text.specs.Identifier.{id_digits}

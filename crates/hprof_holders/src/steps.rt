@@ -3,14 +3,14 @@
 ghost use Rattle.std.specs.Prelude.{◌≡◌, ◌↔◌, ℕ, IfOk, IsTrue, OnOk, string_bytes};
 ghost use Rattle.hprof_heap.specs.HeapFacts.{facts_of, size_of};
 ghost use Rattle.hprof_edges.specs.Edges.{IsEdge};
-ghost use Rattle.hprof_edges.specs.LeftOut.{IsLeftOut, fields_in};
+ghost use Rattle.hprof_edges.specs.LeftOut.{IsLeftOut, fields_in, has_place};
 ghost use Rattle.hprof_naming.specs.Naming.{IsNaming, Naming};
 ghost use Rattle.hprof_reports.specs.Skipped.{AreSkips};
-ghost use Rattle.hprof_holders.specs.Steps.{AreEdgeFindings, EdgeFindings, step_kind, step_text};
+ghost use Rattle.hprof_holders.specs.Steps.{AreEdgeFindings, EdgeFindings, step_kind, step_text, weak_word};
 ghost use Rattle.hprof_holders.specs.Views.{IsView};
 
 use crate::view::HeapView;
-use hprof_edges::{Edge, LeftOut, Via};
+use hprof_edges::{Edge, FieldPlace, LeftOut, Via};
 use hprof_heap::{Heap, ObjectDump, find_object, holds_of_heap};
 use hprof_naming::name_text;
 use hprof_reports::{FieldNames, place_name, via_word};
@@ -27,26 +27,29 @@ pub struct Step {
     pub is_weak: bool,
 }
 
+/// Returns whether one of the fields stands at that place.
+fn has_place(fields: &[FieldPlace], place: u64) -> bool
+    ensures { result ≡ has_place fields.now place }
+{
+    fields.iter().any(|field| field.place == place)
+}
+
 /// Returns whether an edge is by a field in the table.
 fn is_left_out(heap: &Heap, left_out: &LeftOut, edge: Edge) -> bool
     ensures { IsTrue result ↔ IsLeftOut (fields_in left_out.now) (facts_of heap.now) edge }
 {
-    match (edge.via, find_object(heap, edge.from)) {
-        (Via::Field, Some(ObjectDump::Instance { class, .. })) => {
-            let fields = left_out.of(class);
-            fields.iter().any(|field| field.place == edge.position)
-        }
+    if edge.via != Via::Field {
+        return false;
+    }
+    match find_object(heap, edge.from) {
+        Some(ObjectDump::Instance { class, .. }) => has_place(left_out.of(class), edge.position),
         _ => false,
     }
 }
 
 /// Returns an edge with the name of its place, and whether it is weak. `names` remembers classes of the heap that were passed over. If
 /// memory runs out, the answer is `AllocError`.
-pub fn step_of(
-    view: HeapView<'_>,
-    edge: Edge,
-    names: &mut FieldNames,
-) -> Result<Step, AllocError>
+pub fn step_of(view: HeapView<'_>, edge: Edge, names: &mut FieldNames) -> Result<Step, AllocError>
     requires { IsView view }
     ensures edge { IfOk result (λ step. step.edge ≡ edge) }
     ensures found { IfOk result (λ step. (edges : EdgeFindings) → AreSkips (facts_of view.entry.heap.now) names.old
@@ -65,7 +68,9 @@ pub fn step_of(
 }
 
 /// Returns the word before a weak edge, or an empty text.
-fn weak_word(is_weak: bool) -> &'static str {
+fn weak_word(is_weak: bool) -> &'static str
+    ensures { result.now ≡ weak_word is_weak }
+{
     if is_weak { "weak " } else { "" }
 }
 

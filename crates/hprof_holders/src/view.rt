@@ -1,7 +1,5 @@
 //! A heap, and what is kept of it for reports.
 
-ghost use Rattle.std.specs.Prelude.{◌↔◌};
-
 use hprof_edges::LeftOut;
 use hprof_heap::Heap;
 use hprof_layouts::KnownLayouts;
