@@ -3,7 +3,6 @@ pub mod Words
 pub mod Summarised
 pub mod OneReport
 pub mod SomeCheck
-pub mod SomeReferrers
 pub mod SomeReport
 pub mod Lines
 pub mod Asked

@@ -34,7 +34,7 @@ use Rattle.hprof_ask.specs.declared.report.Report.{Report}
 use Rattle.hprof_ask.specs.declared.report.Report.TheVariants as reports
 use Rattle.hprof_ask.specs.Report.{IsHeapReport, IsNodeReport, IsReport}
 use Rattle.hprof_ask.specs.SomeCheck.{some_check}
-use Rattle.hprof_ask.specs.SomeReferrers.{some_referrers}
+use Rattle.hprof_holders.specs.SomeReferrers.{some_referrers}
 
 module _ (ids : IdSize) (facts : List FactValue) (agree : IsConsistent facts) where
   some_histogram : (text : List ℕ) × IsHistogramText ids facts text
