@@ -1,7 +1,9 @@
 //! Edges in words.
 
 ghost use Rattle.std.specs.Prelude.{◌≡◌, ◌↔◌, ℕ, IfOk, IsTrue, OnOk, string_bytes};
+ghost use Rattle.std.specs.List.Sorted.{IsNonDecreasingBy};
 ghost use Rattle.hprof_heap.specs.HeapFacts.{facts_of, size_of};
+ghost use Rattle.hprof_edges.specs.declared.field_place.FieldPlace.{FieldPlace};
 ghost use Rattle.hprof_edges.specs.Edges.{IsEdge};
 ghost use Rattle.hprof_edges.specs.LeftOut.{IsLeftOut, fields_in, has_place};
 ghost use Rattle.hprof_naming.specs.Naming.{IsNaming, Naming};
@@ -27,11 +29,14 @@ pub struct Step {
     pub is_weak: bool,
 }
 
-/// Returns whether one of the fields stands at that place.
+/// Returns whether one of the fields stands at that place, by binary search. All are fields of one class, and ascend by place.
 fn has_place(fields: &[FieldPlace], place: u64) -> bool
+    requires { IsNonDecreasingBy (λ (field : FieldPlace). field.place) fields.now }
     ensures { result ≡ has_place fields.now place }
 {
-    fields.iter().any(|field| field.place == place)
+    fields
+        .binary_search_by_key(&place, |field| field.place)
+        .is_ok()
 }
 
 /// Returns whether an edge is by a field in the table.
