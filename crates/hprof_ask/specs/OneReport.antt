@@ -14,7 +14,7 @@ use Rattle.hprof_reports.specs.OneText.{one_text_line}
 use Rattle.hprof_show.proofs.OneReport.{one_show_text}
 use Rattle.hprof_holders.proofs.SomeThreads.{text_once as threads_once}
 use Rattle.hprof_holders.proofs.SomeWho.{who_once}
-use Rattle.hprof_why.proofs.OneWhy.{one_why_text}
+use Rattle.hprof_why.proofs.OneText.{why_once}
 use Rattle.hprof_ask.specs.declared.report.HeapReport.{HeapReport}
 use Rattle.hprof_ask.specs.declared.report.HeapReport.TheVariants as heaps
 use Rattle.hprof_ask.specs.declared.report.NodeReport.{NodeReport}
@@ -34,7 +34,7 @@ module _ (summaries : List PartSummary) (ids : IdSize) (facts : List FactValue) 
   one_node_report : (report : NodeReport) (id : ℕ) (one other : List ℕ) → IsNodeReport ids facts report id one
       → IsNodeReport ids facts report id other → one ≡ other
   one_node_report nodes.Show id = one_show_text ids facts id
-  one_node_report nodes.Why id = one_why_text ids facts id
+  one_node_report nodes.Why id = why_once ids facts id
   one_node_report nodes.Who id = λ one other are too. who_once ids facts are.agree id one other are too
   one_node_report nodes.Text id = one_text_line ids facts id
   one_node_report nodes.Object id = one_object ids facts id

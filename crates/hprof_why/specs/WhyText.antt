@@ -84,7 +84,7 @@ pub record IsReachedBy (P : Edge → Type 0) (ids : IdSize) (facts : List FactVa
 abbrev pub IsReachedText : IdSize → List FactValue → PathFindings → ℕ → List ℕ → Type 0
 IsReachedText ids facts found id text = IsReachedBy (IsStrong facts) ids facts found id text
     ⊎ ((IsDistanceBy (IsStrong facts) ids facts id None
-      × ((path : List ℕ) × IsReachedBy AnyEdge ids facts found id path × (text ≡ codes "only by weak references\n" ++ path)))
+    × ((path : List ℕ) × IsReachedBy AnyEdge ids facts found id path × (text ≡ codes "only by weak references\n" ++ path)))
     ⊎ (IsDistanceBy AnyEdge ids facts id None × (text ≡ codes "not reached\n")))
 
 -- that, of an identifier that has a class dump or an object dump
