@@ -23,7 +23,8 @@ pub kept_all : (ids : IdSize) (facts : List FactValue) (edge : Edge) → IsEdge 
 kept_all ids facts edge is = (λ any out. nothing_there _ out.there, λ kept. tt)
 
 -- a search by all edges is one without the edges by no fields
-pub reach_kept : (ids : IdSize) (facts : List FactValue) (reach : Reach) → IsReach ids facts reach → IsReachBy (IsKept [] facts) ids facts reach
+pub reach_kept : (ids : IdSize) (facts : List FactValue) (reach : Reach) → IsReach ids facts reach
+    → IsReachBy (IsKept [] facts) ids facts reach
 reach_kept ids facts reach is = same_reach AnyEdge (IsKept [] facts) ids facts (kept_all ids facts) reach is
 
 -- the strong edges are those that are kept without the weak fields

@@ -25,7 +25,8 @@ use Rattle.hprof_why.specs.Walks.{step_by}
 pub found_equal : (one other : List ℕ) → one ≡ other → true ≡ bytes_eq one other
 found_equal one other same = sym ((bytes_eq-Decides one other).1 same)
 
-module _ (ids : IdSize) (facts : List FactValue) (agree : IsConsistent facts) (found : Findings) (are : AreFindings ids facts found) (id : ℕ) where
+module _ (ids : IdSize) (facts : List FactValue) (agree : IsConsistent facts) (found : Findings) (are : AreFindings ids facts found)
+    (id : ℕ) where
   -- what was found of a node tells its kind
   pub kind_told : (class was_class : Option ClassDump) (object was_object : Option ObjectDump) → IsFoundClass ids facts id was_class
       → IsFoundObject ids facts id was_object → was_class ≡ class → was_object ≡ object

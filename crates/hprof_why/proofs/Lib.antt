@@ -8,3 +8,4 @@ pub mod SomeLinks
 pub mod SomeText
 pub mod OneText
 pub mod Finding
+pub mod Stretches

@@ -24,7 +24,8 @@ use Rattle.hprof_holders.specs.ThreadFindings.{AreThreadFindings}
 use Rattle.hprof_holders.proofs.EdgeNames.{name_found, weak_found}
 use Rattle.hprof_holders.proofs.SomeThreads.{one_threads}
 use Rattle.hprof_why.specs.Folding.{AreParts, Link, part_text}
-use Rattle.hprof_why.specs.WhyText.{AreLinks, ArePathFindings, IsFoundText, IsReachedBy, IsReachedText, IsToldPath, IsWhyText, NoLink, OneLink, PathFindings, link_by}
+use Rattle.hprof_why.specs.WhyText.{AreLinks, ArePathFindings, IsFoundText, IsReachedBy, IsReachedText, IsToldPath, IsWhyText, NoLink}
+use Rattle.hprof_why.specs.WhyText.{OneLink, PathFindings, link_by}
 use Rattle.hprof_why.specs.Walks.{IsPartsText}
 use Rattle.hprof_why.proofs.Going.{first_step, no_links}
 use Rattle.hprof_why.proofs.SomeParts.{parts_once}
@@ -93,7 +94,8 @@ module _ (ids : IdSize) (facts : List FactValue) (agree : IsConsistent facts) (o
         → IsToldPath P ids facts other distance path others → text ≡ others
     told_once distance path text others told theirs =
         let mine = told_pieces P ids facts one distance path text told.first told.rest told.roots told told.nodes_are told.are_roots in
-        let also = told_pieces P ids facts other distance path others told.first told.rest told.roots theirs told.nodes_are told.are_roots in
+        let also = told_pieces P ids facts other distance path others told.first told.rest told.roots theirs told.nodes_are
+        told.are_roots in
         let left = parts_text_once told.first told.rest mine.0 also.0 mine.1 also.1 in
         mine.2
         ∙ (λ i. distance_line distance ++ (roots_text (nodes i) (threads i) told.roots
@@ -132,7 +134,8 @@ module _ (ids : IdSize) (facts : List FactValue) (agree : IsConsistent facts) (o
       absurd (not_both (IsStrong facts) one id text reached (no_strong id theirs.0))
   reached_text_once id text others (inr (inl mine)) (inl theirs) = absurd (not_both (IsStrong facts) other id others theirs mine.0)
   reached_text_once id text others (inr (inl mine)) (inr (inl theirs)) =
-      mine.1.2 ∙ ap (λ (l : List ℕ). codes "only by weak references\n" ++ l) (reached_once AnyEdge id mine.1.0 theirs.1.0 mine.1.1 theirs.1.1)
+      mine.1.2
+      ∙ ap (λ (l : List ℕ). codes "only by weak references\n" ++ l) (reached_once AnyEdge id mine.1.0 theirs.1.0 mine.1.1 theirs.1.1)
       ∙ sym theirs.1.2
   reached_text_once id text others (inr (inl mine)) (inr (inr theirs)) = absurd (not_both AnyEdge one id mine.1.0 mine.1.1 theirs.0)
   reached_text_once id text others (inr (inr mine)) (inl theirs) =
@@ -141,7 +144,8 @@ module _ (ids : IdSize) (facts : List FactValue) (agree : IsConsistent facts) (o
   reached_text_once id text others (inr (inr mine)) (inr (inr theirs)) = mine.1 ∙ sym theirs.1
 
   found_text_once : (id : ℕ) (text others : List ℕ) (class : Option ClassValue) (object : Option FactValue)
-      → IsFoundText id class object (IsReachedText ids facts one id) text → IsFoundText id class object (IsReachedText ids facts other id) others
+      → IsFoundText id class object (IsReachedText ids facts one id) text
+      → IsFoundText id class object (IsReachedText ids facts other id) others
       → text ≡ others
   found_text_once id text others None None is theirs = is ∙ sym theirs
   found_text_once id text others (Some class) object is theirs = reached_text_once id text others is theirs

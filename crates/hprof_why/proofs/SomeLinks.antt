@@ -1,7 +1,8 @@
 -- Of whichever facts that agree a path has links and a text.
 use Rattle.std.specs.Prelude.{◌≢◌, slice_index}
 use Rattle.std.specs.List.{flat_map}
-use Rattle.std.proofs.Common.{◌≡◌, ◌⊎◌, inl, inr, ◌==◌, ◌<◌, ◌+◌, ℕ, suc, Bool, true, false, List, [], ◌∷◌, ◌++◌, length, Option, Some, None, refl, sym, ap, subst, ◌∙◌}
+use Rattle.std.proofs.Common.{◌≡◌, ◌⊎◌, inl, inr, ◌==◌, ◌<◌, ◌+◌, ℕ, suc, Bool, true, false, List, [], ◌∷◌, ◌++◌, length, Option, Some}
+use Rattle.std.proofs.Common.{None, refl, sym, ap, subst, ◌∙◌}
 use Rattle.std.proofs.Common.{append_assoc, append-nil, arith, codes}
 use Rattle.std.specs.Ordering.{ordering_reverse}
 use Rattle.std.specs.declared.cmp.Ordering.{Ordering}
@@ -82,7 +83,8 @@ module _ (P : Edge → Type 0) (ids : IdSize) (facts : List FactValue) (agree : 
           next : (place : ℕ) → suc place + 1 ≡ suc (place + 1)
           next place = omega arith
 
-          go : (edge : Option Edge) → IsLeastEdgeBy P ids facts from to edge → (links : List Link) × AreLinks P ids facts found to nodes links
+          go : (edge : Option Edge) → IsLeastEdgeBy P ids facts from to edge
+              → (links : List Link) × AreLinks P ids facts found to nodes links
               → (links : List Link) × AreLinks P ids facts found from (to ∷ nodes) links
           go (Some edge) least more = (link_by found edge to ∷ more.0, OneLink from to nodes edge more.0 least more.1)
           go None none more =
@@ -93,7 +95,9 @@ module _ (P : Edge → Type 0) (ids : IdSize) (facts : List FactValue) (agree : 
     -- a path has a text
     pub told_exists : (id distance : ℕ) (nodes : List ℕ) → IsPathBy P ids facts id (Some nodes)
         → (text : List ℕ) × IsToldPath P ids facts found distance nodes text
-    told_exists id distance [] path = absurd (let some = (path_walks (IsStart facts) (IsStepBy P ids facts) id [] path).some in omega (arith, some))
+    told_exists id distance [] path =
+        let some = (path_walks (IsStart facts) (IsStepBy P ids facts) id [] path).some in
+        absurd (omega (arith, some))
     told_exists id distance (first ∷ rest) path =
         let walk = path_walks (IsStart facts) (IsStepBy P ids facts) id (first ∷ rest) path in
         let links = links_along first rest walk.steps in

@@ -1,9 +1,11 @@
 -- A path has parts, and in one way.
 use Rattle.std.specs.Prelude.{if◌then◌else◌}
-use Rattle.std.proofs.Common.{◌≡◌, ◌≤◌, ◌<◌, ◌-◌, ℕ, ◌+◌, zero, suc, Bool, true, false, List, [], ◌∷◌, ◌++◌, length, refl, sym, ap, subst, ◌∙◌, arith, inl, inr}
+use Rattle.std.proofs.Common.{◌≡◌, ◌≤◌, ◌<◌, ◌-◌, ℕ, ◌+◌, zero, suc, Bool, true, false, List, [], ◌∷◌, ◌++◌, length, refl, sym, ap, subst}
+use Rattle.std.proofs.Common.{◌∙◌, arith, inl, inr}
 use Rattle.std.proofs.lemmas.List.{length-append}
 use Rattle.hprof_search.proofs.Followed.{splits}
-use Rattle.hprof_why.specs.Folding.{AreParts, IsFront, Link, NoPart, One, OnePart, Part, Stretch, alike_at_front, is_alike, kind_behind, links_of, run_at_front}
+use Rattle.hprof_why.specs.Folding.{AreParts, IsFront, Link, NoPart, One, OnePart, Part, Stretch, alike_at_front, is_alike, kind_behind}
+use Rattle.hprof_why.specs.Folding.{links_of, run_at_front}
 use Rattle.hprof_why.proofs.Fronting.{first_part, no_parts, same_split}
 
 -- ---- there are parts
@@ -72,7 +74,8 @@ some_link : (part : Part) (rest : List Link) → (link : Link) × (left : List L
 some_link (One link) rest = (link, rest, refl)
 some_link (Stretch first between last) rest = (first, (between ++ last ∷ []) ++ rest, refl)
 
-same_part : (kind : List ℕ) (links : List Link) (one other : Part) (rest more : List Link) → IsFront kind links one → IsFront kind links other
+same_part : (kind : List ℕ) (links : List Link) (one other : Part) (rest more : List Link) → IsFront kind links one
+    → IsFront kind links other
     → links_of one ++ rest ≡ links_of other ++ more → (one ≡ other) × (rest ≡ more)
 same_part kind links (One one) (One other) rest more is too same =
     let head : one ≡ other = cc in
@@ -85,8 +88,8 @@ same_part kind links (Stretch first between last) (Stretch start within end) res
     let other = too.1 in
     let one_long = length-append between (last ∷ []) in
     let other_long = length-append within (end ∷ []) in
-    let split = same_split (first ∷ between ++ last ∷ []) (start ∷ within ++ end ∷ []) rest more (omega (arith, one, other, one_long, other_long))
-    same in
+    let split = same_split (first ∷ between ++ last ∷ []) (start ∷ within ++ end ∷ []) rest more
+    (omega (arith, one, other, one_long, other_long)) same in
     let firsts = split.0 in
     let head : first ≡ start = cc in
     let tail : between ++ last ∷ [] ≡ within ++ end ∷ [] = cc in

@@ -20,7 +20,8 @@ use Rattle.hprof_holders.proofs.SomeSteps.{names_exist}
 use Rattle.hprof_holders.proofs.SomeThreads.{threads_exist}
 use Rattle.hprof_why.specs.Folding.{Link}
 use Rattle.hprof_why.specs.Paths.{IsOtherwise}
-use Rattle.hprof_why.specs.WhyText.{AreLinks, ArePathFindings, IsFoundText, IsReachedBy, IsReachedText, IsToldPath, IsWhyText, NoLink, OneLink, PathFindings}
+use Rattle.hprof_why.specs.WhyText.{AreLinks, ArePathFindings, IsFoundText, IsReachedBy, IsReachedText, IsToldPath, IsWhyText, NoLink}
+use Rattle.hprof_why.specs.WhyText.{OneLink, PathFindings}
 use Rattle.hprof_why.proofs.SomeLinks.{told_exists}
 
 -- ---- the same edges in other words
@@ -48,7 +49,8 @@ module _ (P Q : Edge → Type 0) (ids : IdSize) (facts : List FactValue) (found 
     is = told.is;
   }
 
-  pub reached_as : (id distance : ℕ) (nodes text : List ℕ) → IsDistanceBy P ids facts id (Some distance) → IsPathBy P ids facts id (Some nodes)
+  pub reached_as : (id distance : ℕ) (nodes text : List ℕ) → IsDistanceBy P ids facts id (Some distance)
+      → IsPathBy P ids facts id (Some nodes)
       → IsToldPath P ids facts found distance nodes text → IsReachedBy Q ids facts found id text
   reached_as id distance nodes text is_distance is_path told = record {
     distance = distance;
@@ -70,8 +72,10 @@ module _ (ids : IdSize) (facts : List FactValue) (agree : IsConsistent facts) wh
   found_exist =
       let nodes = findings_exist ids facts agree in
       let threads = threads_exist facts agree nodes.0.naming in
-      let edges = names_exist ids facts agree in
-      (record { nodes = nodes.0; threads = threads.0; edges = edges.0 }, record { are_nodes = nodes.1; are_threads = threads.1; are_edges = edges.1 })
+      let edges = names_exist ids facts agree in (
+        record { nodes = nodes.0; threads = threads.0; edges = edges.0 },
+        record { are_nodes = nodes.1; are_threads = threads.1; are_edges = edges.1 },
+      )
 
   module _ (found : PathFindings) (id : ℕ) where
     -- an identifier is reached or it is not

@@ -43,7 +43,7 @@ module _ (P : Edge → Type 0) (ids : IdSize) (facts : List FactValue) (found : 
           is = refl;
         },
         told.is
-            ∙ five (distance_line distance) (roots_text found.nodes found.threads told.roots) (node_text found.nodes told.first) (codes "\n")
-            (flat_map part_text told.parts)
+            ∙ five (distance_line distance) (roots_text found.nodes found.threads told.roots) (node_text found.nodes told.first)
+            (codes "\n") (flat_map part_text told.parts)
             ∙ (λ i. pieces_text (same i) (head i) (flat_map part_text told.parts)),
       )

@@ -76,7 +76,8 @@ module _ (P : Edge → Type 0) (ids : IdSize) (facts : List FactValue) (found : 
 module _ (view : HeapView) (left_out : LeftOut) where
   abbrev pub IsPartsTextOf : PathFindings → ℕ → (nodes text : List ℕ) → Type 0
   IsPartsTextOf found from nodes text =
-      IsPartsText (IsKept (fields_in left_out) (facts_of view.heap.now)) (size_of view.heap.now) (facts_of view.heap.now) found from nodes text
+      IsPartsText (IsKept (fields_in left_out) (facts_of view.heap.now)) (size_of view.heap.now) (facts_of view.heap.now) found from nodes
+      text
 
   abbrev pub IsGoneOf : PathFindings → ℕ → Edge → List Link → Run → Type 0
   IsGoneOf found before edge links run =
@@ -89,8 +90,8 @@ module _ (view : HeapView) (left_out : LeftOut) where
 
   abbrev pub IsStepOf : PathFindings → ℕ → Edge → List Link → Place → Type 0
   IsStepOf found before edge links place =
-      IsStepTo (IsKept (fields_in left_out) (facts_of view.heap.now)) (size_of view.heap.now) (facts_of view.heap.now) found before edge links
-      place.node place.rest.now
+      IsStepTo (IsKept (fields_in left_out) (facts_of view.heap.now)) (size_of view.heap.now) (facts_of view.heap.now) found before edge
+      links place.node place.rest.now
 
   -- so many links at the front are alike, and if there are any, they were gone along
   abbrev pub IsFoundRun : PathFindings → ℕ → Edge → List Link → Run → Type 0

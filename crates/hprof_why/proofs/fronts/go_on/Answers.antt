@@ -15,7 +15,8 @@ returns-then-not-is_alike-clause-run c = λ found edge links are is start.
     let gone = c.loop-to.invariant.gone found edge links are is start in (
       gone,
       gone_apart P ids facts found c.args.before edge links run.count run.behind.node c.in-Some.to.now c.in-Some.after.now
-          (subst (λ (l : List ℕ). IsGone P ids facts found c.args.before edge links run.count run.behind.node l) c.in-Some.ensures.cases.0 gone)
+          (subst (λ (l : List ℕ). IsGone P ids facts found c.args.before edge links run.count run.behind.node l)
+          c.in-Some.ensures.cases.0 gone)
           (λ next least. sym c.if-not-is_alike.true ∙ c.in_ok-is_alike.ensures.alike found edge next are is least),
     )
 

@@ -9,7 +9,8 @@ use Rattle.hprof_why.proofs.fronts.go_on.Given as goal
 
 abbrev pub invariant-loop-to : goal.invariant-loop-to
 invariant-loop-to l = record {
-  gone : (found : PathFindings) (edge : Edge) (links : List Link) → ArePathFindings (size_of l.view.heap.now) (facts_of l.view.heap.now) found
+  gone : (found : PathFindings) (edge : Edge) (links : List Link)
+      → ArePathFindings (size_of l.view.heap.now) (facts_of l.view.heap.now) found
       → l.first ≡ step_by found.edges edge → IsGoneOf l.view l.left_out found l.before edge links l.start
       → IsGoneOf l.view l.left_out found l.before edge links l.run;
   counted : l.run.count + length l.run.behind.rest.now ≡ l.start.count + length l.start.behind.rest.now;

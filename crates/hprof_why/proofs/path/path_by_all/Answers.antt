@@ -11,7 +11,8 @@ returns-in-Some-clause-path c =
     let ids = size_of c.args.heap.now in
     let facts = facts_of c.args.heap.now in
     of_text _ _ c.path_to.result
-    (λ path is. is [] ids facts (reach_kept ids facts c.in-Some.reach (subst (λ all. IfSome all (IsReach ids facts)) c.in-Some.is c.requires)))
+    (λ path is. is [] ids facts
+    (reach_kept ids facts c.in-Some.reach (subst (λ all. IfSome all (IsReach ids facts)) c.in-Some.is c.requires)))
     c.path_to.ensures
 
 pub returns-clause-path : goal.returns-clause-path

@@ -19,7 +19,8 @@ use Rattle.hprof_why.proofs.why_report.write_otherwise.Goals as goal
 pub returns-in_err-found-clause-bytes : goal.returns-in_err-found-clause-bytes
 returns-in_err-found-clause-bytes g c = λ found are.
     let p = err_from_is_err_and c.from_residual.result c.from_residual.ensures.1 in
-    let some = otherwise_exists (size_of c.args.view.heap.now) (facts_of c.args.view.heap.now) c.holds_of_heap.ensures.agree found c.args.id in
+    let some = otherwise_exists (size_of c.args.view.heap.now) (facts_of c.args.view.heap.now) c.holds_of_heap.ensures.agree found
+    c.args.id in
     (some.0, some.1, text_unwritten c.from_residual.result (g.W.Target.written c.args.target.now) p.0 some.0 p.1)
 
 pub returns-in_err-write_str-in-Some-clause-bytes : goal.returns-in_err-write_str-in-Some-clause-bytes
@@ -54,8 +55,8 @@ returns-in_ok-write_str-in-Some-clause-bytes g c = λ found are.
     let kept = IsKept [] facts in
     let is = subst (IsPathTo kept ids facts id) c.in-Some.is c.in_ok-found.ensures.path in
     let told = told_exists kept ids facts agree (kept_decided ids facts agree []) found id path.distance path.nodes.items is.1 in
-    let told_so = subst (λ (fields : List FieldPlace). IsToldPath (IsKept fields facts) ids facts found path.distance path.nodes.items told.0)
-    (sym c.none.ensures) told.1 in (
+    let told_so =
+    subst (λ (fields : List FieldPlace). IsToldPath (IsKept fields facts) ids facts found path.distance path.nodes.items told.0) (sym c.none.ensures) told.1 in (
       codes "only by weak references\n" ++ told.0,
       inl (
         told.0,

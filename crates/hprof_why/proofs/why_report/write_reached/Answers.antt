@@ -16,7 +16,8 @@ use Rattle.hprof_why.proofs.why_report.write_reached.Goals as goal
 pub returns-in_err-found-clause-bytes : goal.returns-in_err-found-clause-bytes
 returns-in_err-found-clause-bytes g c = λ found are.
     let p = err_from_is_err_and c.from_residual.result c.from_residual.ensures.1 in
-    let some = reached_exists (size_of c.args.view.heap.now) (facts_of c.args.view.heap.now) c.holds_of_heap.ensures.agree found c.args.id are in
+    let some = reached_exists (size_of c.args.view.heap.now) (facts_of c.args.view.heap.now) c.holds_of_heap.ensures.agree found c.args.id
+    are in
     (some.0, some.1, text_unwritten c.from_residual.result (g.W.Target.written c.args.target.now) p.0 some.0 p.1)
 
 pub returns-in-Some-clause-bytes : goal.returns-in-Some-clause-bytes

@@ -14,5 +14,6 @@ returns-clause-alike c = λ found edge next are is least.
     let same = c.in_ok-is_same.ensures found.nodes are.are_nodes in
     of_text (λ alike. alike ≡ bytes_eq (kind_of_step found edge) (kind_of_step found next))
     (λ alike. alike ≡ is_alike_link found c.args.before edge (link_by found next c.args.to)) c.same_step.result
-    (λ alike e. e ∙ both_alike (kind_of_step found edge) (kind_text found.nodes c.args.before) (link_by found next c.args.to) (sym same ∙ c.if-not-is_same.false))
+    (λ alike e. e ∙ both_alike (kind_of_step found edge) (kind_text found.nodes c.args.before) (link_by found next c.args.to)
+    (sym same ∙ c.if-not-is_same.false))
     (c.same_step.ensures found.nodes.naming found.edges edge next are.are_nodes.is_naming is (some_is _ _ (sym step ∙ told)))
