@@ -309,9 +309,9 @@ def leak_cases(folder, less):
         ("a text of 100,000,000 units, all escaped", lambda: great_text(text), ["text", "1"],
          lambda lines: lines == [f"text {text} " + "\\u00ff" * text]),
         ("a path of 1,000,000 arrays", lambda: chain(million), ["why", f"{million:x}"],
-         ends(f"distance {million - 1}", f"{million:x} \\?", 2 * million + 1)),
+         ends(f"distance {million - 1}", f"{million:x} \\?", 6)),
         ("a path of 200,000 objects, each of another class without fields", lambda: bare_path(bare), ["why", f"{1_000_000 + bare:x}"],
-         ends(f"distance {bare - 1}", f"{1_000_000 + bare:x} \\?", 2 * bare + 1)),
+         ends(f"distance {bare - 1}", f"{1_000_000 + bare:x} \\?", 6)),
     ]
 
 

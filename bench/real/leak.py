@@ -1,6 +1,6 @@
 #!/usr/bin/env python3
-"""Times `classes`, `objects` of the most frequent class, `text` of the largest string and `diff` with itself, beside `check`, and `why` of
-that string beside `path`.
+"""Times `classes`, `threads`, `objects` of the most frequent class, `text` and `show` of the largest string and `diff` with itself, beside
+`check`; `who` of that string beside `refs`, and `why` beside `path`.
 
     bench/real/leak.py [--turns N] [--collector NAME] [--dump FILE] [MEGABYTES]    (5 turns; Serial; 100 megabytes)
 
@@ -30,13 +30,14 @@ def asked_for(dump):
     frequent = max(classes, key=lambda row: int(row[1]))
     strings = next(row for row in classes if row[3:] == ["java/lang/String"])
     string = lines(dump, "objects", strings[2])[0].split()[1]
-    return [["classes"], ["objects", frequent[2]], ["text", string], ["path", string], ["why", string]], frequent
+    of_string = [[word, string] for word in ("text", "show", "refs", "who", "path", "why")]
+    return [["classes"], ["threads"], ["objects", frequent[2]], *of_string], frequent
 
 
 def compare(dump, commands, turns):
     """Prints the fastest time and the peak memory of each command beside the time of another one."""
     size = dump.stat().st_size
-    beside = {"why": ("path", 1), "diff": ("check", 2)}
+    beside = {"who": ("refs", 1), "why": ("path", 1), "diff": ("check", 2)}
     runs = {words[0]: (words, []) for words in [["check"], *commands, ["diff", dump]]}
     for _ in range(turns):
         for words, found in runs.values():

@@ -107,6 +107,7 @@ def main():
     timed(viewer, "class with objects, the first visit", [f"class/{id}" for id in sorted(set(held))])
     timed(viewer, "class with objects", [f"class/{id}" for id in held])
     timed(viewer, "class", [f"class/{id}" for id in classes])
+    timed(viewer, "threads", ["threads"] * 100)
     for name in ("object", "refs", "why"):
         timed(viewer, f"{name}, the first", [f"{name}/{objects[0]}"])
         timed(viewer, name, [f"{name}/{id}" for id in objects])

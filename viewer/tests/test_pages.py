@@ -39,20 +39,20 @@ class Sample(unittest.TestCase):
     def test_overview(self):
         page = self.viewer.page("")
         self.assertEqual((page.title, page.heading), (f"Overview \u00b7 friday.hprof, {time_of(FRIDAY)}", "Overview"))
-        self.assertIn("1,403 bytes in 82 objects of 7 classes and types.", page.text)
+        self.assertIn("1,949 bytes in 116 objects of 9 classes and types.", page.text)
         self.assertEqual(page.rows[:3], [
             ["Class or type", "Bytes", "Share", "Objects", "Identifier"],
-            ["byte[]", "466", "33.2 %", "29", ""],
-            ["shop.Session", "288", "20.5 %", "9", "7400003a0"],
+            ["byte[]", "605", "31.0 %", "40", ""],
+            ["java.lang.String", "406", "20.8 %", "29", "740000070"],
         ])
         self.assertEqual(len([row for row in page.rows if row[0] in ("java.lang.Thread", "shop.Session")]), 2)
-        self.assertEqual(page.rows[-1], ["0", "friday.hprof", "1.0.2", "2026-11-27 08:00:00 UTC", "8", "49", "145", "yes"])
-        self.assertIn("objects82bad names0", page.text)
+        self.assertEqual(page.rows[-1], ["0", "friday.hprof", "1.0.2", "2026-11-27 08:00:00 UTC", "8", "72", "209", "yes"])
+        self.assertIn("objects116bad names0", page.text)
 
     def test_filter(self):
         page = self.viewer.page("?filter=shop.s*ion")
         self.assertEqual([row[0] for row in page.rows[1:2]], ["shop.Session"])
-        self.assertIn("1 of 7", page.text)
+        self.assertIn("1 of 9", page.text)
         self.assertIn("No class or type has such a name.", self.viewer.page("?filter=nope").text)
 
     def test_class(self):
@@ -63,7 +63,7 @@ class Sample(unittest.TestCase):
         self.assertEqual(above[:2], ["class/740000150", "class/740000000"])
         self.assertIn("2 own fields", page.text)
         self.assertEqual(page.rows[1:3], [["elementData", "object"], ["size", "int"]])
-        self.assertIn("11 objects by size", page.text)
+        self.assertIn("13 objects by size", page.text)
         self.assertIn(["7400004d8", "16"], page.rows)
 
     def test_statics_and_loader(self):
@@ -76,15 +76,15 @@ class Sample(unittest.TestCase):
 
     def test_subclasses(self):
         page = self.viewer.page("class/740000000")
-        self.assertIn("7 subclasses", page.text)
-        self.assertIn(["java.lang.String", "280", "20"], page.rows)
+        self.assertIn("10 subclasses", page.text)
+        self.assertIn(["java.lang.String", "406", "29"], page.rows)
         self.assertNotIn("java.util.ArrayList", page.text)
         self.assertIn("none (the bootstrap loader)", page.text)
 
     def test_strings_of_a_class(self):
         page = self.viewer.page("class/740000070")
         self.assertIn(["7400007f0", "14", "cyd"], page.rows)
-        self.assertEqual(sum(len(row) == 3 and row[1] == "14" for row in page.rows), 20)
+        self.assertEqual(sum(len(row) == 3 and row[1] == "14" for row in page.rows), 29)
 
     def test_instance(self):
         page = self.viewer.page("object/740000850")
@@ -119,7 +119,7 @@ class Sample(unittest.TestCase):
     def test_type(self):
         page = self.viewer.page("type/byte")
         self.assertEqual(page.heading, "byte[]")
-        self.assertIn("29 arrays by size", page.text)
+        self.assertIn("40 arrays by size", page.text)
         self.assertEqual(page.rows[1], ["7400005a0", "45"])
         self.assertIn("0 arrays by sizeNone.", self.viewer.page("type/double").text)
 
@@ -174,15 +174,20 @@ class Search(unittest.TestCase):
         self.leads_to("&label=", "")
 
     def test_names(self):
-        rows = [["shop.Session", "288", "9", "7400003a0"], ["shop.Server", "0", "0", "740000410"]]
+        rows = [
+            ["shop.Session", "352", "11", "7400003a0"],
+            ["shop.Mail", "144", "6", "740000fa8"],
+            ["shop.Server", "0", "0", "740000410"],
+            ["shop.Mailer", "0", "0", "740001018"],
+        ]
         self.assertEqual(self.viewer.page("find?q=SHOP").rows[1:], rows)
         self.assertEqual(self.viewer.page("find?q=java.util.abstract").rows[1:], [["java.util.AbstractList", "0", "0", "740000150"]])
-        self.assertEqual(self.viewer.page("find?q=byte").rows[1:], [["byte[]", "466", "29", ""]])
+        self.assertEqual(self.viewer.page("find?q=byte").rows[1:], [["byte[]", "605", "40", ""]])
         for word in ("object[]", "java.lang.O*t[]", "[Ljava/lang/Object;", "*ect[]"):
             self.assertEqual([row[0] for row in self.viewer.page("find?q=" + word).rows[1:]], ["java.lang.Object[]"], word)
         self.assertEqual([row[0] for row in self.viewer.page("find?q=java.*.string").rows[1:]], ["java.lang.String"])
         self.assertIn("0 classes and types with face in the name.", self.viewer.page("find?q=face").text)
-        self.assertIn("8 classes and types with a in the name.", self.viewer.page("find?q=a").text)
+        self.assertIn("12 classes and types with a in the name.", self.viewer.page("find?q=a").text)
 
     def test_a_word_that_is_a_part_of_every_line(self):
         self.assertEqual(len(self.viewer.page("find?q=super").rows), 0)
@@ -211,7 +216,7 @@ class TwoParts(unittest.TestCase):
         with Viewer(FRIDAY, FRIDAY) as viewer:
             page = viewer.page("")
             self.assertEqual([row[:2] for row in page.rows[-2:]], [["0", "friday.hprof"], ["1", "friday.hprof"]])
-            self.assertIn("82 objects", page.text)
+            self.assertIn("116 objects", page.text)
 
 
 class Growth(unittest.TestCase):
@@ -226,27 +231,28 @@ class Growth(unittest.TestCase):
         self.assertEqual(page.title, f"What grew \u00b7 monday.hprof, {time_of(MONDAY)} \u2192 friday.hprof, {time_of(FRIDAY)}")
         self.assertEqual(page.rows, [
             ["Class or type", "Bytes", "Less \u00b7 more", "Objects"],
-            ["byte[]", "+306", "", "+18"],
+            ["byte[]", "+330", "", "+22"],
+            ["java.lang.String", "+224", "", "+16"],
             ["shop.Session", "+192", "", "+6"],
-            ["java.lang.String", "+168", "", "+12"],
             ["java.util.ArrayList", "+96", "", "+6"],
+            ["shop.Mail", "+96", "", "+4"],
             ["java.lang.Object[]", "+48", "", "+6"],
         ])
-        self.assertIn("+810 bytes and +48 objects", page.text)
+        self.assertIn("+986 bytes and +60 objects", page.text)
         self.assertIn('<span class="half less"><span class="bar w0"', page.source)
-        self.assertIn('<span class="half more"><span class="bar w63"', page.source)
+        self.assertIn('<span class="half more"><span class="bar w68"', page.source)
 
     def test_names_lead_to_the_newer_dump(self):
         page = self.viewer.page("grew")
         leads = [self.viewer.get(link[len(self.viewer.base) :]) for link in page.links if "find?label" in link]
-        self.assertEqual([one.headers["Location"][len(self.viewer.base) :] for one in leads[:2]], ["type/byte", "class/7400003a0"])
+        self.assertEqual([one.headers["Location"][len(self.viewer.base) :] for one in leads[:2]], ["type/byte", "class/740000070"])
         self.assertIn(self.viewer.base + "grew", self.viewer.page("").links)
         self.assertEqual(self.viewer.page("").rows[-1][:2], ["0", "friday.hprof"])
 
     def test_the_other_way_round(self):
         with Viewer("--diff", FRIDAY, MONDAY) as viewer:
             page = viewer.page("grew")
-            self.assertEqual(page.rows[-1], ["byte[]", "-306", "", "-18"])
+            self.assertEqual(page.rows[-1], ["byte[]", "-330", "", "-22"])
             self.assertIn('<span class="half less"><span class="bar w100"', page.source)
 
     def test_nothing_grew(self):

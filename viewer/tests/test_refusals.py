@@ -19,7 +19,7 @@ from view.site import Site
 
 from .running import FAKE, FRIDAY, MONDAY, ROOT, VIEWER, Viewer
 
-HISTO = "466 29 - byte[]\n" * 100
+HISTO = "605 40 - byte[]\n" * 100
 
 
 class Table(unittest.TestCase):
@@ -75,7 +75,7 @@ class Refused(unittest.TestCase):
     def test_parts(self):
         whole = FRIDAY.read_bytes()
         cases = {
-            "hprof: part 0: malformed at 4982: Truncated": whole[:5000],
+            "hprof: part 0: malformed at 4974: Truncated": whole[:5000],
             "hprof: part 0: malformed at 0: Truncated": b"",
             "hprof: part 0: malformed at 0: BadMagic": b"\x1f\x8b" + whole,
             "hprof: part 0: malformed at 31: BadLength": whole[:31] + b"\x03\0\0\0\0\0\0\0\x09" + bytes(9),
@@ -93,8 +93,8 @@ class Refused(unittest.TestCase):
 
     def test_growth(self):
         cut = self.file("cut", FRIDAY.read_bytes()[:5000])
-        self.refused("hprof: part 1: malformed at 4982: Truncated", "--diff", FRIDAY, cut, path="grew")
-        self.refused("hprof: part 0: malformed at 4982: Truncated", "--diff", cut, FRIDAY, path="")
+        self.refused("hprof: part 1: malformed at 4974: Truncated", "--diff", FRIDAY, cut, path="grew")
+        self.refused("hprof: part 0: malformed at 4974: Truncated", "--diff", cut, FRIDAY, path="")
 
     def test_memory(self):
         self.refused("hprof: part 0: out of memory", self.script(refusal="hprof: part 0: out of memory"), program=FAKE)
@@ -245,5 +245,5 @@ class Words(unittest.TestCase):
             with subprocess.Popen(["cat", FRIDAY], stdout=subprocess.PIPE) as cat:
                 named, options = opened(cat.stdout.fileno())
                 with Viewer(*named, **options) as viewer:
-                    self.assertIn("82 objects", viewer.page("").text)
+                    self.assertIn("116 objects", viewer.page("").text)
                     self.assertEqual(viewer.page("object/740000850").heading, "shop.Session")

@@ -1,14 +1,13 @@
 """Why an object is alive: the lines of `why ID`, told by a script."""
 
 import json
-import subprocess
 import tempfile
 import unittest
 from pathlib import Path
 
-from .running import FAKE, FRIDAY, Viewer, hprof
+from .running import FAKE, FRIDAY, Viewer
 
-HELP = "help\ncheck\nhisto\nclasses\nobject ID\nrefs ID\npath ID\ntext ID\nwhy ID\nobjects KIND\n"
+HELP = "help\ncheck\nhisto\nclasses\nthreads\nobjects KIND\nwhy ID\ntext ID\nobject ID\nrefs ID\npath ID\n"
 BASKET = "distance 2\nroot sticky class\nff5bfc40 class Basket\n  static 0 last\nff5dbc58 Basket\n  field 2 next\nff5dbc08 Basket\n"
 ROOTS = [
     "JNI global 7f0070000008", "JNI local thread 1 no frame", "JNI local thread 1 frame 3", "Java frame thread 2 frame 0",
@@ -16,6 +15,27 @@ ROOTS = [
     "thread object thread 4294967295 trace 4294967295", "unknown",
 ]
 LONG = "distance 249\nroot unknown\n" + "  field 0 next\n".join(f"{0x1000 + place:x} Node\n" for place in range(250))
+MAILED = """\
+distance 6
+root Java frame thread 2 frame 1
+  1f java/lang/Thread "mailer" at shop.Mailer.run(Mailer.java:31)
+root JNI local thread 0 no frame
+2a shop/Mail
+  field 0 next
+.. 4 more
+2f shop/Mail
+  field 1 session
+c1 shop/Session
+"""
+WEAKLY = """\
+only by weak references
+distance 1
+root Java frame thread 1 frame 1
+  at shop.Server.main(Server.java:17)
+3a java/lang/ref/WeakReference
+  weak field 0 referent
+c2 shop/Session
+"""
 FRAMES = "".join(f"root Java frame thread 1 frame {place}\n" for place in range(150))
 ANSWERS = {
     "help": HELP,
@@ -27,6 +47,13 @@ ANSWERS = {
     "why b": f"distance 1\n{FRAMES}c class <b>\n  super 0\nb class \n",
     "object 10f9": "instance 10f9 class 1 bytes 0 Node\n",
     "why 10f9": LONG,
+    "object c1": "instance c1 class 1 bytes 0 shop/Session\n",
+    "why c1": MAILED,
+    "object c2": "instance c2 class 1 bytes 0 shop/Session\n",
+    "why c2": WEAKLY,
+    **{f"object {0x2a + place:x}": f"instance {0x2a + place:x} class 7 bytes 8 shop/Mail\nfield 0 7 object {0x2b + place:08x} next\n"
+       for place in range(5)},
+    "object 2f": "instance 2f class 7 bytes 8 shop/Mail\nfield 0 7 object 00000000 next\n",
     "object d": "instance d class 1 bytes 0 Node\n",
     "why d": "not reached\n",
     "object e": "nothing at e\n",
@@ -75,6 +102,28 @@ class Why(unittest.TestCase):
         self.assertIn('start="200"', page.source)
         self.assertEqual(self.viewer.page("why/10f9?page=4", 404).heading, "No such page")
 
+    def test_a_thread_and_a_folded_stretch(self):
+        page = self.viewer.page("why/c1")
+        thread = ": 1f java/lang/Thread \"mailer\" at shop.Mailer.run(Mailer.java:31)"
+        self.assertIn(f"root: Java frame thread 2 frame 1{thread}root: JNI local thread 0 no frameshop.Mail 2a", page.text)
+        self.assertIn("field next \u2192 4 more \u2192 shop.Mail 2ffield session \u2192 shop.Session c1", page.text)
+        self.assertIn(self.viewer.base + "threads?serial=2", page.links)
+        along = self.viewer.base + "along/2a?field=0&count=4"
+        self.assertIn(along, page.links)
+        opened = self.viewer.page(along[len(self.viewer.base) :])
+        self.assertIn("the field next leads to:2b shop.Mail2c shop.Mail2d shop.Mail2e shop.Mail4 objects from here", opened.text)
+        self.assertEqual(page.faults + opened.faults, [])
+
+    def test_along_what_is_no_list(self):
+        self.assertEqual(self.viewer.page("along/a?field=0&count=4", 404).heading, "No such page")
+        self.assertEqual(self.viewer.page("along/2a?field=x&count=4", 404).heading, "No such page")
+
+    def test_weak_references_alone(self):
+        page = self.viewer.page("why/c2")
+        self.assertIn("Only weak references lead to it: they do not keep it alive.1 reference leads to it", page.text)
+        self.assertIn("root: Java frame thread 1 frame 1: at shop.Server.main(Server.java:17)", page.text)
+        self.assertIn("weak field referent \u2192 shop.Session c2", page.text)
+
     def test_no_path(self):
         self.assertIn("No GC root leads to it", self.viewer.page("why/d").text)
         self.assertIn("neither a class nor an object", self.viewer.page("why/e", 404).text)
@@ -85,19 +134,15 @@ class Why(unittest.TestCase):
         self.assertEqual(page.faults, [])
 
 
-def can_be_asked():
-    """The questions that the built program knows."""
-    return subprocess.run([hprof(), "ask", FRIDAY], input=b"help\n", stdout=subprocess.PIPE).stdout.decode().splitlines()
-
-
 class OfTheSample(unittest.TestCase):
     def test_the_program(self):
-        """The path of a session, if the program tells it; a program that does not know the question is told apart."""
+        """The path of a session that is open, of one that is closed and waits in a queue, and of one to which a weak reference leads."""
         with Viewer(FRIDAY) as viewer:
             page = viewer.page("why/740000850")
-            if "why ID" not in can_be_asked():
-                return self.assertIn("This hprof cannot tell it: it has no question why ID.", page.text)
             self.assertIn("root: JNI global 7f0070000008", page.text)
             self.assertIn("class shop.Server 740000410static field SESSIONS \u2192 java.util.ArrayList 740000e58", page.text)
             self.assertIn("element 2 \u2192 shop.Session 740000850", page.text)
-            self.assertIn("No GC root leads to it", viewer.page("why/740000f20").text)
+            page = viewer.page("why/740000f20")
+            self.assertIn("at shop.Mailer.run(Mailer.java:31)", page.text)
+            self.assertIn("4 more \u2192 shop.Mail", page.text)
+            self.assertIn("field session \u2192 shop.Session 740000f20", page.text)

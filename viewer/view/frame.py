@@ -76,7 +76,8 @@ class Frame:
 
     def header(self, word=""):
         grew = [link(self.at("grew"), "What grew")] if self.compares else []
-        return element("header", *grew, link(self.at(""), "Overview"), self.files(), self.search(word))
+        ways = link(self.at(""), "Overview"), link(self.at("threads"), "Threads")
+        return element("header", *grew, *ways, self.files(), self.search(word))
 
     def files(self):
         """The names and the times of the files; of many parts the first, and how many more there are."""

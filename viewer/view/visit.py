@@ -2,7 +2,7 @@
 
 import re
 
-NUMBER = re.compile(r"[1-9][0-9]{0,11}")
+NUMBER = re.compile(r"0|[1-9][0-9]{0,11}")
 
 
 class Missing(Exception):
@@ -16,10 +16,10 @@ class Visit:
         self.heap = heap
         self.growth = growth
 
-    def number(self, name="page"):
-        """The number of a page; 1 where the address has none."""
+    def number(self, name="page", least=1):
+        """The number of a page; 1 where the address has none. Lesser numbers than `least` are those of no page."""
         word = self.words.get(name, "1")
-        if not NUMBER.fullmatch(word):
+        if not NUMBER.fullmatch(word) or int(word) < least:
             raise Missing
         return int(word)
 

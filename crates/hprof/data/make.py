@@ -3,7 +3,8 @@
 
 They are dumps of one made-up server, `shop.Server`, as a JDK 17 writes them: names and loads first, then frames and traces, then segments of
 class dumps, objects and roots. The server forgets to close its sessions, so Friday's dump has more of them. Identifiers have eight bytes, and
-are others on Friday.
+are others on Friday. A thread sends mails, which it keeps in a queue: one of them holds a session that was closed. Of another closed session a
+frame has a weak reference, and a third is garbage.
 """
 
 import struct
@@ -92,10 +93,10 @@ class Dump:
         value = self.numbers(BYTE, len(text), text.encode("latin-1"))
         return self.instance("java/lang/String", value, 0, 0, 0)
 
-    def frame(self, method, signature, name, line):
+    def frame(self, method, signature, name, line, source="Server.java"):
         this = 0x7F00_6000_0000 + 8 * (1 + sum(1 for one in self.records["stacks"] if one[0] == 0x04))
         serial = list(self.classes).index(name) + 1
-        source = self.name("Server.java")
+        source = self.name(source)
         self.record("stacks", 0x04, struct.pack(">QQQQIi", this, self.name(method), self.name(signature), source, serial, line))
         return this
 
@@ -156,7 +157,33 @@ def session(dump, user, items, opened):
     return dump.instance("shop/Session", dump.text(user), cart, dump.numbers(BYTE, len(page), page), opened)
 
 
-def make(path, millis, first, sessions):
+def mailer(dump, count, closed):
+    """The thread that sends mails, and its queue of so many; the last one holds the closed session."""
+    dump.class_dump("shop/Mail", "java/lang/Object", [("next", OBJECT), ("session", OBJECT), ("subject", OBJECT)])
+    dump.class_dump("shop/Mailer", "java/lang/Object")
+    mail = dump.instance("shop/Mail", NONE, closed, dump.text("Bye kim"))
+    for number in range(count - 1, 0, -1):
+        mail = dump.instance("shop/Mail", mail, NONE, dump.text(f"News {number}"))
+    thread = dump.instance("java/lang/Thread", dump.text("mailer"), 1)
+    frames = [
+        dump.frame("sleep", "(J)V", "java/lang/Thread", -3, "Thread.java"),
+        dump.frame("run", "()V", "shop/Mailer", 31, "Mailer.java"),
+        dump.frame("run", "()V", "java/lang/Thread", 840, "Thread.java"),
+    ]
+    dump.trace(3, 2, frames)
+    dump.root(0x08, thread, 2, 3)
+    dump.root(0x03, mail, 2, 1)
+
+
+def weakly(dump, held):
+    """A weak reference, with the fields that a JDK 17 gives it."""
+    fields = [("referent", OBJECT), ("queue", OBJECT), ("next", OBJECT), ("discovered", OBJECT)]
+    dump.class_dump("java/lang/ref/Reference", "java/lang/Object", fields)
+    dump.class_dump("java/lang/ref/WeakReference", "java/lang/ref/Reference")
+    return dump.instance("java/lang/ref/WeakReference", held, NONE, NONE, NONE)
+
+
+def make(path, millis, first, sessions, mails):
     dump = Dump(millis, first)
     library(dump)
     loader = server(dump)
@@ -174,12 +201,14 @@ def make(path, millis, first, sessions):
     dump.root(0x07, thread)
     for name in ("java/lang/Object", "java/lang/String", "java/lang/Thread", "java/util/ArrayList"):
         dump.root(0x05, dump.classes[name]["id"])
-    assert closed
+    mailer(dump, mails, closed)
+    dump.root(0x03, weakly(dump, session(dump, "lou", [], millis - 5_400_000)), 1, 1)
+    assert session(dump, "max", [], millis - 7_200_000)
     dump.write(path)
 
 
 MONDAY = [("ada", ["tea"]), ("bob", ["ink", "pen"])]
 FRIDAY = [*MONDAY, ("cyd", ["cup"]), ("dan", ["jam"]), ("eve", ["tea", "cup"]), ("fay", []), ("gil", ["pen"]), ("hal", ["ink"])]
 
-make(HERE / "monday.hprof", 1_795_420_800_000, 0x7_1000_0000, MONDAY)
-make(HERE / "friday.hprof", 1_795_766_400_000, 0x7_4000_0000, FRIDAY)
+make(HERE / "monday.hprof", 1_795_420_800_000, 0x7_1000_0000, MONDAY, 2)
+make(HERE / "friday.hprof", 1_795_766_400_000, 0x7_4000_0000, FRIDAY, 6)

@@ -11,6 +11,7 @@ use Rattle.hprof_engine.specs.declared.product.WriteStop.TheVariants as stops
 use Rattle.hprof_engine.specs.Makes.{EndsWriting}
 use Rattle.hprof_reports.specs.Check.{IsCheck}
 use Rattle.hprof_reports.specs.Stopping.{LeavesTarget, WritesText}
+use Rattle.hprof_ask.specs.declared.report.HeapReport.TheVariants as heaps
 use Rattle.hprof_ask.specs.declared.report.Report.{Report}
 use Rattle.hprof_ask.specs.declared.report.Report.TheVariants as reports
 use Rattle.hprof_ask.specs.Report.{IsReport}
@@ -31,13 +32,6 @@ text_ends written well IsText memory before after (Err stops.TooLong) text is fr
 pub of_kept : (report : Report) (kept : Vec PartSummary Global) (held summaries : List PartSummary) (ids : IdSize) (facts : List FactValue)
     (text : List ℕ) → held ≡ kept.items → Holds report kept summaries → IsReport held ids facts report text
     → IsReport summaries ids facts report text
-of_kept reports.Check kept held summaries ids facts text same holds is =
+of_kept (reports.Heap heaps.Check) kept held summaries ids facts text same holds is =
     subst (λ (those : List PartSummary). IsCheck those facts text) (same ∙ holds) is
-of_kept reports.Histogram kept held summaries ids facts text same holds is = is
-of_kept reports.Classes kept held summaries ids facts text same holds is = is
-of_kept (reports.Objects kind) kept held summaries ids facts text same holds is = is
-of_kept (reports.Object id) kept held summaries ids facts text same holds is = is
-of_kept (reports.Refs id) kept held summaries ids facts text same holds is = is
-of_kept (reports.Path id) kept held summaries ids facts text same holds is = is
-of_kept (reports.Text id) kept held summaries ids facts text same holds is = is
-of_kept (reports.Why id) kept held summaries ids facts text same holds is = is
+of_kept other kept held summaries ids facts text same holds is = is

@@ -1,6 +1,6 @@
 -- A line asks one thing.
-use Rattle.std.proofs.Common.{◌≡◌, ◌⊎◌, ℕ, ◌<◌, ◌==◌, ◌||◌, Bool, true, false, List, [], ◌∷◌, ◌++◌, refl, sym, ap, subst, ◌∙◌, inl, inr, get_or, arith, codes}
-use Rattle.std.specs.Prelude.{if◌then◌else◌}
+use Rattle.std.proofs.Common.{◌≡◌, ◌⊎◌, ℕ, ◌<◌, ◌==◌, ◌||◌, Bool, true, false, List, [], ◌∷◌, ◌++◌, refl, sym, ap, subst, ◌∙◌, inl, inr, get_or, arith, codes, append_assoc}
+use Rattle.std.specs.Prelude.{if◌then◌else◌, bytes_eq}
 use Rattle.std.specs.Char.{digit_value}
 use Rattle.std.specs.Str.Parse.{AllDigits}
 use Rattle.std.proofs.lemmas.Bool.Decides.{nat_tests}
@@ -12,6 +12,7 @@ use Rattle.hprof_histogram.specs.declared.row.Kind.{Kind}
 use Rattle.hprof_histogram.specs.declared.row.Kind.TheVariants as kinds
 use Rattle.hprof_ask.specs.declared.report.Report.{Report}
 use Rattle.hprof_ask.specs.declared.report.Report.TheVariants as reports
+use Rattle.hprof_ask.specs.declared.report_word.Follows.{Follows}
 use Rattle.hprof_ask.specs.declared.report_word.Follows.TheVariants as follow
 use Rattle.hprof_ask.specs.declared.report_word.ReportWord.{ReportWord}
 use Rattle.hprof_ask.specs.declared.report_word.ReportWord.TheVariants as words
@@ -20,72 +21,123 @@ use Rattle.hprof_ask.specs.declared.subject.Misnamed.TheVariants as misnamed
 use Rattle.hprof_ask.specs.declared.question.Question.{Question}
 use Rattle.hprof_ask.specs.declared.question.Question.TheVariants as questions
 use Rattle.hprof_ask.specs.Asked.{Asks, AsksReport, IsFollowed, IsLineOf, IsMisnamed, IsNamed, IsQuestion, NamesId, NamesKind}
-use Rattle.hprof_ask.specs.Words.{follows_of, word_of}
+use Rattle.hprof_ask.specs.Words.{all_words, follows_of, word_of}
+use Rattle.hprof_ask.proofs.WordLists.{of_each}
 
--- ---- which word it is, by some of its bytes
+-- ---- which word it is
 
-abbrev word_by : List ℕ → ReportWord
-word_by line =
-    if get_or line 0 0 == 99 then (if get_or line 1 0 == 104 then words.Check else words.Classes)
-    else (if get_or line 0 0 == 104 then words.Histogram
-    else (if get_or line 0 0 == 114 then words.Refs
-    else (if get_or line 0 0 == 112 then words.Path
-    else (if get_or line 0 0 == 116 then words.Text
-    else (if get_or line 0 0 == 119 then words.Why
-    else (if get_or line 6 0 == 115 then words.Objects else words.Object))))))
+-- the bytes before the first space
+abbrev front_by : Bool → ℕ → List ℕ → List ℕ
+front_by true byte front = []
+front_by false byte front = byte ∷ front
 
--- the line of a word tells it
-tells_word : (word : ReportWord) (line text : List ℕ) → IsLineOf line word text → word_by line ≡ word
-tells_word words.Check line text is = ap word_by is.0
-tells_word words.Histogram line text is = ap word_by is.0
-tells_word words.Classes line text is = ap word_by is.0
-tells_word words.Object line text is = ap word_by is.1
-tells_word words.Refs line text is = ap word_by is.1
-tells_word words.Path line text is = ap word_by is.1
-tells_word words.Text line text is = ap word_by is.1
-tells_word words.Why line text is = ap word_by is.1
-tells_word words.Objects line text is = ap word_by is.1
+abbrev front : List ℕ → List ℕ
+front [] = []
+front (byte ∷ rest) = front_by (byte == 32) byte (front rest)
 
-one_text : (word : ReportWord) (line one other : List ℕ) → IsLineOf line word one → IsLineOf line word other → one ≡ other
-one_text words.Check line one other is is_too = is.1 ∙ sym is_too.1
-one_text words.Histogram line one other is is_too = is.1 ∙ sym is_too.1
-one_text words.Classes line one other is is_too = is.1 ∙ sym is_too.1
-one_text words.Object line one other is is_too = append_cancel_left (codes "object ") one other (sym is.1 ∙ is_too.1)
-one_text words.Refs line one other is is_too = append_cancel_left (codes "refs ") one other (sym is.1 ∙ is_too.1)
-one_text words.Path line one other is is_too = append_cancel_left (codes "path ") one other (sym is.1 ∙ is_too.1)
-one_text words.Text line one other is is_too = append_cancel_left (codes "text ") one other (sym is.1 ∙ is_too.1)
-one_text words.Why line one other is is_too = append_cancel_left (codes "why ") one other (sym is.1 ∙ is_too.1)
-one_text words.Objects line one other is is_too = append_cancel_left (codes "objects ") one other (sym is.1 ∙ is_too.1)
+abbrev has_space : List ℕ → Bool
+has_space [] = false
+has_space (byte ∷ rest) = (byte == 32) || has_space rest
+
+front_alone : (word : List ℕ) → has_space word ≡ false → front word ≡ word
+front_alone [] none = refl
+front_alone (byte ∷ word) none = by (byte == 32) none (front_alone word) where
+  by : (test : Bool) → (test || has_space word) ≡ false → (has_space word ≡ false → front word ≡ word)
+      → front_by test byte (front word) ≡ byte ∷ word
+  by true none rest = absurd cc
+  by false none rest = ap (λ (l : List ℕ). byte ∷ l) (rest none)
+
+front_behind : (word text : List ℕ) → has_space word ≡ false → front (word ++ 32 ∷ text) ≡ word
+front_behind [] text none = refl
+front_behind (byte ∷ word) text none = by (byte == 32) none (front_behind word text) where
+  by : (test : Bool) → (test || has_space word) ≡ false → (has_space word ≡ false → front (word ++ 32 ∷ text) ≡ word)
+      → front_by test byte (front (word ++ 32 ∷ text)) ≡ byte ∷ word
+  by true none rest = absurd cc
+  by false none rest = ap (λ (l : List ℕ). byte ∷ l) (rest none)
+
+front_of : (follows : Follows) (line word text : List ℕ) → has_space word ≡ false → IsFollowed follows line word text → front line ≡ word
+front_of follow.Nothing line word text none is = ap front is.0 ∙ front_alone word none
+front_of follow.Identifier line word text none is = ap front is.1 ∙ front_behind word text none
+front_of follow.ClassOrType line word text none is = ap front is.1 ∙ front_behind word text none
+
+-- the first report of the list with that word
+abbrev word_by : List ReportWord → List ℕ → ReportWord
+word_by [] text = words.Objects
+word_by (word ∷ rest) text = if bytes_eq (word_of word) text then word else word_by rest text
+
+-- words have no space, differ from each other, and are not `help`
+abbrev Differs : ReportWord → Type 0
+Differs word = (has_space (word_of word) ≡ false) × (word_by all_words (word_of word) ≡ word) × (bytes_eq (word_of word) (codes "help") ≡ false)
+    × (bytes_eq (word_of word) [] ≡ false)
+
+differs : (word : ReportWord) → Differs word
+differs = of_each Differs (
+  (refl, refl, refl, refl),
+  (
+    (refl, refl, refl, refl),
+    (
+      (refl, refl, refl, refl),
+      (
+        (refl, refl, refl, refl),
+        (
+          (refl, refl, refl, refl),
+          (
+            (refl, refl, refl, refl),
+            (
+              (refl, refl, refl, refl),
+              (
+                (refl, refl, refl, refl),
+                (
+                  (refl, refl, refl, refl),
+                  ((refl, refl, refl, refl), ((refl, refl, refl, refl), ((refl, refl, refl, refl), tt))),
+                ),
+              ),
+            ),
+          ),
+        ),
+      ),
+    ),
+  ),
+)
+
+-- the line of a word begins with it
+line_front : (word : ReportWord) (line text : List ℕ) → IsLineOf line word text → front line ≡ word_of word
+line_front word line text is = front_of (follows_of word) line (word_of word) text (differs word).0 is
+
+behind : (line word one other : List ℕ) → line ≡ word ++ 32 ∷ one → line ≡ word ++ 32 ∷ other → one ≡ other
+behind line word one other is is_too =
+    append_cancel_left (word ++ 32 ∷ []) one other (append_assoc word (32 ∷ []) one ∙ sym is ∙ is_too ∙ sym (append_assoc word (32 ∷ []) other))
+
+one_text : (follows : Follows) (line word one other : List ℕ) → IsFollowed follows line word one → IsFollowed follows line word other
+    → one ≡ other
+one_text follow.Nothing line word one other is is_too = is.1 ∙ sym is_too.1
+one_text follow.Identifier line word one other is is_too = behind line word one other is.1 is_too.1
+one_text follow.ClassOrType line word one other is is_too = behind line word one other is.1 is_too.1
 
 -- a line is that of one word, with one text behind it
 one_line : (line : List ℕ) (word word_too : ReportWord) (text text_too : List ℕ) → IsLineOf line word text → IsLineOf line word_too text_too
     → (word ≡ word_too) × (text ≡ text_too)
 one_line line word word_too text text_too is is_too =
-    let same = sym (tells_word word line text is) ∙ tells_word word_too line text_too is_too in
-    (same, one_text word_too line text text_too (subst (λ (w : ReportWord). IsLineOf line w text) same is) is_too)
+    let fronts = sym (line_front word line text is) ∙ line_front word_too line text_too is_too in
+    let same = sym (differs word).1 ∙ ap (word_by all_words) fronts ∙ (differs word_too).1 in (
+      same,
+      one_text (follows_of word_too) line (word_of word_too) text text_too
+          (subst (λ (w : ReportWord). IsLineOf line w text) same is) is_too,
+    )
 
 -- the line of a word has some bytes, and is not `help`
-some_bytes : (word : ReportWord) (line text : List ℕ) → IsLineOf line word text → get_or line 0 0 ≡ 0 → ⊥
-some_bytes words.Check line text is none = let no : 99 ≡ 0 = sym (ap (λ (l : List ℕ). get_or l 0 0) is.0) ∙ none in absurd (omega (arith, no))
-some_bytes words.Histogram line text is none = let no : 104 ≡ 0 = sym (ap (λ (l : List ℕ). get_or l 0 0) is.0) ∙ none in absurd (omega (arith, no))
-some_bytes words.Classes line text is none = let no : 99 ≡ 0 = sym (ap (λ (l : List ℕ). get_or l 0 0) is.0) ∙ none in absurd (omega (arith, no))
-some_bytes words.Object line text is none = let no : 111 ≡ 0 = sym (ap (λ (l : List ℕ). get_or l 0 0) is.1) ∙ none in absurd (omega (arith, no))
-some_bytes words.Refs line text is none = let no : 114 ≡ 0 = sym (ap (λ (l : List ℕ). get_or l 0 0) is.1) ∙ none in absurd (omega (arith, no))
-some_bytes words.Path line text is none = let no : 112 ≡ 0 = sym (ap (λ (l : List ℕ). get_or l 0 0) is.1) ∙ none in absurd (omega (arith, no))
-some_bytes words.Text line text is none = let no : 116 ≡ 0 = sym (ap (λ (l : List ℕ). get_or l 0 0) is.1) ∙ none in absurd (omega (arith, no))
-some_bytes words.Why line text is none = let no : 119 ≡ 0 = sym (ap (λ (l : List ℕ). get_or l 0 0) is.1) ∙ none in absurd (omega (arith, no))
-some_bytes words.Objects line text is none = let no : 111 ≡ 0 = sym (ap (λ (l : List ℕ). get_or l 0 0) is.1) ∙ none in absurd (omega (arith, no))
+some_bytes : (word : ReportWord) (line text : List ℕ) → IsLineOf line word text → line ≡ [] → ⊥
+some_bytes word line text is none =
+    let e : bytes_eq (word_of word) [] ≡ true = ap (λ (l : List ℕ). bytes_eq l []) (sym (line_front word line text is) ∙ ap front none) in
+    let no : true ≡ false = sym e ∙ (differs word).3 in
+    absurd cc
 
-second_byte : (word : ReportWord) (line text : List ℕ) → IsLineOf line word text → get_or line 0 0 ≡ 104 → get_or line 1 0 ≡ 101 → ⊥
-second_byte words.Check line text is h e = let no : 99 ≡ 104 = sym (ap (λ (l : List ℕ). get_or l 0 0) is.0) ∙ h in absurd (omega (arith, no))
-second_byte words.Histogram line text is h e = let no : 105 ≡ 101 = sym (ap (λ (l : List ℕ). get_or l 1 0) is.0) ∙ e in absurd (omega (arith, no))
-second_byte words.Classes line text is h e = let no : 99 ≡ 104 = sym (ap (λ (l : List ℕ). get_or l 0 0) is.0) ∙ h in absurd (omega (arith, no))
-second_byte words.Object line text is h e = let no : 111 ≡ 104 = sym (ap (λ (l : List ℕ). get_or l 0 0) is.1) ∙ h in absurd (omega (arith, no))
-second_byte words.Refs line text is h e = let no : 114 ≡ 104 = sym (ap (λ (l : List ℕ). get_or l 0 0) is.1) ∙ h in absurd (omega (arith, no))
-second_byte words.Path line text is h e = let no : 112 ≡ 104 = sym (ap (λ (l : List ℕ). get_or l 0 0) is.1) ∙ h in absurd (omega (arith, no))
-second_byte words.Text line text is h e = let no : 116 ≡ 104 = sym (ap (λ (l : List ℕ). get_or l 0 0) is.1) ∙ h in absurd (omega (arith, no))
-second_byte words.Why line text is h e = let no : 119 ≡ 104 = sym (ap (λ (l : List ℕ). get_or l 0 0) is.1) ∙ h in absurd (omega (arith, no))
-second_byte words.Objects line text is h e = let no : 111 ≡ 104 = sym (ap (λ (l : List ℕ). get_or l 0 0) is.1) ∙ h in absurd (omega (arith, no))
+not_help : (word : ReportWord) (line text : List ℕ) → IsLineOf line word text → line ≡ codes "help" → ⊥
+not_help word line text is help =
+    let e : bytes_eq (word_of word) (codes "help") ≡ true =
+    ap (λ (l : List ℕ). bytes_eq l (codes "help")) (sym (line_front word line text is) ∙ ap front help) in
+    let no : true ≡ false = sym e ∙ (differs word).2 in
+    absurd cc
 
 -- ---- what follows a word
 
@@ -151,93 +203,42 @@ one_kind word (kinds.Prim one) (kinds.Prim other) e f = ap kinds.Prim (sym (type
 
 -- ---- what a word asks with a text behind it
 
--- the report on the identifier that the text is
-abbrev Identified : (ℕ → Report) → List ℕ → Report → Type 0
-Identified on text report = (id : ℕ) × (report ≡ on id) × NamesId text id
-
-one_identified : (on : ℕ → Report) (text : List ℕ) (one other : Report) → Identified on text one → Identified on text other → one ≡ other
-one_identified on text one other is is_too = is.1 ∙ ap on (sym is.2.1 ∙ is_too.2.1) ∙ sym is_too.1
-
-asks_check : (text : List ℕ) (report : Report) → AsksReport words.Check text report → report ≡ reports.Check
-asks_check text reports.Check is = refl
-asks_check text other is = absurd is
-
-asks_histogram : (text : List ℕ) (report : Report) → AsksReport words.Histogram text report → report ≡ reports.Histogram
-asks_histogram text reports.Histogram is = refl
-asks_histogram text other is = absurd is
-
-asks_classes : (text : List ℕ) (report : Report) → AsksReport words.Classes text report → report ≡ reports.Classes
-asks_classes text reports.Classes is = refl
-asks_classes text other is = absurd is
-
-asks_object : (text : List ℕ) (report : Report) → AsksReport words.Object text report → Identified reports.Object text report
-asks_object text (reports.Object id) is = (id, refl, is)
-asks_object text other is = absurd is
-
-asks_refs : (text : List ℕ) (report : Report) → AsksReport words.Refs text report → Identified reports.Refs text report
-asks_refs text (reports.Refs id) is = (id, refl, is)
-asks_refs text other is = absurd is
-
-asks_path : (text : List ℕ) (report : Report) → AsksReport words.Path text report → Identified reports.Path text report
-asks_path text (reports.Path id) is = (id, refl, is)
-asks_path text other is = absurd is
-
-asks_text : (text : List ℕ) (report : Report) → AsksReport words.Text text report → Identified reports.Text text report
-asks_text text (reports.Text id) is = (id, refl, is)
-asks_text text other is = absurd is
-
-asks_why : (text : List ℕ) (report : Report) → AsksReport words.Why text report → Identified reports.Why text report
-asks_why text (reports.Why id) is = (id, refl, is)
-asks_why text other is = absurd is
-
-asks_objects : (text : List ℕ) (report : Report) → AsksReport words.Objects text report
-    → (kind : Kind) × (report ≡ reports.Objects kind) × NamesKind text kind
-asks_objects text (reports.Objects kind) is = (kind, refl, is)
-asks_objects text other is = absurd is
-
 one_asked : (word : ReportWord) (text : List ℕ) (one other : Report) → AsksReport word text one → AsksReport word text other → one ≡ other
-one_asked words.Check text one other is is_too = asks_check text one is ∙ sym (asks_check text other is_too)
-one_asked words.Histogram text one other is is_too = asks_histogram text one is ∙ sym (asks_histogram text other is_too)
-one_asked words.Classes text one other is is_too = asks_classes text one is ∙ sym (asks_classes text other is_too)
-one_asked words.Object text one other is is_too =
-    one_identified reports.Object text one other (asks_object text one is) (asks_object text other is_too)
-one_asked words.Refs text one other is is_too =
-    one_identified reports.Refs text one other (asks_refs text one is) (asks_refs text other is_too)
-one_asked words.Path text one other is is_too =
-    one_identified reports.Path text one other (asks_path text one is) (asks_path text other is_too)
-one_asked words.Text text one other is is_too =
-    one_identified reports.Text text one other (asks_text text one is) (asks_text text other is_too)
-one_asked words.Why text one other is is_too =
-    one_identified reports.Why text one other (asks_why text one is) (asks_why text other is_too)
-one_asked words.Objects text one other is is_too =
-    let first = asks_objects text one is in
-    let second = asks_objects text other is_too in
-    first.1 ∙ ap reports.Objects (one_kind text first.0 second.0 first.2 second.2) ∙ sym second.1
+one_asked (words.Heap word) text (reports.Heap one) (reports.Heap other) is is_too = ap reports.Heap (sym is ∙ is_too)
+one_asked words.Objects text (reports.Objects one) (reports.Objects other) is is_too =
+    ap reports.Objects (one_kind text one other is is_too)
+one_asked (words.Node word) text (reports.Node one id) (reports.Node other id_too) is is_too =
+    let same = sym is.0 ∙ is_too.0 in
+    let same_id = sym is.1.1 ∙ is_too.1.1 in
+    λ i. reports.Node (same i) (same_id i)
+one_asked (words.Heap word) text (reports.Heap one) (reports.Objects kind) is is_too = absurd is_too
+one_asked (words.Heap word) text (reports.Heap one) (reports.Node other id) is is_too = absurd is_too
+one_asked (words.Heap word) text (reports.Objects kind) other is is_too = absurd is
+one_asked (words.Heap word) text (reports.Node one id) other is is_too = absurd is
+one_asked words.Objects text (reports.Objects one) (reports.Heap other) is is_too = absurd is_too
+one_asked words.Objects text (reports.Objects one) (reports.Node other id) is is_too = absurd is_too
+one_asked words.Objects text (reports.Heap one) other is is_too = absurd is
+one_asked words.Objects text (reports.Node one id) other is is_too = absurd is
+one_asked (words.Node word) text (reports.Node one id) (reports.Heap other) is is_too = absurd is_too
+one_asked (words.Node word) text (reports.Node one id) (reports.Objects kind) is is_too = absurd is_too
+one_asked (words.Node word) text (reports.Heap one) other is is_too = absurd is
+one_asked (words.Node word) text (reports.Objects kind) other is is_too = absurd is
 
--- if an identifier follows the word, the text is one
 names_id : (word : ReportWord) (text : List ℕ) (report : Report) → AsksReport word text report → follows_of word ≡ follow.Identifier
     → IsIdText text
-names_id words.Check text report is same = absurd cc
-names_id words.Histogram text report is same = absurd cc
-names_id words.Classes text report is same = absurd cc
-names_id words.Object text report is same = (asks_object text report is).2.0
-names_id words.Refs text report is same = (asks_refs text report is).2.0
-names_id words.Path text report is same = (asks_path text report is).2.0
-names_id words.Text text report is same = (asks_text text report is).2.0
-names_id words.Why text report is same = (asks_why text report is).2.0
+names_id (words.Node word) text (reports.Node report id) is same = is.1.0
+names_id (words.Node word) text (reports.Heap report) is same = absurd is
+names_id (words.Node word) text (reports.Objects kind) is same = absurd is
+names_id (words.Heap word) text report is same = absurd cc
 names_id words.Objects text report is same = absurd cc
 
 names_kind : (word : ReportWord) (text : List ℕ) (report : Report) → AsksReport word text report → follows_of word ≡ follow.ClassOrType
     → (kind : Kind) × NamesKind text kind
-names_kind words.Check text report is same = absurd cc
-names_kind words.Histogram text report is same = absurd cc
-names_kind words.Classes text report is same = absurd cc
-names_kind words.Object text report is same = absurd cc
-names_kind words.Refs text report is same = absurd cc
-names_kind words.Path text report is same = absurd cc
-names_kind words.Text text report is same = absurd cc
-names_kind words.Why text report is same = absurd cc
-names_kind words.Objects text report is same = let it = asks_objects text report is in (it.0, it.2)
+names_kind words.Objects text (reports.Objects kind) is same = (kind, is)
+names_kind words.Objects text (reports.Heap report) is same = absurd is
+names_kind words.Objects text (reports.Node report id) is same = absurd is
+names_kind (words.Heap word) text report is same = absurd cc
+names_kind (words.Node word) text report is same = absurd cc
 
 misnames : (word : ReportWord) (text : List ℕ) (report : Report) (fault : Misnamed) → AsksReport word text report → IsMisnamed word text fault → ⊥
 misnames word text report misnamed.NoIdentifier is fails = fails.1 (names_id word text report is fails.0)
@@ -312,10 +313,8 @@ one_plain line (questions.Report report) other is is_too = absurd is
 one_plain line (questions.Misnamed fault) other is is_too = absurd is
 
 plain_no_word : (line : List ℕ) (one other : Question) → Plain line one → OfWord line other → ⊥
-plain_no_word line questions.Nothing other is (word, text, is_line, named) =
-    some_bytes word line text is_line (ap (λ (l : List ℕ). get_or l 0 0) is)
-plain_no_word line questions.Help other is (word, text, is_line, named) =
-    second_byte word line text is_line (ap (λ (l : List ℕ). get_or l 0 0) is) (ap (λ (l : List ℕ). get_or l 1 0) is)
+plain_no_word line questions.Nothing other is (word, text, is_line, named) = some_bytes word line text is_line is
+plain_no_word line questions.Help other is (word, text, is_line, named) = not_help word line text is_line is
 plain_no_word line questions.NotUnderstood other is (word, text, is_line, named) = is.2 word text is_line
 plain_no_word line (questions.Report report) other is it = is
 plain_no_word line (questions.Misnamed fault) other is it = is

@@ -163,14 +163,9 @@ module _ (text : List ℕ) where
   ]
 
   named : (word : ReportWord) → (question : Question) × IsNamed word text question
-  named words.Check = (questions.Report reports.Check, tt)
-  named words.Histogram = (questions.Report reports.Histogram, tt)
-  named words.Classes = (questions.Report reports.Classes, tt)
-  named words.Object = of_identifier words.Object refl (λ is. (questions.Report (reports.Object (id_value text)), (is, refl)))
-  named words.Refs = of_identifier words.Refs refl (λ is. (questions.Report (reports.Refs (id_value text)), (is, refl)))
-  named words.Path = of_identifier words.Path refl (λ is. (questions.Report (reports.Path (id_value text)), (is, refl)))
-  named words.Text = of_identifier words.Text refl (λ is. (questions.Report (reports.Text (id_value text)), (is, refl)))
-  named words.Why = of_identifier words.Why refl (λ is. (questions.Report (reports.Why (id_value text)), (is, refl)))
+  named (words.Heap report) = (questions.Report (reports.Heap report), refl)
+  named (words.Node report) =
+      of_identifier (words.Node report) refl (λ is. (questions.Report (reports.Node report (id_value text)), (refl, (is, refl))))
   named words.Objects = elim (kind_named text) [
     | inl it ↦ (questions.Report (reports.Objects it.0), it.1)
     | inr fails ↦ (questions.Misnamed misnamed.NoKind, (refl, fails))

@@ -9,17 +9,18 @@ use Rattle.hprof_reports.specs.Stopping.{WritesText}
 use Rattle.hprof_reports.proofs.TextWriting.{text_stopped}
 use Rattle.hprof_rows.proofs.Tables.{drop_from}
 use Rattle.hprof_ask.specs.declared.report_word.ReportWord.{ReportWord}
-use Rattle.hprof_ask.specs.declared.report_word.ReportWord.TheVariants.{Check}
+use Rattle.hprof_ask.specs.declared.report.HeapReport.TheVariants.{Check}
+use Rattle.hprof_ask.specs.declared.report_word.ReportWord.TheVariants.{Heap}
 use Rattle.hprof_ask.specs.Words.{all_words, usage_line}
 
 -- one of them stopped the writing
 pub usage_stops : {A : Type 0} (r : Result A WriteStop) (stop : WriteStop) (old mid new : Option (List ℕ)) (place : ℕ)
     → place < length all_words → r ≡ Err stop → Wrote usage_line old mid all_words (drop place all_words)
-    → WritesFront mid new (usage_line (get_or all_words place Check)) → WritesText old new r (flat_map usage_line all_words)
+    → WritesFront mid new (usage_line (get_or all_words place (Heap Check))) → WritesText old new r (flat_map usage_line all_words)
 usage_stops r stop old mid new place within e w front =
-    let one = get_or all_words place Check in
+    let one = get_or all_words place (Heap Check) in
     let rest = drop (place + 1) all_words in
-    let before = subst (Wrote usage_line old mid all_words) (drop_from all_words place Check within) w in
+    let before = subst (Wrote usage_line old mid all_words) (drop_from all_words place (Heap Check) within) w in
     text_stopped r old new stop (flat_map usage_line all_words) e
     (subst (λ (l : List ReportWord). WritesFront old new (flat_map usage_line l)) (sym before.parts)
     (subst (WritesFront old new) (sym (flat_map-append usage_line before.front (one ∷ rest)))

@@ -2,6 +2,8 @@
 use Rattle.std.proofs.Common.{◌≤◌, ◌<◌, ◌+◌, ℕ, zero, suc, List, [], ◌∷◌, take, length, get_or, add-one, subst, sym, arith}
 use Rattle.std.specs.List.{AllByRecursion}
 use Rattle.std.proofs.lemmas.List.{take_all}
+use Rattle.hprof_ask.specs.declared.report.HeapReport.TheVariants as heaps
+use Rattle.hprof_ask.specs.declared.report.NodeReport.TheVariants as nodes
 use Rattle.hprof_ask.specs.declared.report_word.ReportWord.{ReportWord}
 use Rattle.hprof_ask.specs.declared.report_word.ReportWord.TheVariants as words
 use Rattle.hprof_ask.specs.Words.{all_words}
@@ -21,20 +23,23 @@ one_more P xs place default within all one =
 module _ (P : ReportWord → Type 0) where
   -- a loop over the reports has
   pub one_more_word : (place : ℕ) → place < length all_words → AllByRecursion P (take place all_words)
-      → P (get_or all_words place words.Check) → AllByRecursion P (take (place + 1) all_words)
-  one_more_word place within all one = one_more P all_words place words.Check within all one
+      → P (get_or all_words place (words.Heap heaps.Check)) → AllByRecursion P (take (place + 1) all_words)
+  one_more_word place within all one = one_more P all_words place (words.Heap heaps.Check) within all one
 
   -- what holds of all that stand in the list holds of each
   pub of_each : AllByRecursion P all_words → (word : ReportWord) → P word
-  of_each all words.Check = all.0
-  of_each all words.Histogram = all.1.0
-  of_each all words.Classes = all.1.1.0
-  of_each all words.Object = all.1.1.1.0
-  of_each all words.Refs = all.1.1.1.1.0
-  of_each all words.Path = all.1.1.1.1.1.0
-  of_each all words.Text = all.1.1.1.1.1.1.0
-  of_each all words.Why = all.1.1.1.1.1.1.1.0
-  of_each all words.Objects = all.1.1.1.1.1.1.1.1.0
+  of_each all (words.Heap heaps.Check) = all.0
+  of_each all (words.Heap heaps.Histogram) = all.1.0
+  of_each all (words.Heap heaps.Classes) = all.1.1.0
+  of_each all (words.Heap heaps.Threads) = all.1.1.1.0
+  of_each all words.Objects = all.1.1.1.1.0
+  of_each all (words.Node nodes.Show) = all.1.1.1.1.1.0
+  of_each all (words.Node nodes.Why) = all.1.1.1.1.1.1.0
+  of_each all (words.Node nodes.Who) = all.1.1.1.1.1.1.1.0
+  of_each all (words.Node nodes.Text) = all.1.1.1.1.1.1.1.1.0
+  of_each all (words.Node nodes.Object) = all.1.1.1.1.1.1.1.1.1.0
+  of_each all (words.Node nodes.Refs) = all.1.1.1.1.1.1.1.1.1.1.0
+  of_each all (words.Node nodes.Path) = all.1.1.1.1.1.1.1.1.1.1.1.0
 
   -- so does what holds of those that a loop has gone over, at its end
   pub of_all_words : (place : ℕ) → length all_words ≤ place → AllByRecursion P (take place all_words) → (word : ReportWord) → P word

@@ -33,15 +33,9 @@ NamesKind text (kinds.Prim elem) = text ≡ type_word elem ++ codes "[]"
 
 -- the word asks for the report, with this text behind it
 abbrev pub AsksReport : ReportWord → List ℕ → Report → Type 0
-AsksReport words.Check text reports.Check = ⊤
-AsksReport words.Histogram text reports.Histogram = ⊤
-AsksReport words.Classes text reports.Classes = ⊤
-AsksReport words.Object text (reports.Object id) = NamesId text id
-AsksReport words.Refs text (reports.Refs id) = NamesId text id
-AsksReport words.Path text (reports.Path id) = NamesId text id
-AsksReport words.Text text (reports.Text id) = NamesId text id
-AsksReport words.Why text (reports.Why id) = NamesId text id
+AsksReport (words.Heap word) text (reports.Heap report) = word ≡ report
 AsksReport words.Objects text (reports.Objects kind) = NamesKind text kind
+AsksReport (words.Node word) text (reports.Node report id) = (word ≡ report) × NamesId text id
 AsksReport word text report = ⊥
 
 -- the text is none of those that follow the word

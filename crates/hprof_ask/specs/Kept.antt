@@ -2,17 +2,17 @@
 use Rattle.std.specs.Prelude.{List, IfSome}
 use Rattle.hprof_values.specs.declared.ids.IdSize.{IdSize}
 use Rattle.hprof_items.specs.FactValue.{FactValue}
-use Rattle.hprof_layouts.specs.Known.{Knows}
 use Rattle.hprof_reach.specs.Reaching.{IsReach}
 use Rattle.hprof_reach.specs.Index.{IsIndexOf}
 use Rattle.hprof_reports.specs.HistogramText.{IsHistogramText}
 use Rattle.hprof_reports.specs.ClassesText.{IsClassesText}
 use Rattle.hprof_ask.specs.declared.kept.Kept.{Kept}
+use Rattle.hprof_ask.specs.Surveys.{IsSurvey}
 
--- if a search, layouts, an index or the text of a report are kept, they are those of these facts
+-- if a search, a survey, an index or the text of a report are kept, they are those of these facts
 pub record IsKept (ids : IdSize) (facts : List FactValue) (kept : Kept) : Type 0 where
   pub reach : IfSome kept.reach (IsReach ids facts)
-  pub layouts : IfSome kept.layouts (Knows ids facts)
+  pub survey : IfSome kept.survey (IsSurvey ids facts)
   pub referrers : IfSome kept.referrers (IsIndexOf ids facts)
   pub histogram : IfSome kept.histogram (λ text. IsHistogramText ids facts text.bytes.items)
   pub classes : IfSome kept.classes (λ text. IsClassesText ids facts text.bytes.items)

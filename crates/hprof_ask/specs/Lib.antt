@@ -3,7 +3,6 @@ pub mod Words
 pub mod Summarised
 pub mod OneReport
 pub mod SomeCheck
-pub mod SomeReferrers
 pub mod SomeReport
 pub mod Lines
 pub mod Asked
@@ -13,5 +12,6 @@ pub mod HeapAnswers
 pub mod OneHeapAnswer
 pub mod SomeHeapAnswer
 pub mod Asks
+pub mod Surveys
 pub mod Kept
 pub mod PartsAnswers

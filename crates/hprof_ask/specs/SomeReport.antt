@@ -22,12 +22,19 @@ use Rattle.hprof_reports.specs.ClassesText.{IsClassesText, classes_text}
 use Rattle.hprof_reports.specs.ObjectsText.{IsObjectsText, objects_text}
 use Rattle.hprof_reports.specs.TextReport.{IsTextLine, text_line}
 use Rattle.hprof_reports.proofs.ClassLists.{some_dumps}
-use Rattle.hprof_reports.proofs.SomeWhy.{why_exists}
+use Rattle.hprof_show.proofs.OneReport.{some_show}
+use Rattle.hprof_holders.proofs.SomeThreads.{text_exists as some_threads}
+use Rattle.hprof_holders.proofs.SomeWho.{who_exists}
+use Rattle.hprof_why.proofs.SomeText.{why_exists}
+use Rattle.hprof_ask.specs.declared.report.HeapReport.{HeapReport}
+use Rattle.hprof_ask.specs.declared.report.HeapReport.TheVariants as heaps
+use Rattle.hprof_ask.specs.declared.report.NodeReport.{NodeReport}
+use Rattle.hprof_ask.specs.declared.report.NodeReport.TheVariants as nodes
 use Rattle.hprof_ask.specs.declared.report.Report.{Report}
 use Rattle.hprof_ask.specs.declared.report.Report.TheVariants as reports
-use Rattle.hprof_ask.specs.Report.{IsReport}
+use Rattle.hprof_ask.specs.Report.{IsHeapReport, IsNodeReport, IsReport}
 use Rattle.hprof_ask.specs.SomeCheck.{some_check}
-use Rattle.hprof_ask.specs.SomeReferrers.{some_referrers}
+use Rattle.hprof_holders.specs.SomeReferrers.{some_referrers}
 
 module _ (ids : IdSize) (facts : List FactValue) (agree : IsConsistent facts) where
   some_histogram : (text : List ℕ) × IsHistogramText ids facts text
@@ -90,13 +97,22 @@ module _ (ids : IdSize) (facts : List FactValue) (agree : IsConsistent facts) wh
       let text = text_exists ids facts id in
       (text_line id text.0, record { agree = agree; text = text.0; is_text = text.1; is = refl })
 
+  some_heap_report : (summaries : List PartSummary) (report : HeapReport) → (text : List ℕ) × IsHeapReport summaries ids facts report text
+  some_heap_report summaries heaps.Check = some_check summaries facts
+  some_heap_report summaries heaps.Histogram = some_histogram
+  some_heap_report summaries heaps.Classes = some_classes
+  some_heap_report summaries heaps.Threads = some_threads facts agree ids
+
+  some_node_report : (report : NodeReport) (id : ℕ) → (text : List ℕ) × IsNodeReport ids facts report id text
+  some_node_report nodes.Show id = some_show ids facts id agree
+  some_node_report nodes.Why id = why_exists ids facts agree id
+  some_node_report nodes.Who id = who_exists ids facts agree id
+  some_node_report nodes.Text id = some_text id
+  some_node_report nodes.Object id = some_object id
+  some_node_report nodes.Refs id = some_refs id
+  some_node_report nodes.Path id = some_path_text id
+
   pub some_report : (summaries : List PartSummary) (report : Report) → (text : List ℕ) × IsReport summaries ids facts report text
-  some_report summaries reports.Check = some_check summaries facts
-  some_report summaries reports.Histogram = some_histogram
-  some_report summaries reports.Classes = some_classes
+  some_report summaries (reports.Heap report) = some_heap_report summaries report
   some_report summaries (reports.Objects kind) = some_objects kind
-  some_report summaries (reports.Object id) = some_object id
-  some_report summaries (reports.Refs id) = some_refs id
-  some_report summaries (reports.Path id) = some_path_text id
-  some_report summaries (reports.Text id) = some_text id
-  some_report summaries (reports.Why id) = why_exists ids facts agree id
+  some_report summaries (reports.Node report id) = some_node_report report id

@@ -1,37 +1,48 @@
 -- The words of the reports, and what follows each.
-use Rattle.std.specs.Prelude.{◌≡◌, ℕ, List, [], ◌∷◌, ◌++◌, codes}
+use Rattle.std.specs.Prelude.{ℕ, List, [], ◌∷◌, ◌++◌, codes}
 use Rattle.std.specs.List.{flat_map}
+use Rattle.hprof_ask.specs.declared.report.HeapReport.{HeapReport}
+use Rattle.hprof_ask.specs.declared.report.HeapReport.TheVariants as heaps
+use Rattle.hprof_ask.specs.declared.report.NodeReport.{NodeReport}
+use Rattle.hprof_ask.specs.declared.report.NodeReport.TheVariants as nodes
 use Rattle.hprof_ask.specs.declared.report_word.Follows.{Follows}
 use Rattle.hprof_ask.specs.declared.report_word.Follows.TheVariants as follow
 use Rattle.hprof_ask.specs.declared.report_word.ReportWord.{ReportWord}
 use Rattle.hprof_ask.specs.declared.report_word.ReportWord.TheVariants as words
 
+-- the words of reports on the parts, or on the whole heap
+abbrev pub heap_word : HeapReport → List ℕ
+heap_word heaps.Check = codes "check"
+heap_word heaps.Histogram = codes "histo"
+heap_word heaps.Classes = codes "classes"
+heap_word heaps.Threads = codes "threads"
+
+-- the words of reports on a class or an object
+abbrev pub node_word : NodeReport → List ℕ
+node_word nodes.Show = codes "show"
+node_word nodes.Why = codes "why"
+node_word nodes.Who = codes "who"
+node_word nodes.Text = codes "text"
+node_word nodes.Object = codes "object"
+node_word nodes.Refs = codes "refs"
+node_word nodes.Path = codes "path"
+
 abbrev pub word_of : ReportWord → List ℕ
-word_of words.Check = codes "check"
-word_of words.Histogram = codes "histo"
-word_of words.Classes = codes "classes"
-word_of words.Object = codes "object"
-word_of words.Refs = codes "refs"
-word_of words.Path = codes "path"
-word_of words.Text = codes "text"
-word_of words.Why = codes "why"
+word_of (words.Heap report) = heap_word report
 word_of words.Objects = codes "objects"
+word_of (words.Node report) = node_word report
 
 abbrev pub follows_of : ReportWord → Follows
-follows_of words.Check = follow.Nothing
-follows_of words.Histogram = follow.Nothing
-follows_of words.Classes = follow.Nothing
-follows_of words.Object = follow.Identifier
-follows_of words.Refs = follow.Identifier
-follows_of words.Path = follow.Identifier
-follows_of words.Text = follow.Identifier
-follows_of words.Why = follow.Identifier
+follows_of (words.Heap report) = follow.Nothing
 follows_of words.Objects = follow.ClassOrType
+follows_of (words.Node report) = follow.Identifier
 
 -- all of them, in the order in which help lists them
 abbrev pub all_words : List ReportWord
 all_words =
-    words.Check ∷ words.Histogram ∷ words.Classes ∷ words.Object ∷ words.Refs ∷ words.Path ∷ words.Text ∷ words.Why ∷ words.Objects ∷ []
+    words.Heap heaps.Check ∷ words.Heap heaps.Histogram ∷ words.Heap heaps.Classes ∷ words.Heap heaps.Threads ∷ words.Objects
+    ∷ words.Node nodes.Show ∷ words.Node nodes.Why ∷ words.Node nodes.Who ∷ words.Node nodes.Text ∷ words.Node nodes.Object
+    ∷ words.Node nodes.Refs ∷ words.Node nodes.Path ∷ []
 
 -- ---- help
 

@@ -1,6 +1,6 @@
 //! The answerer of reports, over a heap and the summaries of its parts.
 
-ghost use Rattle.std.specs.Prelude.{◌≡◌, ℕ, List, Err};
+ghost use Rattle.std.specs.Prelude.{◌≡◌, ℕ, List, Err, IfOk};
 ghost use Rattle.hprof_devices.specs.declared.health.Health.TheVariants.{Well};
 ghost use Rattle.hprof_heap.specs.HeapFacts.{facts_of, size_of};
 ghost use Rattle.hprof_reports.specs.Check.{IsCheck};
@@ -9,22 +9,29 @@ ghost use Rattle.hprof_reports.specs.HistogramText.{IsHistogramText};
 ghost use Rattle.hprof_reports.specs.PathText.{IsPathText};
 ghost use Rattle.hprof_reports.specs.RefsText.{IsRefsText};
 ghost use Rattle.hprof_reports.specs.Stopping.{LeavesTarget, WritesText};
-ghost use Rattle.hprof_reports.specs.WhyText.{IsWhyText};
+ghost use Rattle.hprof_edges.specs.Edges.{AreReferrers};
+ghost use Rattle.hprof_show.specs.ShowText.{IsShowText};
+ghost use Rattle.hprof_holders.specs.ThreadsText.{IsThreadsText};
+ghost use Rattle.hprof_holders.specs.WhoText.{IsWhoText};
+ghost use Rattle.hprof_why.specs.WhyText.{IsWhyText};
 ghost use Rattle.hprof_ask.specs.Kept.{IsKept};
-ghost use Rattle.hprof_ask.specs.Report.{IsReport, TakesMemory};
+ghost use Rattle.hprof_ask.specs.Report.{IsHeapReport, IsNodeReport, IsReport, TakesMemory};
 
 use crate::kept::{Kept, kept_or_made};
-use crate::report::Report;
+use crate::report::{HeapReport, NodeReport, Report};
 use hprof_devices::{Target, push_all};
-use hprof_edges::referrers;
+use hprof_edges::{Edge, referrers};
 use hprof_engine::WriteStop;
 use hprof_heap::{Heap, holds_of_heap};
+use hprof_holders::{write_threads, write_who};
 use hprof_reports::{
     write_check, write_classes, write_histogram, write_object, write_objects, write_path,
-    write_refs, write_text, write_why,
+    write_refs, write_text,
 };
+use hprof_show::write_show;
 use hprof_stream::PartSummary;
-use std::alloc::Global;
+use hprof_why::write_why;
+use std::alloc::{AllocError, Global};
 
 /// Answers reports over a heap and the summaries of its parts.
 #[derive(Clone, Copy)]
@@ -110,7 +117,22 @@ impl<'a> Answerer<'a> {
         outcome
     }
 
-    /// Writes the report `refs` on an identifier, for one of many reports from the index that is kept.
+    /// Returns each edge to an identifier, in order; for one of many reports from the index that is kept.
+    fn edges_to(&self, alloc: Global, kept: &mut Kept, id: u64) -> Result<Vec<Edge>, AllocError>
+        requires { IsKept (size_of self.now.heap.now) (facts_of self.now.heap.now) kept.old }
+        ensures edges { IfOk result (λ edges. AreReferrers (size_of self.now.heap.now) (facts_of self.now.heap.now) id edges.items) }
+        ensures kept { IsKept (size_of self.now.heap.now) (facts_of self.now.heap.now) kept.new }
+    {
+        if !kept.is_for_many {
+            return referrers(alloc, self.heap, id);
+        }
+        let index = kept_or_made(alloc, self.heap, kept.referrers.take())?;
+        let edges = index.referrers(alloc, self.heap, id);
+        kept.referrers = Some(index);
+        edges
+    }
+
+    /// Writes the report `refs` on an identifier.
     fn write_refs<W: Target>(
         &self,
         alloc: Global,
@@ -126,14 +148,8 @@ impl<'a> Answerer<'a> {
         ensures kept { IsKept (size_of self.now.heap.now) (facts_of self.now.heap.now) kept.new }
     {
         holds_of_heap(self.heap);
-        if !kept.is_for_many {
-            let edges = referrers(alloc, self.heap, id)?;
-            return write_refs(alloc, self.heap, &edges, target);
-        }
-        let index = kept_or_made(alloc, self.heap, kept.referrers.take())?;
-        let edges = index.referrers(alloc, self.heap, id);
-        kept.referrers = Some(index);
-        write_refs(alloc, self.heap, &edges?, target)
+        let edges = self.edges_to(alloc, kept, id)?;
+        write_refs(alloc, self.heap, &edges, target)
     }
 
     /// Writes the report `path` on an identifier, from the search that is kept.
@@ -158,7 +174,73 @@ impl<'a> Answerer<'a> {
         outcome
     }
 
-    /// Writes the report `why` on an identifier, from the search and the layouts that are kept.
+    /// Writes the report `threads`.
+    fn write_threads<W: Target>(
+        &self,
+        alloc: Global,
+        kept: &mut Kept,
+        target: &mut W,
+    ) -> Result<(), WriteStop>
+        requires well { W.health target.old ≡ Well }
+        requires kept { IsKept (size_of self.now.heap.now) (facts_of self.now.heap.now) kept.old }
+        ensures bytes { (text : List ℕ) × IsThreadsText (size_of self.now.heap.now) (facts_of self.now.heap.now) text
+            × WritesText (W.written target.old) (W.written target.new) result text }
+        ensures health { LeavesTarget result (W.health target.new) }
+        ensures kept { IsKept (size_of self.now.heap.now) (facts_of self.now.heap.now) kept.new }
+    {
+        holds_of_heap(self.heap);
+        let survey = kept_or_made(alloc, self.heap, kept.survey.take())?;
+        let outcome = write_threads(alloc, self.heap, &survey.threads, &survey.classes, target);
+        kept.survey = Some(survey);
+        outcome
+    }
+
+    /// Writes the report `show` on an identifier.
+    fn write_show<W: Target>(
+        &self,
+        alloc: Global,
+        kept: &mut Kept,
+        id: u64,
+        target: &mut W,
+    ) -> Result<(), WriteStop>
+        requires well { W.health target.old ≡ Well }
+        requires kept { IsKept (size_of self.now.heap.now) (facts_of self.now.heap.now) kept.old }
+        ensures bytes { (text : List ℕ) × IsShowText (size_of self.now.heap.now) (facts_of self.now.heap.now) id text
+            × WritesText (W.written target.old) (W.written target.new) result text }
+        ensures health { LeavesTarget result (W.health target.new) }
+        ensures kept { IsKept (size_of self.now.heap.now) (facts_of self.now.heap.now) kept.new }
+    {
+        holds_of_heap(self.heap);
+        let survey = kept_or_made(alloc, self.heap, kept.survey.take())?;
+        let outcome = write_show(alloc, self.heap, &survey.classes, id, target);
+        kept.survey = Some(survey);
+        outcome
+    }
+
+    /// Writes the report `who` on an identifier.
+    fn write_who<W: Target>(
+        &self,
+        alloc: Global,
+        kept: &mut Kept,
+        id: u64,
+        target: &mut W,
+    ) -> Result<(), WriteStop>
+        requires well { W.health target.old ≡ Well }
+        requires kept { IsKept (size_of self.now.heap.now) (facts_of self.now.heap.now) kept.old }
+        ensures bytes { (text : List ℕ) × IsWhoText (size_of self.now.heap.now) (facts_of self.now.heap.now) id text
+            × WritesText (W.written target.old) (W.written target.new) result text }
+        ensures health { LeavesTarget result (W.health target.new) }
+        ensures kept { IsKept (size_of self.now.heap.now) (facts_of self.now.heap.now) kept.new }
+    {
+        holds_of_heap(self.heap);
+        let edges = self.edges_to(alloc, kept, id)?;
+        let survey = kept_or_made(alloc, self.heap, kept.survey.take())?;
+        let outcome = write_who(alloc, survey.view(self.heap), id, &edges, target);
+        kept.survey = Some(survey);
+        outcome
+    }
+
+    /// Writes the report `why` on an identifier, from the searches that are kept.
     fn write_why<W: Target>(
         &self,
         alloc: Global,
@@ -174,12 +256,64 @@ impl<'a> Answerer<'a> {
         ensures kept { IsKept (size_of self.now.heap.now) (facts_of self.now.heap.now) kept.new }
     {
         holds_of_heap(self.heap);
-        let reach = kept_or_made(alloc, self.heap, kept.reach.take())?;
-        let layouts = kept_or_made(alloc, self.heap, kept.layouts.take())?;
-        let outcome = write_why(alloc, self.heap, &layouts, &reach, id, target);
-        kept.reach = Some(reach);
-        kept.layouts = Some(layouts);
+        let mut survey = kept_or_made(alloc, self.heap, kept.survey.take())?;
+        let strong = survey.take_strong(alloc, self.heap)?;
+        let view = survey.view(self.heap);
+        let outcome = write_why(alloc, view, &strong, &mut kept.reach, id, target);
+        survey.strong = Some(strong);
+        kept.survey = Some(survey);
         outcome
+    }
+
+    /// Writes a report on the parts, or on the whole heap.
+    fn write_heap_report<W: Target>(
+        &self,
+        alloc: Global,
+        kept: &mut Kept,
+        report: HeapReport,
+        target: &mut W,
+    ) -> Result<(), WriteStop>
+        requires well { W.health target.old ≡ Well }
+        requires kept { IsKept (size_of self.now.heap.now) (facts_of self.now.heap.now) kept.old }
+        ensures bytes { (text : List ℕ) × IsHeapReport self.now.summaries.now (size_of self.now.heap.now) (facts_of self.now.heap.now) report text
+            × WritesText (W.written target.old) (W.written target.new) result text }
+        ensures health { LeavesTarget result (W.health target.new) }
+        ensures memory { result ≡ Err WriteStop.OutOfMemory → TakesMemory (Report.Heap report) }
+        ensures kept { IsKept (size_of self.now.heap.now) (facts_of self.now.heap.now) kept.new }
+    {
+        match report {
+            HeapReport::Check => self.write_check(target),
+            HeapReport::Histogram => self.write_histogram(alloc, kept, target),
+            HeapReport::Classes => self.write_classes(alloc, kept, target),
+            HeapReport::Threads => self.write_threads(alloc, kept, target),
+        }
+    }
+
+    /// Writes a report on an identifier.
+    fn write_node_report<W: Target>(
+        &self,
+        alloc: Global,
+        kept: &mut Kept,
+        report: NodeReport,
+        id: u64,
+        target: &mut W,
+    ) -> Result<(), WriteStop>
+        requires well { W.health target.old ≡ Well }
+        requires kept { IsKept (size_of self.now.heap.now) (facts_of self.now.heap.now) kept.old }
+        ensures bytes { (text : List ℕ) × IsNodeReport (size_of self.now.heap.now) (facts_of self.now.heap.now) report id text
+            × WritesText (W.written target.old) (W.written target.new) result text }
+        ensures health { LeavesTarget result (W.health target.new) }
+        ensures kept { IsKept (size_of self.now.heap.now) (facts_of self.now.heap.now) kept.new }
+    {
+        match report {
+            NodeReport::Show => self.write_show(alloc, kept, id, target),
+            NodeReport::Why => self.write_why(alloc, kept, id, target),
+            NodeReport::Who => self.write_who(alloc, kept, id, target),
+            NodeReport::Text => write_text(alloc, self.heap, id, target),
+            NodeReport::Object => write_object(alloc, self.heap, id, target),
+            NodeReport::Refs => self.write_refs(alloc, kept, id, target),
+            NodeReport::Path => self.write_path(alloc, kept, id, target),
+        }
     }
 
     /// Writes a report. If the writer fails or memory runs out, the bytes written are the beginning of the report. `kept` has what was kept
@@ -201,15 +335,9 @@ impl<'a> Answerer<'a> {
         ensures kept { IsKept (size_of self.now.heap.now) (facts_of self.now.heap.now) kept.new }
     {
         match report {
-            Report::Check => self.write_check(target),
-            Report::Histogram => self.write_histogram(alloc, kept, target),
-            Report::Classes => self.write_classes(alloc, kept, target),
+            Report::Heap(report) => self.write_heap_report(alloc, kept, report, target),
             Report::Objects(kind) => write_objects(alloc, self.heap, kind, target),
-            Report::Object(id) => write_object(alloc, self.heap, id, target),
-            Report::Refs(id) => self.write_refs(alloc, kept, id, target),
-            Report::Path(id) => self.write_path(alloc, kept, id, target),
-            Report::Text(id) => write_text(alloc, self.heap, id, target),
-            Report::Why(id) => self.write_why(alloc, kept, id, target),
+            Report::Node(report, id) => self.write_node_report(alloc, kept, report, id, target),
         }
     }
 }

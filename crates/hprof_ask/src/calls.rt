@@ -6,7 +6,7 @@ ghost use Rattle.hprof_engine.specs.Joining.{fault_of};
 ghost use Rattle.hprof_engine.specs.Makes.{Makes};
 ghost use Rattle.hprof_ask.specs.Report.{report_making};
 
-use crate::report::Report;
+use crate::report::{HeapReport, NodeReport, Report};
 use hprof_devices::{Source, Target};
 use hprof_engine::{NoSummaries, ToolFault, read_heap, write_to};
 use hprof_graph::LiveHeap;
@@ -26,10 +26,16 @@ pub fn check_to<R: Source, W: Target>(
 ) -> Result<(), ToolFault>
     requires readers { All (λ reader. R.health reader ≡ Well) readers.old }
     requires writer { W.health target.old ≡ Well }
-    ensures { Makes R.left R.health R.pulls W.written W.health limits (report_making Report.Check)
+    ensures { Makes R.left R.health R.pulls W.written W.health limits (report_making (Report.Heap HeapReport.Check))
         readers.old readers.new target.old target.new (fault_of result) }
 {
-    write_to(alloc, &Report::Check, readers, target, limits)
+    write_to(
+        alloc,
+        &Report::Heap(HeapReport::Check),
+        readers,
+        target,
+        limits,
+    )
 }
 
 /// Reads all parts, and writes the report `histo` on their heap: a line for each class and each type of arrays that has objects, with
@@ -43,10 +49,16 @@ pub fn histo_to<R: Source, W: Target>(
 ) -> Result<(), ToolFault>
     requires readers { All (λ reader. R.health reader ≡ Well) readers.old }
     requires writer { W.health target.old ≡ Well }
-    ensures { Makes R.left R.health R.pulls W.written W.health limits (report_making Report.Histogram)
+    ensures { Makes R.left R.health R.pulls W.written W.health limits (report_making (Report.Heap HeapReport.Histogram))
         readers.old readers.new target.old target.new (fault_of result) }
 {
-    write_to(alloc, &Report::Histogram, readers, target, limits)
+    write_to(
+        alloc,
+        &Report::Heap(HeapReport::Histogram),
+        readers,
+        target,
+        limits,
+    )
 }
 
 /// Reads all parts, and writes the report `classes` on their heap: a line for each class dump, with its superclass and the objects of the
@@ -60,10 +72,16 @@ pub fn classes_to<R: Source, W: Target>(
 ) -> Result<(), ToolFault>
     requires readers { All (λ reader. R.health reader ≡ Well) readers.old }
     requires writer { W.health target.old ≡ Well }
-    ensures { Makes R.left R.health R.pulls W.written W.health limits (report_making Report.Classes)
+    ensures { Makes R.left R.health R.pulls W.written W.health limits (report_making (Report.Heap HeapReport.Classes))
         readers.old readers.new target.old target.new (fault_of result) }
 {
-    write_to(alloc, &Report::Classes, readers, target, limits)
+    write_to(
+        alloc,
+        &Report::Heap(HeapReport::Classes),
+        readers,
+        target,
+        limits,
+    )
 }
 
 /// Reads all parts, and writes the report `objects` on a class or a type in their heap: a line for each of its objects, with the bytes of
@@ -96,10 +114,16 @@ pub fn object_to<R: Source, W: Target>(
 ) -> Result<(), ToolFault>
     requires readers { All (λ reader. R.health reader ≡ Well) readers.old }
     requires writer { W.health target.old ≡ Well }
-    ensures { Makes R.left R.health R.pulls W.written W.health limits (report_making (Report.Object id))
+    ensures { Makes R.left R.health R.pulls W.written W.health limits (report_making (Report.Node NodeReport.Object id))
         readers.old readers.new target.old target.new (fault_of result) }
 {
-    write_to(alloc, &Report::Object(id), readers, target, limits)
+    write_to(
+        alloc,
+        &Report::Node(NodeReport::Object, id),
+        readers,
+        target,
+        limits,
+    )
 }
 
 /// Reads all parts, and writes the report `path` on an identifier in their heap: its distance from the GC roots, then a line
@@ -114,10 +138,16 @@ pub fn path_to<R: Source, W: Target>(
 ) -> Result<(), ToolFault>
     requires readers { All (λ reader. R.health reader ≡ Well) readers.old }
     requires writer { W.health target.old ≡ Well }
-    ensures { Makes R.left R.health R.pulls W.written W.health limits (report_making (Report.Path id))
+    ensures { Makes R.left R.health R.pulls W.written W.health limits (report_making (Report.Node NodeReport.Path id))
         readers.old readers.new target.old target.new (fault_of result) }
 {
-    write_to(alloc, &Report::Path(id), readers, target, limits)
+    write_to(
+        alloc,
+        &Report::Node(NodeReport::Path, id),
+        readers,
+        target,
+        limits,
+    )
 }
 
 /// Reads all parts, and writes the report `text` on an identifier in their heap: the number of units of its text, and the text in print, or
@@ -132,15 +162,93 @@ pub fn text_to<R: Source, W: Target>(
 ) -> Result<(), ToolFault>
     requires readers { All (λ reader. R.health reader ≡ Well) readers.old }
     requires writer { W.health target.old ≡ Well }
-    ensures { Makes R.left R.health R.pulls W.written W.health limits (report_making (Report.Text id))
+    ensures { Makes R.left R.health R.pulls W.written W.health limits (report_making (Report.Node NodeReport.Text id))
         readers.old readers.new target.old target.new (fault_of result) }
 {
-    write_to(alloc, &Report::Text(id), readers, target, limits)
+    write_to(
+        alloc,
+        &Report::Node(NodeReport::Text, id),
+        readers,
+        target,
+        limits,
+    )
 }
 
-/// Reads all parts, and writes the report `why` on an identifier in their heap: the shortest path from a GC root, with the roots, the
-/// names of classes and the references, or that no root reaches it. All parts are read before the first byte is written. If memory
-/// runs out then, the bytes written are the beginning of the report.
+/// Reads all parts, and writes the report `threads` on their heap: for each thread its object and its name, the frames of its stack, and
+/// below each frame the objects that it holds. All parts are read before the first byte is written. If memory runs out then, the bytes
+/// written are the beginning of the report.
+pub fn threads_to<R: Source, W: Target>(
+    alloc: Global,
+    readers: &mut [R],
+    target: &mut W,
+    limits: Limits,
+) -> Result<(), ToolFault>
+    requires readers { All (λ reader. R.health reader ≡ Well) readers.old }
+    requires writer { W.health target.old ≡ Well }
+    ensures { Makes R.left R.health R.pulls W.written W.health limits (report_making (Report.Heap HeapReport.Threads))
+        readers.old readers.new target.old target.new (fault_of result) }
+{
+    write_to(
+        alloc,
+        &Report::Heap(HeapReport::Threads),
+        readers,
+        target,
+        limits,
+    )
+}
+
+/// Reads all parts, and writes the report `show` on an identifier in their heap: the contents of its class dump and of its object dump,
+/// with values decoded and references named, or that it has neither. All parts are read before the first byte is written. If memory runs
+/// out then, the bytes written are the beginning of the report.
+pub fn show_to<R: Source, W: Target>(
+    alloc: Global,
+    readers: &mut [R],
+    id: u64,
+    target: &mut W,
+    limits: Limits,
+) -> Result<(), ToolFault>
+    requires readers { All (λ reader. R.health reader ≡ Well) readers.old }
+    requires writer { W.health target.old ≡ Well }
+    ensures { Makes R.left R.health R.pulls W.written W.health limits (report_making (Report.Node NodeReport.Show id))
+        readers.old readers.new target.old target.new (fault_of result) }
+{
+    write_to(
+        alloc,
+        &Report::Node(NodeReport::Show, id),
+        readers,
+        target,
+        limits,
+    )
+}
+
+/// Reads all parts, and writes the report `who` on an identifier in their heap: its GC roots, each with its thread, the sums of more than
+/// 20 references, and a line for each reference to it, with names. All parts are read before the first byte is written. If memory runs
+/// out then, the bytes written are the beginning of the report.
+pub fn who_to<R: Source, W: Target>(
+    alloc: Global,
+    readers: &mut [R],
+    id: u64,
+    target: &mut W,
+    limits: Limits,
+) -> Result<(), ToolFault>
+    requires readers { All (λ reader. R.health reader ≡ Well) readers.old }
+    requires writer { W.health target.old ≡ Well }
+    ensures { Makes R.left R.health R.pulls W.written W.health limits (report_making (Report.Node NodeReport.Who id))
+        readers.old readers.new target.old target.new (fault_of result) }
+{
+    write_to(
+        alloc,
+        &Report::Node(NodeReport::Who, id),
+        readers,
+        target,
+        limits,
+    )
+}
+
+/// Reads all parts, and writes the report `why` on an identifier in their heap: the shortest path of strong references from a GC root, with
+/// the roots, the threads, the names of classes and the references, folded where many are alike; or that only weak references lead there,
+/// and the path by all; or that no root reaches it. All parts are read before the first byte is written. If memory runs out then, the bytes
+/// written are the beginning of the report.
 pub fn why_to<R: Source, W: Target>(
     alloc: Global,
     readers: &mut [R],
@@ -150,10 +258,16 @@ pub fn why_to<R: Source, W: Target>(
 ) -> Result<(), ToolFault>
     requires readers { All (λ reader. R.health reader ≡ Well) readers.old }
     requires writer { W.health target.old ≡ Well }
-    ensures { Makes R.left R.health R.pulls W.written W.health limits (report_making (Report.Why id))
+    ensures { Makes R.left R.health R.pulls W.written W.health limits (report_making (Report.Node NodeReport.Why id))
         readers.old readers.new target.old target.new (fault_of result) }
 {
-    write_to(alloc, &Report::Why(id), readers, target, limits)
+    write_to(
+        alloc,
+        &Report::Node(NodeReport::Why, id),
+        readers,
+        target,
+        limits,
+    )
 }
 
 /// Reads all parts, and writes the report `refs` on an identifier: a line for each reference to it in their heap, in order, and
@@ -168,7 +282,7 @@ pub fn refs_to<R: Source, W: Target>(
 ) -> Result<(), ToolFault>
     requires readers { All (λ reader. R.health reader ≡ Well) readers.old }
     requires writer { W.health target.old ≡ Well }
-    ensures { Makes R.left R.health R.pulls W.written W.health limits (report_making (Report.Refs id))
+    ensures { Makes R.left R.health R.pulls W.written W.health limits (report_making (Report.Node NodeReport.Refs id))
         readers.old readers.new target.old target.new (fault_of result) }
 {
     let live = LiveHeap::watching(alloc, id);

@@ -9,9 +9,9 @@ it has an end record. Then each kind of fact has a line with the number of them
 in all parts together, each counted once. Bad names are not modified UTF-8.
 
     $ hprof check friday.hprof | sed -n 1,3p
-    part 0: version 1.0.2 ids 8 time 1795766400000 records 49 facts 145 end yes
-    names 31
-    loads 10
+    part 0: version 1.0.2 ids 8 time 1795766400000 records 72 facts 209 end yes
+    names 46
+    loads 14
 
 Parts are pieces of one heap. Two dumps of one process are two heaps: check each
 alone. A compressed dump goes through zcat:
@@ -25,9 +25,9 @@ Columns: bytes, number of objects, identifier of the class, name. The most bytes
 come first, then the most objects, then classes by identifier.
 
     $ hprof histo friday.hprof | sed -n 1,3p
-    466 29 - byte[]
-    288 9 7400003a0 shop/Session
-    280 20 740000070 java/lang/String
+    605 40 - byte[]
+    406 29 740000070 java/lang/String
+    352 11 7400003a0 shop/Session
 
 Bytes are the field and element data in the dump, without object headers and
 padding, so totals are smaller than the JVM's. Arrays of numbers are under no
@@ -45,8 +45,8 @@ Columns: identifier of the class; behind `super` its superclass, 0 for none;
 behind `bytes` and `objects` those of its objects; name. Lines come in order of
 identifier. A class without objects has a line too.
 
-    $ hprof classes friday.hprof | grep shop/
-    7400003a0 super 740000000 bytes 288 objects 9 shop/Session
+    $ hprof classes friday.hprof | grep shop/S
+    7400003a0 super 740000000 bytes 352 objects 11 shop/Session
     740000410 super 740000000 bytes 0 objects 0 shop/Server
 
 Objects of subclasses are not counted. Bytes are the field and element data in
@@ -159,27 +159,93 @@ Exit status: 0 done, 1 refused (one line on standard error), 2 not understood.";
 /// The report `why`.
 pub(crate) const WHY: &str = "\
 The first line is the number of references on the path. Then each GC root of its
-first object has a line, and each class or object on it, from the root to ID.
-Between two of them, indented, stands the reference: its kind and index, as
-`refs` prints them, and the name of a static field or a field.
+first object has a line, below it its thread and the method that runs there; and
+each class or object on the path, from the root to ID. Between two of them,
+indented, stands the reference: its kind and index, as `refs` prints them, and
+the name of a static field or a field.
 
-    $ hprof why 740000410 friday.hprof
-    distance 3
-    root JNI global 7f0070000008
-    740000380 jdk/internal/loader/ClassLoaders$AppClassLoader
-      field 1 classes
-    7400004d8 java/util/ArrayList
-      field 0 elementData
-    7400004b8 [Ljava/lang/Object;
-      element 1
-    740000410 class shop/Server
+    $ hprof why 740000f20 friday.hprof
+    distance 6
+    root Java frame thread 2 frame 1
+      740001300 java/lang/Thread \"mailer\" at shop.Mailer.run(Mailer.java:31)
+    7400012a0 shop/Mail
+      field 0 next
+    .. 4 more
+    7400010c0 shop/Mail
+      field 1 session
+    740000f20 shop/Session
+
+Weak, soft and phantom references are passed by. If nothing else leads to ID,
+the first line is `only by weak references`, and their steps begin with `weak`.
+Four or more steps of one kind through objects of one class are folded: `.. N
+more`.
 
 If no GC root leads to ID, the line is `not reached`; if the dump has no such
-class or object, it is `nothing at ID`. Of several references from the one to
-the other the first by kind and index is printed.
+class or object, it is `nothing at ID`. ID is hexadecimal, without 0x or @. Two
+dumps of one process are two heaps: ask each alone.
 
-Weak, soft and phantom references count as any other: the field is `referent`.
-ID is hexadecimal, without 0x or @. Two dumps of one process are two heaps: ask
-each alone.
+Exit status: 0 done, 1 refused (one line on standard error), 2 not understood.";
+
+/// The report `threads`.
+pub(crate) const THREADS: &str = "\
+Each thread has a line: its serial number, and its object with its class and its
+name. Below it, indented, stand the frames of its stack, the innermost first,
+and below a frame the objects that its local variables hold. Threads come in
+order of their serial numbers.
+
+    $ hprof threads friday.hprof | sed -n 6,9p
+    thread 2 740001300 java/lang/Thread \"mailer\"
+      at java.lang.Thread.sleep(Native Method)
+      at shop.Mailer.run(Mailer.java:31)
+        7400012a0 shop/Mail
+
+What a thread holds elsewhere comes last: below `frame N` if the stack has no
+such frame, `no frame`, `native stack` or `thread block`. A dump without threads
+prints nothing. Two dumps of one process are two heaps: ask each alone. A reader
+that closes early, as head does, is a failed write.
+
+Exit status: 0 done, 1 refused (one line on standard error), 2 not understood.";
+
+/// The report `show`.
+pub(crate) const SHOW: &str = "\
+The first line is the class, the instance or the array. Below it, indented,
+stand
+    of a class       super, loader, signers, domain; constants, static fields,
+                     and the types of its own fields
+    of an instance   its fields; those of a superclass behind `from CLASS`
+    of an array      its first 100 elements that are not null, or its text, or
+                     its first 256 numbers, 16 a line
+
+    $ hprof show 7400010c0 friday.hprof
+    7400010c0 shop/Mail
+      field 0 next = null
+      field 1 session = 740000f20 shop/Session
+      field 2 subject = 7400010a0 java/lang/String \"Bye kim\"
+
+References have the class of what they lead to, strings their text, threads
+their name. Numbers are decimal; of float and double they are as
+Float.toHexString and Double.toHexString print them, which is exact. If the dump
+has no such class or object, the line is `nothing at ID`. ID is hexadecimal,
+without 0x or @. Two dumps of one process are two heaps: ask each alone.
+
+Exit status: 0 done, 1 refused (one line on standard error), 2 not understood.";
+
+/// The report `who`.
+pub(crate) const WHO: &str = "\
+First each GC root of ID has a line, with its thread below it. Then each
+reference to ID has a line: what refers, the kind of reference and its index, as
+`refs` prints them, and the name of the field. Weak, soft and phantom references
+have `weak` before the kind. Of more than 20 references, sums come first.
+
+    $ hprof who 740000f20 friday.hprof
+    7400010c0 shop/Mail field 1 session
+    $ hprof who 740000070 friday.hprof | sed -n 1,3p
+    root sticky class
+    29 times java/lang/String class
+    740000498 java/lang/String class 0
+
+If there are none, the line is `nothing refers to ID`; if the dump has no such
+class or object either, it is `nothing at ID`. ID is hexadecimal, without 0x or
+@. Two dumps of one process are two heaps: ask each alone.
 
 Exit status: 0 done, 1 refused (one line on standard error), 2 not understood.";

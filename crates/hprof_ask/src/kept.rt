@@ -5,9 +5,9 @@ ghost use Rattle.hprof_values.specs.declared.ids.IdSize.{IdSize};
 ghost use Rattle.hprof_items.specs.FactValue.{FactValue};
 ghost use Rattle.hprof_heap.specs.HeapFacts.{facts_of, size_of};
 
+use crate::survey::Survey;
 use hprof_devices::Device;
 use hprof_heap::Heap;
-use hprof_layouts::{KnownLayouts, known_layouts};
 use hprof_reach::{Reach, ReferrerIndex, index_referrers, reach_of};
 use hprof_reports::{write_classes, write_histogram};
 use std::alloc::{AllocError, Global};
@@ -48,16 +48,6 @@ impl OfHeap for Reach {
 
     fn make(alloc: Global, heap: &Heap) -> Result<Reach, AllocError> {
         reach_of(alloc, heap)
-    }
-}
-
-impl OfHeap for KnownLayouts {
-    ghost use Rattle.hprof_layouts.specs.Known.{Knows};
-
-    ghost is_of = { Knows };
-
-    fn make(alloc: Global, heap: &Heap) -> Result<KnownLayouts, AllocError> {
-        known_layouts(alloc, heap)
     }
 }
 
@@ -124,8 +114,8 @@ pub struct Kept {
     pub(crate) is_for_many: bool,
     /// The search from the GC roots.
     pub(crate) reach: Option<Reach>,
-    /// The layouts of the classes.
-    pub(crate) layouts: Option<KnownLayouts>,
+    /// What is made for reports that people read.
+    pub(crate) survey: Option<Survey>,
     /// The index of referrers.
     pub(crate) referrers: Option<ReferrerIndex>,
     /// The text of the class histogram.
@@ -144,7 +134,7 @@ impl Kept {
         Kept {
             is_for_many,
             reach: None,
-            layouts: None,
+            survey: None,
             referrers: None,
             histogram: None,
             classes: None,

@@ -17,18 +17,20 @@ mod report;
 mod report_word;
 mod stop;
 mod subject;
+mod survey;
 
 pub use answerer::Answerer;
 pub use ask::{ask_kept, ask_to};
 pub use ask_fault::AskFault;
 pub use asker::Asker;
 pub use calls::{
-    check_to, classes_to, histo_to, object_to, objects_to, path_to, refs_to, text_to, why_to,
+    check_to, classes_to, histo_to, object_to, objects_to, path_to, refs_to, show_to, text_to,
+    threads_to, who_to, why_to,
 };
 pub use dialogue::{Answers, converse};
 pub use kept::Kept;
 pub use question::{Question, question_of};
-pub use report::Report;
+pub use report::{HeapReport, NodeReport, Report};
 pub use report_word::{Follows, ReportRow, ReportWord};
 pub use stop::DialogueStop;
 pub use subject::Misnamed;

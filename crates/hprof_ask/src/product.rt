@@ -4,7 +4,7 @@ ghost use Rattle.std.specs.Prelude.{◌≡◌, ◌∷◌, ◌++◌, ◌+◌, [],
 
 use crate::answerer::Answerer;
 use crate::kept::Kept;
-use crate::report::Report;
+use crate::report::{HeapReport, Report};
 use hprof_devices::Target;
 use hprof_engine::{Product, Summaries, WriteStop};
 use hprof_heap::Heap;
@@ -26,13 +26,13 @@ impl Summaries for Report {
 
     fn with_room(&self, alloc: Global, parts: usize) -> Result<Vec<PartSummary>, AllocError> {
         match self {
-            Report::Check => Vec::with_capacity(alloc, parts),
+            Report::Heap(HeapReport::Check) => Vec::with_capacity(alloc, parts),
             _ => Ok(Vec::new(alloc)),
         }
     }
 
     fn keep(&self, kept: &mut Vec<PartSummary>, summary: PartSummary) {
-        if let Report::Check = self {
+        if let Report::Heap(HeapReport::Check) = self {
             kept.push_reserved(summary);
         }
     }

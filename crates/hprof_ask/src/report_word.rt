@@ -1,10 +1,12 @@
 //! The table of reports: for each its word, what follows the word, and its texts in help.
 
 ghost use Rattle.std.specs.Prelude.{◌≡◌, ◌≢◌, MatchOption};
+ghost use Rattle.hprof_ask.specs.declared.report_word.Follows.{Follows};
 ghost use Rattle.hprof_ask.specs.declared.report_word.ReportWord.{ReportWord};
-ghost use Rattle.hprof_ask.specs.Words.{follows_of, word_of};
+ghost use Rattle.hprof_ask.specs.Words.{follows_of, heap_word, node_word, word_of};
 
 use crate::help;
+use crate::report::{HeapReport, NodeReport};
 
 /// What follows the word of a report.
 #[derive(Clone, Copy, Debug, PartialEq, Eq)]
@@ -20,24 +22,12 @@ pub enum Follows {
 /// A report, by its word.
 #[derive(Clone, Copy, Debug, PartialEq, Eq)]
 pub enum ReportWord {
-    /// `check`.
-    Check,
-    /// `histo`.
-    Histogram,
-    /// `classes`.
-    Classes,
-    /// `object`.
-    Object,
-    /// `refs`.
-    Refs,
-    /// `path`.
-    Path,
-    /// `text`.
-    Text,
-    /// `why`.
-    Why,
+    /// The word of a report on the parts, or on the whole heap.
+    Heap(HeapReport),
     /// `objects`.
     Objects,
+    /// The word of a report on a class or an object.
+    Node(NodeReport),
 }
 
 /// The row of a report in the table.
@@ -54,17 +44,104 @@ pub struct ReportRow {
 }
 
 /// All reports, in the order in which the dialogue's help lists them.
-pub(crate) const ALL: [ReportWord; 9] = [
-    ReportWord::Check,
-    ReportWord::Histogram,
-    ReportWord::Classes,
-    ReportWord::Object,
-    ReportWord::Refs,
-    ReportWord::Path,
-    ReportWord::Text,
-    ReportWord::Why,
+pub(crate) const ALL: [ReportWord; 12] = [
+    ReportWord::Heap(HeapReport::Check),
+    ReportWord::Heap(HeapReport::Histogram),
+    ReportWord::Heap(HeapReport::Classes),
+    ReportWord::Heap(HeapReport::Threads),
     ReportWord::Objects,
+    ReportWord::Node(NodeReport::Show),
+    ReportWord::Node(NodeReport::Why),
+    ReportWord::Node(NodeReport::Who),
+    ReportWord::Node(NodeReport::Text),
+    ReportWord::Node(NodeReport::Object),
+    ReportWord::Node(NodeReport::Refs),
+    ReportWord::Node(NodeReport::Path),
 ];
+
+/// Returns the row of a report on the parts, or on the whole heap.
+fn heap_row(report: HeapReport) -> ReportRow
+    ensures word { result.word.now ≡ heap_word report }
+    ensures follows { result.follows ≡ Follows.Nothing }
+{
+    match report {
+        HeapReport::Check => ReportRow {
+            word: "check",
+            follows: Follows::Nothing,
+            about: "Prints the version and time of each part, and numbers of facts",
+            help: help::CHECK,
+        },
+        HeapReport::Histogram => ReportRow {
+            word: "histo",
+            follows: Follows::Nothing,
+            about: "Prints the class histogram: the bytes and objects of each class",
+            help: help::HISTO,
+        },
+        HeapReport::Classes => ReportRow {
+            word: "classes",
+            follows: Follows::Nothing,
+            about: "Prints each class, its superclass, and its bytes and objects",
+            help: help::CLASSES,
+        },
+        HeapReport::Threads => ReportRow {
+            word: "threads",
+            follows: Follows::Nothing,
+            about: "Prints each thread, its stack, and the objects that its frames hold",
+            help: help::THREADS,
+        },
+    }
+}
+
+/// Returns the row of a report on a class or an object.
+fn node_row(report: NodeReport) -> ReportRow
+    ensures word { result.word.now ≡ node_word report }
+    ensures follows { result.follows ≡ Follows.Identifier }
+{
+    match report {
+        NodeReport::Show => ReportRow {
+            word: "show",
+            follows: Follows::Identifier,
+            about: "Prints the contents of a class, an instance or an array, decoded",
+            help: help::SHOW,
+        },
+        NodeReport::Why => ReportRow {
+            word: "why",
+            follows: Follows::Identifier,
+            about: "Prints the shortest path of strong references from a GC root, with names",
+            help: help::WHY,
+        },
+        NodeReport::Who => ReportRow {
+            word: "who",
+            follows: Follows::Identifier,
+            about: "Prints each reference to a class or an object, and its roots, with names",
+            help: help::WHO,
+        },
+        NodeReport::Text => ReportRow {
+            word: "text",
+            follows: Follows::Identifier,
+            about: "Prints the text of a string, or of an array of chars or bytes",
+            help: help::TEXT,
+        },
+        NodeReport::Object => ReportRow {
+            word: "object",
+            follows: Follows::Identifier,
+            about: "Prints the contents of a class, an instance or an array",
+            help: help::OBJECT,
+        },
+        NodeReport::Refs => ReportRow {
+            word: "refs",
+            follows: Follows::Identifier,
+            about: "Prints each reference to a class or an object",
+            help: help::REFS,
+        },
+        NodeReport::Path => ReportRow {
+            word: "path",
+            follows: Follows::Identifier,
+            about: "Prints the shortest path from a GC root to a class or an object",
+            help: help::PATH,
+        },
+    }
+}
 
 impl ReportWord {
     /// Returns the row of the report.
@@ -73,60 +150,14 @@ impl ReportWord {
         ensures follows { result.follows ≡ follows_of self }
     {
         match self {
-            ReportWord::Check => ReportRow {
-                word: "check",
-                follows: Follows::Nothing,
-                about: "Prints the version and time of each part, and numbers of facts",
-                help: help::CHECK,
-            },
-            ReportWord::Histogram => ReportRow {
-                word: "histo",
-                follows: Follows::Nothing,
-                about: "Prints the class histogram: the bytes and objects of each class",
-                help: help::HISTO,
-            },
-            ReportWord::Classes => ReportRow {
-                word: "classes",
-                follows: Follows::Nothing,
-                about: "Prints each class, its superclass, and its bytes and objects",
-                help: help::CLASSES,
-            },
-            ReportWord::Object => ReportRow {
-                word: "object",
-                follows: Follows::Identifier,
-                about: "Prints the contents of a class, an instance or an array",
-                help: help::OBJECT,
-            },
-            ReportWord::Refs => ReportRow {
-                word: "refs",
-                follows: Follows::Identifier,
-                about: "Prints each reference to a class or an object",
-                help: help::REFS,
-            },
-            ReportWord::Path => ReportRow {
-                word: "path",
-                follows: Follows::Identifier,
-                about: "Prints the shortest path from a GC root to a class or an object",
-                help: help::PATH,
-            },
-            ReportWord::Text => ReportRow {
-                word: "text",
-                follows: Follows::Identifier,
-                about: "Prints the text of a string, or of an array of chars or bytes",
-                help: help::TEXT,
-            },
-            ReportWord::Why => ReportRow {
-                word: "why",
-                follows: Follows::Identifier,
-                about: "Prints the shortest path from a GC root, with names",
-                help: help::WHY,
-            },
+            ReportWord::Heap(report) => heap_row(report),
             ReportWord::Objects => ReportRow {
                 word: "objects",
                 follows: Follows::ClassOrType,
                 about: "Prints the objects of a class or a type, the largest first",
                 help: help::OBJECTS,
             },
+            ReportWord::Node(report) => node_row(report),
         }
     }
 

@@ -101,15 +101,9 @@ impl ReportWord {
         ensures { MatchResult result (AsksReport self text.now) (IsMisnamed self text.now) }
     {
         Ok(match self {
-            ReportWord::Check => Report::Check,
-            ReportWord::Histogram => Report::Histogram,
-            ReportWord::Classes => Report::Classes,
-            ReportWord::Object => Report::Object(identifier_of(text)?),
-            ReportWord::Refs => Report::Refs(identifier_of(text)?),
-            ReportWord::Path => Report::Path(identifier_of(text)?),
-            ReportWord::Text => Report::Text(identifier_of(text)?),
-            ReportWord::Why => Report::Why(identifier_of(text)?),
+            ReportWord::Heap(report) => Report::Heap(report),
             ReportWord::Objects => Report::Objects(kind_of(text)?),
+            ReportWord::Node(report) => Report::Node(report, identifier_of(text)?),
         })
     }
 }

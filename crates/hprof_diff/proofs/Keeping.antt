@@ -8,7 +8,8 @@ use Rattle.hprof_diff.specs.declared.counted.Counted.{Counted}
 use Rattle.hprof_diff.specs.declared.part.Part.{Part}
 use Rattle.hprof_diff.specs.declared.part.Source.{Source}
 use Rattle.hprof_diff.specs.declared.label_counts.LabelCounts.{LabelCounts}
-use Rattle.hprof_diff.specs.Labels.{AreBareLabels, kind_label}
+use Rattle.hprof_meaning.specs.BareLabels.{AreBareLabels}
+use Rattle.hprof_diff.specs.Labels.{kind_label}
 use Rattle.hprof_diff.specs.Sources.{AreSourceLabels, FitsCounted, IsPart, IsSourceLabel, both, counted_of_row, nothing, parts_under, rows_under, sum_of, sum_of_parts}
 use Rattle.hprof_diff.specs.Kept.{AreKept, kept_in}
 use Rattle.hprof_diff.proofs.Sums.{both_assoc, both_comm, both_nothing, has_it, has_not, if_has, moved_more, nothing_both, room_alone, under_cons, under_fits}

@@ -15,9 +15,11 @@ use Rattle.hprof_diff.specs.declared.part.Source.{Source}
 use Rattle.hprof_diff.specs.declared.label_counts.LabelCounts.{LabelCounts}
 use Rattle.hprof_diff.specs.Counts.{AreTotals}
 use Rattle.hprof_diff.specs.Kept.{AreKept, totals_in}
-use Rattle.hprof_diff.specs.Labels.{AreBareLabels, kind_label}
+use Rattle.hprof_meaning.specs.BareLabels.{AreBareLabels}
+use Rattle.hprof_diff.specs.Labels.{kind_label}
 use Rattle.hprof_diff.specs.Sources.{AreSourceLabels, FitsCounted, counted_of_row, parts_under, rows_under, sum_of, sum_of_parts}
-use Rattle.hprof_diff.specs.LabelTexts.{labels_exist, source_labels_exist}
+use Rattle.hprof_meaning.proofs.LabelTexts.{labels_exist}
+use Rattle.hprof_diff.specs.LabelTexts.{source_labels_exist}
 use Rattle.hprof_diff.proofs.RowSums.{all_rows_fit}
 use Rattle.hprof_diff.proofs.Sums.{sum_of_filter, under_moved}
 

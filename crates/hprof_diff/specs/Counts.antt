@@ -4,7 +4,8 @@ use Rattle.hprof_values.specs.declared.ids.IdSize.{IdSize}
 use Rattle.hprof_items.specs.FactValue.{FactValue}
 use Rattle.hprof_histogram.specs.declared.row.Row.{Row}
 use Rattle.hprof_histogram.specs.Histogram.{IsHistogram}
-use Rattle.hprof_diff.specs.Labels.{AreBareLabels, labelled, count_of_rows, bytes_of_rows}
+use Rattle.hprof_meaning.specs.BareLabels.{AreBareLabels}
+use Rattle.hprof_diff.specs.Labels.{labelled, count_of_rows, bytes_of_rows}
 
 -- how many objects have a label, and how many bytes they have, for every label
 pub record Totals : Type 0 where

@@ -1,38 +1,20 @@
 -- Labels are there, and each is the only one.
-use Rattle.std.proofs.Common.{◌≡◌, inl, inr, ℕ, List, ◌++◌, Option, Some, None, refl, sym, ap, ◌∙◌, codes}
-use Rattle.hprof_text.proofs.Prints.{one_printed}
-use Rattle.hprof_text.proofs.Decided.{printed_exists}
+use Rattle.std.proofs.Common.{◌≡◌, ℕ, List, ◌++◌, refl, sym, ap, ◌∙◌, codes}
 use Rattle.hprof_values.specs.declared.basic.Basic.{Basic}
 use Rattle.hprof_items.specs.FactValue.{FactValue}
 use Rattle.hprof_rows.specs.Conflict.{IsConsistent}
-use Rattle.hprof_heap.proofs.NameFacts.{Lookup, Found, NotFound, look_up, one_name}
 use Rattle.hprof_histogram.specs.declared.row.Kind.{Kind}
 use Rattle.hprof_histogram.specs.declared.row.Kind.TheVariants as kinds
-use Rattle.hprof_naming.proofs.FirstLoads.{class_name_exists, one_class_name}
+use Rattle.hprof_naming.proofs.FirstLoads.{one_class_name}
 use Rattle.hprof_naming.specs.TypeWord.{type_word}
 use Rattle.hprof_diff.specs.declared.part.Source.{Source}
 use Rattle.hprof_diff.specs.declared.part.Source.TheVariants.{Class, Prim}
-use Rattle.hprof_diff.specs.Labels.{AreBareLabels, IsBareLabel, IsBareLabelOf, kind_label}
+use Rattle.hprof_meaning.proofs.LabelTexts.{bare_of_exists, of_that_name, one_bare_of}
+use Rattle.hprof_meaning.specs.BareLabels.{AreBareLabels}
+use Rattle.hprof_diff.specs.Labels.{kind_label}
 use Rattle.hprof_diff.specs.Sources.{AreSourceLabels, IsSource, IsSourceLabel}
 
 -- ---- there is one
-
-named_exists : (facts : List FactValue) (name : ℕ) → Lookup facts name → (text : List ℕ) × IsBareLabelOf facts (Some name) text
-named_exists facts name (Found bytes has) = let form = printed_exists bytes in (form.0, inl (bytes, has, form.1))
-named_exists facts name (NotFound none) = (codes "\\?", inr (none, refl))
-
-bare_of_exists : (facts : List FactValue) (name : Option ℕ) → (text : List ℕ) × IsBareLabelOf facts name text
-bare_of_exists facts None = (codes "\\?", refl)
-bare_of_exists facts (Some name) = named_exists facts name (look_up facts name)
-
-bare_exists : (facts : List FactValue) (class : ℕ) → (text : List ℕ) × IsBareLabel facts class text
-bare_exists facts class =
-    let name = class_name_exists facts class in
-    let label = bare_of_exists facts name.0 in
-    (label.0, (name.0, name.1, label.1))
-
-pub labels_exist : (facts : List FactValue) → (label : ℕ → List ℕ) × AreBareLabels facts label
-labels_exist facts = (λ class. (bare_exists facts class).0, λ class. (bare_exists facts class).1)
 
 source_exists : (facts : List FactValue) (source : Source) → (text : List ℕ) × IsSourceLabel facts source text
 source_exists facts (Class name) = bare_of_exists facts name
@@ -44,27 +26,9 @@ source_labels_exist facts = (λ source. (source_exists facts source).0, λ sourc
 -- ---- and no other
 
 module _ (facts : List FactValue) (agree : IsConsistent facts) where
-  one_bare_of : (name : Option ℕ) (one other : List ℕ) → IsBareLabelOf facts name one → IsBareLabelOf facts name other → one ≡ other
-  one_bare_of None one other is is_too = is ∙ sym is_too
-  one_bare_of (Some name) one other (inl is) (inl is_too) =
-      let same = one_name facts name is.0 is_too.0 agree is.1 is_too.1 in
-      one_printed is_too.0 one other (rw same at is.2) is_too.2
-  one_bare_of (Some name) one other (inl is) (inr none) = absurd (none.0 is.0 is.1)
-  one_bare_of (Some name) one other (inr none) (inl is) = absurd (none.0 is.0 is.1)
-  one_bare_of (Some name) one other (inr none) (inr none_too) = none.1 ∙ sym none_too.1
-
-  -- a label and that of a name that the class has
-  of_that_name : (class : ℕ) (name name_too : Option ℕ) (one other : List ℕ) → name ≡ name_too → IsBareLabelOf facts name one
-      → IsBareLabelOf facts name_too other → one ≡ other
-  of_that_name class name name_too one other same is is_too = one_bare_of name_too one other (rw same at is) is_too
-
-  pub one_bare_label : (class : ℕ) (one other : List ℕ) → IsBareLabel facts class one → IsBareLabel facts class other → one ≡ other
-  one_bare_label class one other is is_too =
-      of_that_name class is.0 is_too.0 one other (one_class_name facts class is.0 is_too.0 agree is.1 is_too.1) is.2 is_too.2
-
   pub one_source_label : (source : Source) (one other : List ℕ) → IsSourceLabel facts source one → IsSourceLabel facts source other
       → one ≡ other
-  one_source_label (Class name) one other is is_too = one_bare_of name one other is is_too
+  one_source_label (Class name) one other is is_too = one_bare_of facts agree name one other is is_too
   one_source_label (Prim elem) one other is is_too = is ∙ sym is_too
 
   -- the label from its source is that of the kind
@@ -72,7 +36,7 @@ module _ (facts : List FactValue) (agree : IsConsistent facts) where
       → (kind : Kind) (source : Source) → IsSource facts kind source → label source ≡ kind_label class_label kind
   label_of_kind label class_label are are_too (kinds.Class class) (Class name) is =
       let has = are_too class in
-      of_that_name class name has.0 (label (Class name)) (class_label class) (one_class_name facts class name has.0 agree is has.1)
+      of_that_name facts agree name has.0 (label (Class name)) (class_label class) (one_class_name facts class name has.0 agree is has.1)
       (are (Class name)) has.2
   label_of_kind label class_label are are_too (kinds.Class class) (Prim elem) is = absurd is
   label_of_kind label class_label are are_too (kinds.Prim elem) (Class name) is = absurd is

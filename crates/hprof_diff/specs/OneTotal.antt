@@ -11,7 +11,7 @@ use Rattle.hprof_histogram.proofs.OneHistogram.{at_most_one}
 use Rattle.hprof_histogram.proofs.SomeHistogram.{at_least_one}
 use Rattle.hprof_diff.specs.Labels.{bytes_of_rows, count_of_rows, kind_label, labelled}
 use Rattle.hprof_diff.specs.Counts.{AreTotals, Totals}
-use Rattle.hprof_diff.specs.LabelTexts.{labels_exist, one_bare_label}
+use Rattle.hprof_meaning.proofs.LabelTexts.{labels_exist, one_bare_label}
 
 pub totals_exist : (ids : IdSize) (facts : List FactValue) → (totals : Totals) × AreTotals ids facts totals
 totals_exist ids facts =

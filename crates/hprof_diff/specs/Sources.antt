@@ -10,7 +10,8 @@ use Rattle.hprof_diff.specs.declared.counted.Counted.{Counted}
 use Rattle.hprof_diff.specs.declared.part.Part.{Part}
 use Rattle.hprof_diff.specs.declared.part.Source.{Source}
 use Rattle.hprof_diff.specs.declared.part.Source.TheVariants.{Class, Prim}
-use Rattle.hprof_diff.specs.Labels.{IsBareLabelOf, kind_label}
+use Rattle.hprof_meaning.specs.BareLabels.{IsBareLabelOf}
+use Rattle.hprof_diff.specs.Labels.{kind_label}
 
 -- no objects
 abbrev pub nothing : Counted

@@ -4,7 +4,7 @@ ghost use Rattle.std.specs.Prelude.{◌≡◌, ℕ, List, IfOk};
 ghost use Rattle.hprof_heap.specs.HeapFacts.{facts_of};
 ghost use Rattle.hprof_naming.specs.ClassNames.{AreClassNames};
 ghost use Rattle.hprof_diff.specs.declared.part.Source.{Source};
-ghost use Rattle.hprof_diff.specs.Labels.{AreBareLabels};
+ghost use Rattle.hprof_meaning.specs.BareLabels.{AreBareLabels};
 ghost use Rattle.hprof_diff.specs.Sources.{AreSourceLabels, IsPart, counted_of_row, parts_under, rows_under, sum_of, sum_of_parts};
 
 use crate::counted::Counted;

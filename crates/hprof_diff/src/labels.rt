@@ -3,35 +3,14 @@
 ghost use Rattle.std.specs.Prelude.{◌≡◌, ◌++◌, IfOk, codes, string_bytes};
 ghost use Rattle.hprof_naming.specs.TypeWord.{type_word};
 ghost use Rattle.hprof_heap.specs.HeapFacts.{facts_of};
-ghost use Rattle.hprof_diff.specs.Labels.{IsBareLabelOf};
 ghost use Rattle.hprof_diff.specs.Sources.{IsSourceLabel};
 
 use crate::part::Source;
-use hprof_heap::{Heap, find_name};
+use hprof_heap::Heap;
+use hprof_meaning::bare_label;
 use hprof_naming::type_word;
-use hprof_text::printed;
 use hprof_values::Basic;
 use std::alloc::{AllocError, Global};
-
-/// Returns the label of a class that has no name.
-fn missing_label(alloc: Global) -> Result<String, AllocError>
-    ensures { IfOk result (λ text. string_bytes text ≡ codes "\\?") }
-{
-    String::from_str(alloc, "\\?")
-}
-
-/// Returns the label of classes with this name: its printed form, or `\?` if there is no name or the heap does not have it.
-fn bare_label(alloc: Global, heap: &Heap, name: Option<u64>) -> Result<String, AllocError>
-    ensures { IfOk result (λ text. IsBareLabelOf (facts_of heap.now) name (string_bytes text)) }
-{
-    let Some(name) = name else {
-        return missing_label(alloc);
-    };
-    match find_name(heap, name) {
-        Some(bytes) => printed(alloc, bytes),
-        None => missing_label(alloc),
-    }
-}
 
 /// Returns the label of arrays of this type.
 fn array_label(alloc: Global, elem: Basic) -> Result<String, AllocError>

@@ -7,3 +7,16 @@ pub mod SomeHeld
 pub mod SomeSerials
 pub mod ThreadTexts
 pub mod SomeThreads
+pub mod LeftOutSteps
+pub mod EdgeNames
+pub mod StepWords
+pub mod RootParts
+pub mod SumOrder
+pub mod Counting
+pub mod SumEntries
+pub mod SomeSums
+pub mod WeakDecided
+pub mod SomeSteps
+pub mod WhoParts
+pub mod SomeWho
+pub mod WhoWords

@@ -1,3 +1,12 @@
+pub mod PlaceLines
+pub mod RootLines
+pub mod RootsText
+pub mod SomeReferrers
+pub mod StackFrames
+pub mod Steps
+pub mod SumCounts
+pub mod Sums
 pub mod ThreadFindings
 pub mod ThreadsText
-pub mod PlaceLines
+pub mod Views
+pub mod WhoText

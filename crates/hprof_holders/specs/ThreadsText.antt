@@ -12,7 +12,7 @@ use Rattle.hprof_threads.specs.Held.{AreHeldBy}
 use Rattle.hprof_threads.specs.Serials.{AreSerials}
 use Rattle.hprof_describe.specs.Findings.{AreFindings, Findings}
 use Rattle.hprof_describe.specs.Nodes.{node_text}
-use Rattle.hprof_reports.specs.RootLines.{frame_words}
+use Rattle.hprof_holders.specs.RootLines.{frame_words}
 use Rattle.hprof_holders.specs.ThreadFindings.{AreThreadFindings, ThreadFindings, frames_of}
 
 -- ---- objects

@@ -10,12 +10,13 @@ ghost use Rattle.hprof_describe.specs.Findings.{AreFindings, Findings};
 ghost use Rattle.hprof_holders.specs.PlaceLines.{new_place_line};
 ghost use Rattle.hprof_holders.specs.ThreadsText.{elsewhere_text, held_line, place_line, same_place};
 
+use crate::root_line::frame_words;
 use hprof_describe::node_text;
 use hprof_devices::Target;
 use hprof_engine::WriteStop;
 use hprof_heap::Heap;
 use hprof_naming::ClassNames;
-use hprof_reports::{frame_words, write_line};
+use hprof_reports::write_line;
 use hprof_threads::{Held, Place};
 use std::alloc::{AllocError, Global};
 

@@ -5,10 +5,18 @@ ghost use Rattle.hprof_values.specs.declared.ids.IdSize.{IdSize};
 ghost use Rattle.hprof_items.specs.FactValue.{FactValue};
 ghost use Rattle.hprof_rows.specs.Conflict.{IsConsistent};
 ghost use Rattle.hprof_holders.specs.ThreadsText.{IsThreadsText};
+ghost use Rattle.hprof_holders.specs.WhoText.{IsWhoText};
 
 /// If facts agree, the report `threads` has exactly one text.
 pub fn one_threads_text()
     ensures exists { (ids : IdSize) (facts : List FactValue) → IsConsistent facts → (text : List ℕ) × IsThreadsText ids facts text }
     ensures once { (ids : IdSize) (facts : List FactValue) (one other : List ℕ) → IsThreadsText ids facts one
         → IsThreadsText ids facts other → one ≡ other }
+{}
+
+/// If facts agree, the report `who` on an identifier has exactly one text.
+pub fn one_who_text()
+    ensures exists { (ids : IdSize) (facts : List FactValue) (id : ℕ) → IsConsistent facts → (text : List ℕ) × IsWhoText ids facts id text }
+    ensures once { (ids : IdSize) (facts : List FactValue) (id : ℕ) (one other : List ℕ) → IsWhoText ids facts id one
+        → IsWhoText ids facts id other → one ≡ other }
 {}

@@ -1,9 +1,19 @@
-//! The report `threads`: what each thread was doing, and which objects its frames hold.
+//! What holds objects: the reports `threads` and `who`, the lines of GC roots with their threads, and references in words.
 #![tactic(auto)]
 
 mod held_lines;
 mod held_rows;
 pub mod laws;
+mod root_line;
+mod root_lines;
+mod steps;
+mod sums;
 mod threads_report;
+mod view;
+mod who_report;
 
+pub use root_lines::write_roots;
+pub use steps::{Step, step_kind, step_of, step_text};
 pub use threads_report::write_threads;
+pub use view::HeapView;
+pub use who_report::write_who;

@@ -1,6 +1,6 @@
 //! The laws of the engine and the reports.
 
-use hprof_ask::{Report, laws as ask_laws};
+use hprof_ask::{HeapReport, Report, laws as ask_laws};
 use hprof_dump::laws as dump101_laws;
 use hprof_engine::{Dump, Dump101};
 use hprof_naming::laws as naming_laws;
@@ -19,7 +19,7 @@ pub fn call_laws() {
     laws::what_is_saved_comes_to_one_thing();
     laws::what_is_saved_stands_before_the_fault();
     laws::one_text_is_made_of_parts(&Dump);
-    laws::one_text_is_made_of_parts(&Report::Check);
+    laws::one_text_is_made_of_parts(&Report::Heap(HeapReport::Check));
     laws::one_text_is_made_of_parts(&Dump101);
     laws::what_comes_to_the_same_is_made_into_the_same(&Dump);
     laws::what_comes_to_the_same_is_made_into_the_same(&Dump101);

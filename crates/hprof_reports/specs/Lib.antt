@@ -21,8 +21,4 @@ pub mod TextReport
 pub mod OneText
 pub mod Skipped
 pub mod PlaceNames
-pub mod RootLines
-pub mod NodeLines
-pub mod StepLines
-pub mod WhyText
-pub mod OneWhy
+pub mod OnePlace

@@ -8,6 +8,8 @@ use Rattle.clap.specs.Lexer.{usize_max}
 use Rattle.clap.specs.Walk.{Rule, is_empty}
 use Rattle.hprof_ask.specs.declared.report_word.Follows.{Follows}
 use Rattle.hprof_ask.specs.declared.report_word.Follows.TheVariants as follow
+use Rattle.hprof_ask.specs.declared.report.HeapReport.TheVariants as heaps
+use Rattle.hprof_ask.specs.declared.report.NodeReport.TheVariants as nodes
 use Rattle.hprof_ask.specs.declared.report_word.ReportWord.TheVariants as words
 use Rattle.hprof_ask.specs.Words.{follows_of}
 use Rattle.hprof_tool.specs.declared.command.NewFile.TheVariants as files
@@ -68,15 +70,17 @@ shape_of_row row = shape_with row.word.now (map (λ argument. argument.name.now)
 -- all commands, in the order of the program's help
 abbrev pub all_commands : List CommandWord
 all_commands =
-    commands.Write files.Dump ∷ commands.Write files.Dump101 ∷ commands.Salvage ∷ commands.Report words.Check
-    ∷ commands.Report words.Histogram ∷ commands.Report words.Classes ∷ commands.Report words.Objects ∷ commands.Compare
-    ∷ commands.Report words.Object ∷ commands.Report words.Path ∷ commands.Report words.Refs ∷ commands.Report words.Text
-    ∷ commands.Report words.Why ∷ commands.Ask ∷ []
+    commands.Write files.Dump ∷ commands.Write files.Dump101 ∷ commands.Salvage ∷ commands.Report (words.Heap heaps.Check)
+    ∷ commands.Report (words.Heap heaps.Histogram) ∷ commands.Report (words.Heap heaps.Classes)
+    ∷ commands.Report (words.Heap heaps.Threads) ∷ commands.Report words.Objects ∷ commands.Compare
+    ∷ commands.Report (words.Node nodes.Show) ∷ commands.Report (words.Node nodes.Why) ∷ commands.Report (words.Node nodes.Who)
+    ∷ commands.Report (words.Node nodes.Text) ∷ commands.Report (words.Node nodes.Object) ∷ commands.Report (words.Node nodes.Refs)
+    ∷ commands.Report (words.Node nodes.Path) ∷ commands.Ask ∷ []
 
 -- the program with these commands
 abbrev pub command_line_with : List CommandWord → App
 command_line_with some = record {
-  top = record (new_shape (codes "hprof")) { is_leaf = is_empty some; has_version = true; disable_help_subcommand = true };
+  top = record (new_shape (codes "hprof")) { is_leaf = is_empty some; has_version = true };
   subs = map shape_of_command some;
 }
 

@@ -189,8 +189,7 @@ fn command<'a>(alloc: Global) -> Result<Command<'a>, AllocError>
     let mut program = Command::new(alloc, "hprof")
         .version(help::VERSION)
         .about("Reads Java heap dumps, answers questions about them, and joins them")
-        .after_help(help::PROGRAM)
-        .disable_help_subcommand(true);
+        .after_help(help::PROGRAM);
     for command in &COMMANDS {
         program = with_subcommand(alloc, program, &command.row())?;
     }

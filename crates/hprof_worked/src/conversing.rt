@@ -8,7 +8,7 @@ use crate::engine::{Answer, Call, Given, Ways, made, plain, text_of_fault};
 use crate::outcome::Outcome;
 use crate::streams::{Reader, Writer};
 use crate::trouble::Trouble;
-use hprof_ask::{AskFault, DialogueStop, Report, ask_to};
+use hprof_ask::{AskFault, DialogueStop, Report, ReportWord, ask_to};
 use hprof_devices::Device;
 use hprof_engine::ToolFault;
 use hprof_histogram::Kind;
@@ -31,19 +31,19 @@ fn text_of_asking(alloc: Global, fault: AskFault) -> Result<String, AllocError> 
 /// Returns the line that asks for a report.
 fn question_of(alloc: Global, report: Report) -> Result<String, AllocError> {
     match report {
-        Report::Check => String::from_str(alloc, "check\n"),
-        Report::Histogram => String::from_str(alloc, "histo\n"),
-        Report::Classes => String::from_str(alloc, "classes\n"),
+        Report::Heap(report) => {
+            let word = ReportWord::Heap(report).row().word;
+            format!(in alloc; "{word}\n")
+        }
         Report::Objects(Kind::Class(class)) => format!(in alloc; "objects {class:x}\n"),
         Report::Objects(Kind::Prim(elem)) => {
             let word = type_word(elem);
             format!(in alloc; "objects {word}[]\n")
         }
-        Report::Object(id) => format!(in alloc; "object {id:x}\n"),
-        Report::Path(id) => format!(in alloc; "path {id:x}\n"),
-        Report::Refs(id) => format!(in alloc; "refs {id:x}\n"),
-        Report::Text(id) => format!(in alloc; "text {id:x}\n"),
-        Report::Why(id) => format!(in alloc; "why {id:x}\n"),
+        Report::Node(report, id) => {
+            let word = ReportWord::Node(report).row().word;
+            format!(in alloc; "{word} {id:x}\n")
+        }
     }
 }
 

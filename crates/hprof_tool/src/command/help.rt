@@ -33,8 +33,8 @@ OLD, with its sign. What grew by the most bytes comes first, then by the most
 objects, then by name. A class or type without a difference has no line.
 
     $ hprof diff monday.hprof friday.hprof | sed -n 1,2p
-    +306 +18 byte[]
-    +192 +6 shop/Session
+    +330 +22 byte[]
+    +224 +16 java/lang/String
 
 Identifiers change from dump to dump, so classes are told by name: classes of
 one name are counted together, and those without a name are \\?. Bytes are the

@@ -6,7 +6,7 @@ ghost use Rattle.hprof_tool.specs.CommandLine.{arguments_of, shape_of_command, s
 ghost use Rattle.hprof_tool.specs.Commands.{command_word};
 
 use super::{NewFile, help};
-use hprof_ask::{Follows, ReportWord};
+use hprof_ask::{Follows, HeapReport, NodeReport, ReportWord};
 
 /// An argument that a command must be given.
 #[derive(Clone, Copy)]
@@ -80,20 +80,23 @@ pub(crate) struct CommandRow {
 }
 
 /// All commands, in the order in which the program's help lists them.
-pub(crate) const COMMANDS: [CommandWord; 14] = [
+pub(crate) const COMMANDS: [CommandWord; 17] = [
     CommandWord::Write(NewFile::Dump),
     CommandWord::Write(NewFile::Dump101),
     CommandWord::Salvage,
-    CommandWord::Report(ReportWord::Check),
-    CommandWord::Report(ReportWord::Histogram),
-    CommandWord::Report(ReportWord::Classes),
+    CommandWord::Report(ReportWord::Heap(HeapReport::Check)),
+    CommandWord::Report(ReportWord::Heap(HeapReport::Histogram)),
+    CommandWord::Report(ReportWord::Heap(HeapReport::Classes)),
+    CommandWord::Report(ReportWord::Heap(HeapReport::Threads)),
     CommandWord::Report(ReportWord::Objects),
     CommandWord::Compare,
-    CommandWord::Report(ReportWord::Object),
-    CommandWord::Report(ReportWord::Path),
-    CommandWord::Report(ReportWord::Refs),
-    CommandWord::Report(ReportWord::Text),
-    CommandWord::Report(ReportWord::Why),
+    CommandWord::Report(ReportWord::Node(NodeReport::Show)),
+    CommandWord::Report(ReportWord::Node(NodeReport::Why)),
+    CommandWord::Report(ReportWord::Node(NodeReport::Who)),
+    CommandWord::Report(ReportWord::Node(NodeReport::Text)),
+    CommandWord::Report(ReportWord::Node(NodeReport::Object)),
+    CommandWord::Report(ReportWord::Node(NodeReport::Refs)),
+    CommandWord::Report(ReportWord::Node(NodeReport::Path)),
     CommandWord::Ask,
 ];
 

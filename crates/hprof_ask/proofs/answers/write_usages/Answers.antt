@@ -1,5 +1,6 @@
 use Rattle.std.proofs.lemmas.Result.{err_from_is_err_and}
-use Rattle.hprof_ask.specs.declared.report_word.ReportWord.TheVariants.{Check}
+use Rattle.hprof_ask.specs.declared.report.HeapReport.TheVariants.{Check}
+use Rattle.hprof_ask.specs.declared.report_word.ReportWord.TheVariants.{Heap}
 use Rattle.hprof_ask.specs.Words.{all_words, usage_line}
 use Rattle.hprof_reports.proofs.Slices.{slice_more, slice_all}
 use Rattle.hprof_ask.proofs.Usages.{usage_stops}
@@ -15,7 +16,7 @@ returns-in_err-write_usage-clause-bytes g c =
 pub loop-word-preserved : goal.loop-word-preserved
 loop-word-preserved g c = record {
   wrote = slice_more usage_line (g.W.Target.written c.args.target.now) (g.W.Target.written c.loop-word.target)
-      (g.W.Target.written c.write_usage.new.target) all_words c.loop-word.word-index Check c.loop-word-test.true c.loop-word.invariant.wrote
+      (g.W.Target.written c.write_usage.new.target) all_words c.loop-word.word-index (Heap Check) c.loop-word-test.true c.loop-word.invariant.wrote
       c.in_ok-write_usage.ensures.bytes;
   well = c.in_ok-write_usage.ensures.health;
 }

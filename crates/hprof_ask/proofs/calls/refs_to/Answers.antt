@@ -9,6 +9,7 @@ use Rattle.hprof_engine.proofs.Making.{refused, ended}
 use Rattle.hprof_graph.specs.Indexed.{indexed_heap}
 use Rattle.hprof_reports.specs.Line.{text_of_lines}
 use Rattle.hprof_reports.specs.RefsText.{edge_line}
+use Rattle.hprof_ask.specs.declared.report.NodeReport.TheVariants as nodes
 use Rattle.hprof_ask.specs.declared.report.Report.TheVariants as reports
 use Rattle.hprof_ask.specs.Report.{IsReportText, TakesRoom, report_making}
 use Rattle.hprof_ask.proofs.Ends.{text_ends}
@@ -24,7 +25,7 @@ pub returns-in-Ok-write_refs : goal.returns-in-Ok-write_refs
 unfolding facts_of size_of
 returns-in-Ok-write_refs g c =
     let e = c.in-Ok.ensures in
-    let report = reports.Refs c.args.id in
+    let report = reports.Node nodes.Refs c.args.id in
     let heap = indexed_heap c.in-Ok.found in
     let edges = c.referrers.result.now in
     let r : Result (Unit {0}) WriteStop = Ok c.in-Ok-write_refs.field-0 in
@@ -43,7 +44,7 @@ pub returns : goal.returns
 unfolding facts_of size_of
 returns g c =
     let e = c.in-Ok.ensures in
-    let report = reports.Refs c.args.id in
+    let report = reports.Node nodes.Refs c.args.id in
     let heap = indexed_heap c.in-Ok.found in
     let edges = c.referrers.result.now in
     let r : Result (Unit {0}) WriteStop = Err c.in-Err-write_refs.stop in

@@ -1,0 +1,112 @@
+//! The classes of a heap.
+
+ghost use Rattle.std.specs.Prelude.{◌≡◌, ◌++◌, ◌↔◌, Contains, ℕ, IfOk, OnOk, flat_map};
+ghost use Rattle.std.specs.List.Sorted.{IsStrictlyIncreasing};
+ghost use Rattle.hprof_items.specs.FactValue.{value_of};
+ghost use Rattle.hprof_rows.specs.declared.table.Table.TheVariants as tables;
+ghost use Rattle.hprof_rows.specs.Tables.{facts_of_table};
+ghost use Rattle.hprof_heap.specs.HeapFacts.{facts_of};
+ghost use Rattle.hprof_meaning.specs.MeantClasses.{AreAll, IsClass, IsDumped};
+ghost use Rattle.hprof_meaning.specs.Stated.{class_dumped, class_loaded, class_of_row};
+
+use hprof_heap::{Heap, Table, table_facts};
+use hprof_histogram::{Kind, Row, histogram};
+use hprof_items::Fact;
+use std::alloc::{AllocError, Global};
+
+/// Appends the class whose objects a row counts, if they are of a class.
+fn push_of_row(classes: &mut Vec<u64>, row: &Row) -> Result<(), AllocError>
+    ensures { OnOk result (classes.new.items ≡ classes.old.items ++ class_of_row row.now) }
+{
+    if let Kind::Class(class) = row.kind {
+        classes.push(class)?;
+    }
+    Ok(())
+}
+
+/// Appends the classes whose objects the rows count.
+fn push_of_rows(classes: &mut Vec<u64>, rows: &[Row]) -> Result<(), AllocError>
+    ensures { OnOk result (classes.new.items ≡ classes.old.items ++ flat_map class_of_row rows.now) }
+{
+    let mut rest = rows;
+    while let Some((row, after)) = rest.split_first() {
+        push_of_row(classes, row)?;
+        rest = after;
+    }
+    Ok(())
+}
+
+/// Appends the class of a load.
+fn push_loaded(classes: &mut Vec<u64>, fact: &Fact<'_>) -> Result<(), AllocError>
+    ensures { OnOk result (classes.new.items ≡ classes.old.items ++ class_loaded (value_of fact.now)) }
+{
+    if let Fact::Load { class, .. } = *fact {
+        classes.push(class)?;
+    }
+    Ok(())
+}
+
+/// Appends the classes of all loads of a heap.
+fn push_loads(classes: &mut Vec<u64>, heap: &Heap) -> Result<(), AllocError>
+    ensures { OnOk result (classes.new.items
+        ≡ classes.old.items ++ flat_map class_loaded (facts_of_table tables.Loads (facts_of heap.now))) }
+{
+    for fact in table_facts(heap, Table::Loads) {
+        push_loaded(classes, &fact)?;
+    }
+    Ok(())
+}
+
+/// Appends the class of a class dump.
+fn push_dumped(classes: &mut Vec<u64>, fact: &Fact<'_>) -> Result<(), AllocError>
+    ensures { OnOk result (classes.new.items ≡ classes.old.items ++ class_dumped (value_of fact.now)) }
+{
+    if let Fact::Class { id, .. } = *fact {
+        classes.push(id)?;
+    }
+    Ok(())
+}
+
+/// Appends the classes of all class dumps of a heap.
+fn push_dumps(classes: &mut Vec<u64>, heap: &Heap) -> Result<(), AllocError>
+    ensures { OnOk result (classes.new.items
+        ≡ classes.old.items ++ flat_map class_dumped (facts_of_table tables.Classes (facts_of heap.now))) }
+{
+    for fact in table_facts(heap, Table::Classes) {
+        push_dumped(classes, &fact)?;
+    }
+    Ok(())
+}
+
+/// Sorts classes, and removes repetitions.
+fn sort_classes(classes: &mut Vec<u64>)
+    ensures ascend { IsStrictlyIncreasing classes.new.items }
+    ensures same { (class : ℕ) → Contains classes.new.items class ↔ Contains classes.old.items class }
+{
+    classes.sort_unstable();
+    classes.dedup();
+}
+
+/// Returns the identifiers of all classes, ascending, each once: those of class dumps, of loads, and of instances and arrays of objects. If
+/// memory runs out, the answer is `AllocError`.
+pub(crate) fn all_classes(alloc: Global, heap: &Heap) -> Result<Vec<u64>, AllocError>
+    ensures { IfOk result (λ classes. AreAll (IsClass (facts_of heap.now)) classes.items) }
+{
+    let rows = histogram(alloc, heap)?;
+    let mut classes = Vec::new(alloc);
+    push_of_rows(&mut classes, &rows)?;
+    push_loads(&mut classes, heap)?;
+    push_dumps(&mut classes, heap)?;
+    sort_classes(&mut classes);
+    Ok(classes)
+}
+
+/// Returns the identifiers of all class dumps, ascending, each once. If memory runs out, the answer is `AllocError`.
+pub(crate) fn dumped_classes(alloc: Global, heap: &Heap) -> Result<Vec<u64>, AllocError>
+    ensures { IfOk result (λ classes. AreAll (IsDumped (facts_of heap.now)) classes.items) }
+{
+    let mut classes = Vec::new(alloc);
+    push_dumps(&mut classes, heap)?;
+    sort_classes(&mut classes);
+    Ok(classes)
+}

@@ -1,0 +1,5 @@
+pub mod Folding
+pub mod WhyText
+pub mod Kinds
+pub mod Walks
+pub mod Paths

@@ -1,0 +1,13 @@
+//! The report `why`: a shortest path of strong references, told with names, threads and frames, and folded where it is monotonous.
+#![tactic(auto)]
+
+mod alike;
+mod fronts;
+pub mod laws;
+mod parts;
+mod path;
+mod told_path;
+mod walk;
+mod why_report;
+
+pub use why_report::write_why;
