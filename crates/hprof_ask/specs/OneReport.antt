@@ -13,7 +13,7 @@ use Rattle.hprof_reports.specs.OneObjects.{one_objects_text}
 use Rattle.hprof_reports.specs.OneText.{one_text_line}
 use Rattle.hprof_show.proofs.OneReport.{one_show_text}
 use Rattle.hprof_holders.proofs.SomeThreads.{text_once as threads_once}
-use Rattle.hprof_holders.proofs.OneWho.{one_who_text}
+use Rattle.hprof_holders.proofs.SomeWho.{who_once}
 use Rattle.hprof_why.proofs.OneWhy.{one_why_text}
 use Rattle.hprof_ask.specs.declared.report.HeapReport.{HeapReport}
 use Rattle.hprof_ask.specs.declared.report.HeapReport.TheVariants as heaps
@@ -35,7 +35,7 @@ module _ (summaries : List PartSummary) (ids : IdSize) (facts : List FactValue) 
       → IsNodeReport ids facts report id other → one ≡ other
   one_node_report nodes.Show id = one_show_text ids facts id
   one_node_report nodes.Why id = one_why_text ids facts id
-  one_node_report nodes.Who id = one_who_text ids facts id
+  one_node_report nodes.Who id = λ one other are too. who_once ids facts are.agree id one other are too
   one_node_report nodes.Text id = one_text_line ids facts id
   one_node_report nodes.Object id = one_object ids facts id
   one_node_report nodes.Refs id = one_refs ids facts id

@@ -24,7 +24,7 @@ use Rattle.hprof_reports.specs.TextReport.{IsTextLine, text_line}
 use Rattle.hprof_reports.proofs.ClassLists.{some_dumps}
 use Rattle.hprof_show.proofs.OneReport.{some_show}
 use Rattle.hprof_holders.proofs.SomeThreads.{text_exists as some_threads}
-use Rattle.hprof_holders.proofs.OneWho.{some_who}
+use Rattle.hprof_holders.proofs.SomeWho.{who_exists}
 use Rattle.hprof_why.proofs.OneWhy.{some_why}
 use Rattle.hprof_ask.specs.declared.report.HeapReport.{HeapReport}
 use Rattle.hprof_ask.specs.declared.report.HeapReport.TheVariants as heaps
@@ -106,7 +106,7 @@ module _ (ids : IdSize) (facts : List FactValue) (agree : IsConsistent facts) wh
   some_node_report : (report : NodeReport) (id : ℕ) → (text : List ℕ) × IsNodeReport ids facts report id text
   some_node_report nodes.Show id = some_show ids facts id agree
   some_node_report nodes.Why id = some_why ids facts id agree
-  some_node_report nodes.Who id = some_who ids facts id agree
+  some_node_report nodes.Who id = who_exists ids facts agree id
   some_node_report nodes.Text id = some_text id
   some_node_report nodes.Object id = some_object id
   some_node_report nodes.Refs id = some_refs id
