@@ -87,15 +87,15 @@ module _ (IsAnswer : Question → List ℕ → Type 0) {Q W : Type 0} (left : Q 
           → EndsDialogue IsAnswer left asking pulls written well was next before after r
       ends_quit then after r all keeps asks health =
           by r (lines_still IsAnswer AreLinesToQuit (so_far.bytes ++ piece) (written before) (written then) (written after) keeps all) health where
-        by : (r : Result (Unit {0}) DialogueStop)
-            → AnswersLines IsAnswer AreLinesToQuit (so_far.bytes ++ piece) (written before) (written after)
-            → LeavesWriter r (well after) → EndsDialogue IsAnswer left asking pulls written well was next before after r
-        by (Ok done) all health = (inr (record { bytes = so_far.bytes ++ piece; consumed = came_more; holds = all }), asks, health)
-        by (Err stop) all health = ends_some next after stop (record {
-          bytes = so_far.bytes ++ piece;
-          consumed = came_more;
-          holds = inl (quit_taken IsAnswer (IsAtEnd (left next)) (so_far.bytes ++ piece) (written before) (written after) all);
-        }) asks health
+            by : (r : Result (Unit {0}) DialogueStop)
+                → AnswersLines IsAnswer AreLinesToQuit (so_far.bytes ++ piece) (written before) (written after)
+                → LeavesWriter r (well after) → EndsDialogue IsAnswer left asking pulls written well was next before after r
+            by (Ok done) all health = (inr (record { bytes = so_far.bytes ++ piece; consumed = came_more; holds = all }), asks, health)
+            by (Err stop) all health = ends_some next after stop (record {
+              bytes = so_far.bytes ++ piece;
+              consumed = came_more;
+              holds = inl (quit_taken IsAnswer (IsAtEnd (left next)) (so_far.bytes ++ piece) (written before) (written after) all);
+            }) asks health
 
     -- nothing more comes
     pub ends_all : (next : Q) (after : W) (r : Result (Unit {0}) DialogueStop) → Consumes (left is) (left next) [] → IsAtEnd (left next)

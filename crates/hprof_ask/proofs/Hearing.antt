@@ -39,8 +39,8 @@ module _ (IsAnswer : Question → List ℕ → Type 0) where
   )
 
   -- the answer to one line more
-  answers_more : (lines : List (List ℕ)) (line text answer : List ℕ) → NoneQuits lines → (Quits line → ⊥) → AreAnswers IsAnswer lines text
-      → IsLineAnswer IsAnswer line answer → AreAnswers IsAnswer (lines ++ line ∷ []) (text ++ answer)
+  answers_more : (lines : List (List ℕ)) (line text answer : List ℕ) → NoneQuits lines → (Quits line → ⊥)
+      → AreAnswers IsAnswer lines text → IsLineAnswer IsAnswer line answer → AreAnswers IsAnswer (lines ++ line ∷ []) (text ++ answer)
   answers_more lines line text answer none no_quit are is =
       answers_then lines (line ∷ []) text answer none are (inr (no_quit, answer, [], is, refl, sym (append-nil answer)))
 
@@ -81,7 +81,8 @@ module _ (IsAnswer : Question → List ℕ → Type 0) where
     }
 
     -- a line ended, and was taken
-    module _ (question : Question) (asks : (before line : List ℕ) → kept ≡ take 4098 before → IsBeforeFeed before line → Asks line question) where
+    module _ (question : Question)
+        (asks : (before line : List ℕ) → kept ≡ take 4098 before → IsBeforeFeed before line → Asks line question) where
       abbrev ended : List ℕ
       ended = (line_before heard.rest).0
 
@@ -102,8 +103,8 @@ module _ (IsAnswer : Question → List ℕ → Type 0) where
         no_feed = tt;
         kept_is = empty;
         text = heard.text ++ answer;
-        are_answers = answers_more heard.lines ended heard.text answer heard.none (no_quit ended question ended_asks other) heard.are_answers
-            (record { question = question; asks = ended_asks; is = is });
+        are_answers = answers_more heard.lines ended heard.text answer heard.none (no_quit ended question ended_asks other)
+            heard.are_answers (record { question = question; asks = ended_asks; is = is });
         appended = Appends-trans start now new heard.text answer heard.appended appends;
       }
 

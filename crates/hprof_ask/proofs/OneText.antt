@@ -20,10 +20,10 @@ module _ (IsAnswer : Question → List ℕ → Type 0)
   answers_once (line ∷ lines) one other (inl (quits, e)) (inl (quits_too, e_too)) = e ∙ sym e_too
   answers_once (line ∷ lines) one other (inl (quits, e)) (inr are_too) = absurd (are_too.0 quits)
   answers_once (line ∷ lines) one other (inr are) (inl (quits, e)) = absurd (are.0 quits)
-  answers_once (line ∷ lines) one other (inr (goes_on, answer, rest, is, are, e)) (inr (goes_on_too, answer_too, rest_too, is_too, are_too, e_too)) =
-      let first = line_answer_once line answer answer_too is is_too in
-      let later = answers_once lines rest rest_too are are_too in
-      e ∙ (λ i. first i ++ later i) ∙ sym e_too
+  answers_once (line ∷ lines) one other (inr (goes_on, answer, rest, is, are, e)) (inr too) =
+      let first = line_answer_once line answer too.1 is too.3 in
+      let later = answers_once lines rest too.2 are too.4 in
+      e ∙ (λ i. first i ++ later i) ∙ sym too.5
 
 -- the answers to two lists of lines are those to the one, of which none ends the dialogue, and then those to the other
 pub answers_split : (IsAnswer : Question → List ℕ → Type 0) (lines more : List (List ℕ)) (text : List ℕ) → NoneQuits lines

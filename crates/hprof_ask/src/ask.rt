@@ -28,7 +28,7 @@ pub fn ask_kept<R: Source, Q: Asker<W>, W: Flush>(
     requires readers { All (λ reader. R.health reader ≡ Well) readers.old }
     requires asking { Q.health questions.old ≡ Well }
     requires writer { W.health target.old ≡ Well }
-    // No more is read before all lines that ended are answered, and the answers were flushed, and none behind a line that ends the dialogue.
+    // No more is read before all lines that ended are answered, and the answers were flushed, nor behind a line that ends the dialogue.
     requires leave { LetsAsk R.left Q.left W.written W.flushed Q.may_read readers.old questions.old (W.written target.old) }
     ensures asks { Asks R.left R.health R.pulls Q.left Q.health Q.pulls W.written W.health limits readers.old readers.new
         questions.old questions.new target.old target.new (fault_of_asking result) }
@@ -80,7 +80,7 @@ pub fn ask_to<R: Source, Q: Asker<W>, W: Flush>(
     requires readers { All (λ reader. R.health reader ≡ Well) readers.old }
     requires asking { Q.health questions.old ≡ Well }
     requires writer { W.health target.old ≡ Well }
-    // No more is read before all lines that ended are answered, and the answers were flushed, and none behind a line that ends the dialogue.
+    // No more is read before all lines that ended are answered, and the answers were flushed, nor behind a line that ends the dialogue.
     requires leave { LetsAsk R.left Q.left W.written W.flushed Q.may_read readers.old questions.old (W.written target.old) }
     ensures asks { Asks R.left R.health R.pulls Q.left Q.health Q.pulls W.written W.health limits readers.old readers.new
         questions.old questions.new target.old target.new (fault_of_asking result) }

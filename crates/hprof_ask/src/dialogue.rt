@@ -120,7 +120,13 @@ fn go_over<A: Answers, W: Target>(
 {
     for byte in piece {
         if *byte == b'\n' {
-            if let Course::Ended = take_question(alloc, answers, kept, ended_question(line), target)? {
+            if let Course::Ended = take_question(
+                alloc,
+                answers,
+                kept,
+                ended_question(line),
+                target,
+            )? {
                 return Ok(Course::Ended);
             }
             line.clear();
@@ -264,7 +270,7 @@ pub fn converse<A: Answers, Q: Asker<W>, W: Flush>(
     requires asking { Q.health questions.old ≡ Well }
     requires well { W.health target.old ≡ Well }
     requires kept { A.keeps answers.now kept.old }
-    // No more is read before all lines that ended are answered, and the answers were flushed, and none behind a line that ends the dialogue.
+    // No more is read before all lines that ended are answered, and the answers were flushed, nor behind a line that ends the dialogue.
     requires leave { LetsReadOn (A.is_answer answers.now) Q.left W.written W.flushed Q.may_read questions.old (W.written target.old) }
     ensures dialogue { EndsDialogue (A.is_answer answers.now) Q.left Q.health Q.pulls W.written W.health
         questions.old questions.new target.old target.new result }

@@ -38,8 +38,8 @@ pub fn answers_over_a_heap_are_one_text()
         → NoneQuits lines → AreAnswers (IsHeapAnswer summaries ids facts) (lines ++ more) text
         ↔ ((first : List ℕ) × (then : List ℕ) × AreAnswers (IsHeapAnswer summaries ids facts) lines first
         × AreAnswers (IsHeapAnswer summaries ids facts) more then × (text ≡ first ++ then)) }
-    ensures behind { (summaries : List PartSummary) (ids : IdSize) (facts : List FactValue) (lines more : List (List ℕ)) (last text : List ℕ)
-        → Quits last → AreAnswers (IsHeapAnswer summaries ids facts) (lines ++ last ∷ more) text
+    ensures behind { (summaries : List PartSummary) (ids : IdSize) (facts : List FactValue) (lines more : List (List ℕ))
+        (last text : List ℕ) → Quits last → AreAnswers (IsHeapAnswer summaries ids facts) (lines ++ last ∷ more) text
         ↔ AreAnswers (IsHeapAnswer summaries ids facts) lines text }
 {}
 
@@ -52,8 +52,9 @@ pub fn answers_over_parts_are_one_text()
         → AreAnswersOfParts lines parts other → one ≡ other }
 {}
 
-/// Bytes have one list of lines. Behind bytes whose last line ends with a line feed the lines of more bytes follow.
+/// Bytes have one list of lines, and no other. Behind bytes whose last line ends with a line feed the lines of more bytes follow.
 pub fn bytes_have_one_list_of_lines()
+    ensures some { (bytes : List ℕ) → (lines : List (List ℕ)) × AreLines bytes lines }
     ensures one { (bytes : List ℕ) (one other : List (List ℕ)) → AreLines bytes one → AreLines bytes other → one ≡ other }
     ensures more { (bytes more : List ℕ) (lines others : List (List ℕ)) → AreFirstLines bytes lines [] → AreLines more others
         → AreLines (bytes ++ more) (lines ++ others) }
@@ -65,8 +66,8 @@ pub fn a_line_asks_one_thing()
     ensures one { (line : List ℕ) (one other : Question) → Asks line one → Asks line other → one ≡ other }
 {}
 
-/// The answers to lines are one text, and there is one. To ask two lists of lines one after the other is to ask them together, unless one of
-/// the first lines ends the dialogue: no answer depends on a question before. What stands behind a line that ends the dialogue is not
+/// The answers to lines are one text, and there is one. To ask two lists of lines one after the other is to ask them together, unless one
+/// of the first lines ends the dialogue: no answer depends on a question before. What stands behind a line that ends the dialogue is not
 /// answered.
 pub fn answers_are_one_text<A: Answers>(answers: &A)
     ensures some { (lines : List (List ℕ)) → (text : List ℕ) × AreAnswers (A.is_answer answers.now) lines text }

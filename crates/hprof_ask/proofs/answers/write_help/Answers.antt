@@ -14,12 +14,13 @@ returns-in_err-write_str-clause-bytes g c =
 pub returns-in_err-write_usages-clause-bytes : goal.returns-in_err-write_usages-clause-bytes
 returns-in_err-write_usages-clause-bytes g c =
     let reports = flat_map usage_line all_words in
-    let p = err_from_is_err_and c.from_residual-in_err-write_usages.result c.from_residual-in_err-write_usages.ensures.1 in
+    let e = c.from_residual-in_err-write_usages in
+    let p = err_from_is_err_and e.result e.ensures.1 in
     let mid = g.W.Target.written c.write_str.new.target in
     let new = g.W.Target.written c.write_usages.new.target in
-    text_then c.from_residual-in_err-write_usages.result (g.W.Target.written c.args.target.now) mid new (codes "help\n") (reports ++ codes "quit\nexit\n")
+    text_then e.result (g.W.Target.written c.args.target.now) mid new (codes "help\n") (reports ++ codes "quit\nexit\n")
     c.in_ok-write_str.ensures.bytes
-    (text_stops c.from_residual-in_err-write_usages.result mid new p.0 reports (codes "quit\nexit\n") p.1 c.in_err-write_usages.ensures.bytes)
+    (text_stops e.result mid new p.0 reports (codes "quit\nexit\n") p.1 c.in_err-write_usages.ensures.bytes)
 
 pub returns-clause-bytes : goal.returns-clause-bytes
 returns-clause-bytes g c =

@@ -72,8 +72,8 @@ loop-byte-preserved g c =
       | then-byte-eq10+in_ok-take_question+in_default w ↦ record {
         heard = λ bytes start is.
             let taken : TakesQuestion IA w.ended_question.result old (g.W.Target.written w.take_question.new.target) (Ok Open) =
-            subst (λ (course : Course). TakesQuestion IA w.ended_question.result old (g.W.Target.written w.take_question.new.target) (Ok course))
-            (is_open w.in_ok-take_question.field-0 w.in_default.not-Ended) w.in_ok-take_question.ensures.takes in
+            subst (λ (course : Course). TakesQuestion IA w.ended_question.result old (g.W.Target.written w.take_question.new.target)
+            (Ok course)) (is_open w.in_ok-take_question.field-0 w.in_default.not-Ended) w.in_ok-take_question.ensures.takes in
             subst (λ (l : List ℕ). Heard IA l start (g.W.Target.written c.if-byte-eq10.target) c.if-byte-eq10.line.items)
             (more_at bytes piece place 10 c.loop-byte-test.true w.if-byte-eq10.true)
             (rw (w.target-is, w.line-is) (heard_line IA (bytes ++ take place piece) start old c.loop-byte.line.items
