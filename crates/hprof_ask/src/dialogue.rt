@@ -120,13 +120,8 @@ fn go_over<A: Answers, W: Target>(
 {
     for byte in piece {
         if *byte == b'\n' {
-            if let Course::Ended = take_question(
-                alloc,
-                answers,
-                kept,
-                ended_question(line),
-                target,
-            )? {
+            let question = ended_question(line);
+            if let Course::Ended = take_question(alloc, answers, kept, question, target)? {
                 return Ok(Course::Ended);
             }
             line.clear();

@@ -36,8 +36,8 @@ returns-in_err-take_question-clause-bytes g c = λ bytes start heard.
     let p = err_from_is_err_and c.from_residual.result c.from_residual.ensures.1 in
     let new = g.W.Target.written c.take_question.new.target in
     let stops = heard_stop IA (bytes ++ take place piece) start (g.W.Target.written c.loop-byte.target) c.loop-byte.line.items
-    (c.loop-byte.invariant.heard bytes start heard) c.ended_question.result
-    (λ before line is is_line. c.ended_question.ensures before line (c.deref.ensures.value ∙ is) is_line)
+    (c.loop-byte.invariant.heard bytes start heard) c.ended_question-question.result
+    (λ before line is is_line. c.ended_question-question.ensures before line (c.deref.ensures.value ∙ is) is_line)
     (drop (place + 1) piece) new c.in_err-take_question.field-0.0 c.in_err-take_question.ensures.takes in
     rw p.1 (inr (subst (λ (l : List ℕ). AnswersFront IA ⊥ l start new)
     (split_at bytes piece place 10 c.loop-byte-test.true c.if-byte-eq10.true) stops))
@@ -50,11 +50,11 @@ returns-in-Ended-clause-bytes g c = λ bytes start heard.
     let place = c.loop-byte.byte-index in
     let new = g.W.Target.written c.take_question.new.target in
     let old = g.W.Target.written c.loop-byte.target in
-    let ended : TakesQuestion IA c.ended_question.result old new (Ok Ended) = rw c.in-Ended.is at c.in_ok-take_question.ensures.takes in
+    let ended : TakesQuestion IA c.ended_question-question.result old new (Ok Ended) = rw c.in-Ended.is at c.in_ok-take_question.ensures.takes in
     subst (λ (l : List ℕ). AnswersLines IA AreLinesToQuit l start new)
     (split_at bytes piece place 10 c.loop-byte-test.true c.if-byte-eq10.true)
     (heard_quit IA (bytes ++ take place piece) start old c.loop-byte.line.items (c.loop-byte.invariant.heard bytes start heard)
-    c.ended_question.result (λ before line is is_line. c.ended_question.ensures before line (c.deref.ensures.value ∙ is) is_line)
+    c.ended_question-question.result (λ before line is is_line. c.ended_question-question.ensures before line (c.deref.ensures.value ∙ is) is_line)
     (drop (place + 1) piece) new ended)
 
 -- a line was taken, and did not
@@ -71,14 +71,14 @@ loop-byte-preserved g c =
     elim c.if-byte-eq10.branch [
       | then-byte-eq10+in_ok-take_question+in_default w ↦ record {
         heard = λ bytes start is.
-            let taken : TakesQuestion IA w.ended_question.result old (g.W.Target.written w.take_question.new.target) (Ok Open) =
-            subst (λ (course : Course). TakesQuestion IA w.ended_question.result old (g.W.Target.written w.take_question.new.target)
+            let taken : TakesQuestion IA w.ended_question-question.result old (g.W.Target.written w.take_question.new.target) (Ok Open) =
+            subst (λ (course : Course). TakesQuestion IA w.ended_question-question.result old (g.W.Target.written w.take_question.new.target)
             (Ok course)) (is_open w.in_ok-take_question.field-0 w.in_default.not-Ended) w.in_ok-take_question.ensures.takes in
             subst (λ (l : List ℕ). Heard IA l start (g.W.Target.written c.if-byte-eq10.target) c.if-byte-eq10.line.items)
             (more_at bytes piece place 10 c.loop-byte-test.true w.if-byte-eq10.true)
             (rw (w.target-is, w.line-is) (heard_line IA (bytes ++ take place piece) start old c.loop-byte.line.items
-            (c.loop-byte.invariant.heard bytes start is) w.ended_question.result
-            (λ before line same is_line. w.ended_question.ensures before line (w.deref.ensures.value ∙ same) is_line)
+            (c.loop-byte.invariant.heard bytes start is) w.ended_question-question.result
+            (λ before line same is_line. w.ended_question-question.ensures before line (w.deref.ensures.value ∙ same) is_line)
             (g.W.Target.written w.take_question.new.target) taken w.clear.new.self.items w.clear.ensures.items));
         well = rw w.target-is w.in_ok-take_question.ensures.health;
         keeps = rw w.kept-is w.take_question.ensures.kept;
