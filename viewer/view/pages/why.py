@@ -91,7 +91,7 @@ class Reading:
 
 def by_way_of(one):
     """An edge in words: of a static field or a field with its name."""
-    weak = joined([element("em", "weak"), " "]) if one.is_weak else ""
+    weak = joined([element("b", "weak"), " "]) if one.is_weak else ""
     if one.name is not None:
         kind = "static field " if one.via == b"static" else "field "
         return joined([weak, kind, element("b", shown(one.name))])
