@@ -74,7 +74,7 @@ module _ {R Q W : Type 0} (left : R → Option (List ℕ)) (health : R → Healt
       reads = reads;
       refused = λ other e. absurd cc;
       kind = λ other e. absurd cc;
-      ok = λ e. (record { heap = heap; agree = agree; summaries = summaries; of_parts = of_parts; holds = ends.0 }, ends.1, ends.2, ends.3);
+      ok = λ e. (record { heap = heap; agree = agree; summaries = summaries; of_parts = of_parts; holds = ends.0 }, ends.1, ends.2);
       questions = λ other e. absurd cc;
       write = λ other e. absurd cc;
       memory = λ e. absurd cc;

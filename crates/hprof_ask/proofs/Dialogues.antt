@@ -1,5 +1,5 @@
 -- How a dialogue ends.
-use Rattle.std.proofs.Common.{◌≡◌, ℕ, List, [], ◌++◌, Option, Result, Ok, Err, sym, subst, inl, append-nil}
+use Rattle.std.proofs.Common.{◌≡◌, ℕ, List, [], ◌++◌, Option, Result, Ok, Err, sym, subst, inl, inr, append-nil}
 use Rattle.std.specs.Prelude.{⊤}
 use Rattle.std.specs.Io.KnownBytes.{Consumes, IsAtEnd, Keeps}
 use Rattle.std.proofs.KnownBytes.{Consumes-nil, Consumes-trans}
@@ -9,8 +9,8 @@ use Rattle.hprof_ask.specs.declared.question.Question.{Question}
 use Rattle.hprof_ask.specs.declared.stop.DialogueStop.{DialogueStop}
 use Rattle.hprof_ask.specs.declared.stop.DialogueStop.TheVariants as stops
 use Rattle.hprof_ask.specs.Answering.{LeavesWriter}
-use Rattle.hprof_ask.specs.Dialogue.{AnswersSome, Came, EndsDialogue, Finishes, Heard, LetsReadOn}
-use Rattle.hprof_ask.proofs.Hearing.{heard_ended, heard_none, heard_still, heard_taken, some_for}
+use Rattle.hprof_ask.specs.Dialogue.{AnswersLines, AnswersSome, AreLinesToQuit, Came, EndsDialogue, Finishes, Heard, LetsReadOn}
+use Rattle.hprof_ask.proofs.Hearing.{heard_none, heard_open, heard_still, heard_taken, lines_still, quit_taken, some_for}
 
 module _ (IsAnswer : Question → List ℕ → Type 0) {Q W : Type 0} (left : Q → Option (List ℕ)) (asking : Q → Health) (pulls : Q → ℕ)
     (written : W → Option (List ℕ)) (well : W → Health) (was : Q) (before : W) where
@@ -57,7 +57,7 @@ module _ (IsAnswer : Question → List ℕ → Type 0) {Q W : Type 0} (left : Q 
     pub may_read_on : (flushed : W → Type 0) (may_read : Q → W → Type 0)
         → LetsReadOn IsAnswer left written flushed may_read was (written before) → flushed mid → may_read is mid
     may_read_on flushed may_read leave all = leave so_far.bytes is mid so_far.consumed
-        (heard_ended IsAnswer so_far.bytes (written before) (written mid) kept so_far.holds) all
+        (heard_open IsAnswer so_far.bytes (written before) (written mid) kept so_far.holds) all
 
     -- a piece more came
     module _ (next : Q) (piece : List ℕ) (consumes : Consumes (left is) (left next) piece) where
@@ -80,17 +80,36 @@ module _ (IsAnswer : Question → List ℕ → Type 0) {Q W : Type 0} (left : Q 
             holds = some_for IsAnswer ⊥ (IsAtEnd (left next)) (λ none. absurd none) (so_far.bytes ++ piece) (written before) (written after) some;
           }) asks health
 
+      -- and a line in it ended the dialogue; then it is tried to pass all on
+      pub ends_quit : (then after : W) (r : Result (Unit {0}) DialogueStop)
+          → AnswersLines IsAnswer AreLinesToQuit (so_far.bytes ++ piece) (written before) (written then) → Keeps (written then) (written after)
+          → asking next ≡ healths.Well → LeavesWriter r (well after)
+          → EndsDialogue IsAnswer left asking pulls written well was next before after r
+      ends_quit then after r all keeps asks health =
+          by r (lines_still IsAnswer AreLinesToQuit (so_far.bytes ++ piece) (written before) (written then) (written after) keeps all) health where
+            by : (r : Result (Unit {0}) DialogueStop)
+                → AnswersLines IsAnswer AreLinesToQuit (so_far.bytes ++ piece) (written before) (written after)
+                → LeavesWriter r (well after) → EndsDialogue IsAnswer left asking pulls written well was next before after r
+            by (Ok done) all health = (inr (record { bytes = so_far.bytes ++ piece; consumed = came_more; holds = all }), asks, health)
+            by (Err stop) all health = ends_some next after stop (record {
+              bytes = so_far.bytes ++ piece;
+              consumed = came_more;
+              holds = inl (quit_taken IsAnswer (IsAtEnd (left next)) (so_far.bytes ++ piece) (written before) (written after) all);
+            }) asks health
+
     -- nothing more comes
     pub ends_all : (next : Q) (after : W) (r : Result (Unit {0}) DialogueStop) → Consumes (left is) (left next) [] → IsAtEnd (left next)
         → Finishes IsAnswer so_far.bytes (written before) (written after) r → asking next ≡ healths.Well → LeavesWriter r (well after)
         → EndsDialogue IsAnswer left asking pulls written well was next before after r
     ends_all next after (Ok done) consumes end all asks health = (
-      record {
-        bytes = so_far.bytes;
-        consumed = subst (Consumes (left was) (left next)) (append-nil so_far.bytes) (came_more next [] consumes);
-        holds = all;
-      },
-      end,
+      inl (
+        record {
+          bytes = so_far.bytes;
+          consumed = subst (Consumes (left was) (left next)) (append-nil so_far.bytes) (came_more next [] consumes);
+          holds = all;
+        },
+        end,
+      ),
       asks,
       health,
     )

@@ -6,6 +6,7 @@ pub mod Dialogues
 pub mod OneLine
 pub mod OneQuestion
 pub mod OneText
+pub mod QuitLines
 pub mod WordLists
 pub mod SomeQuestion
 pub mod Usages

@@ -1,8 +1,9 @@
 -- Bytes have one list of lines.
-use Rattle.std.proofs.Common.{◌≡◌, ℕ, List, [], ◌∷◌, ◌++◌, length, refl, sym, ap, subst, ◌∙◌, inl, inr, append_assoc, arith}
+use Rattle.std.proofs.Common.{◌≡◌, ◌≢◌, ℕ, List, [], ◌∷◌, ◌++◌, length, refl, sym, ap, subst, ◌∙◌, inl, inr, append-nil, append_assoc, arith}
+use Rattle.std.proofs.lemmas.Bool.Decides.{eqb_tells}
 use Rattle.std.proofs.lemmas.List.{append_cancel_right}
 use Rattle.hprof_ask.specs.Lines.{AreFirstLines, AreLines, HasNoFeed, IsBeforeFeed, IsFirstLine, IsLastLine}
-use Rattle.hprof_ask.proofs.LineLemmas.{first_extended, first_then}
+use Rattle.hprof_ask.proofs.LineLemmas.{all_more, first_extended, first_then, line_before}
 
 -- one line stands before a feed
 pub before_once : (bytes one other : List ℕ) → IsBeforeFeed bytes one → IsBeforeFeed bytes other → one ≡ other
@@ -62,15 +63,46 @@ lines_once bytes one other (inr (before, last, is, are, is_last)) (inr (before_t
     let it = ended_once bytes before before_too last last_too are is_last.1 are_too is_last_too.1 in
     is ∙ (λ i. it.0 i ++ it.1 i ∷ []) ∙ sym is_too
 
--- lines that end, and then those of more bytes
-pub lines_then : (bytes more : List ℕ) (lines others : List (List ℕ)) → AreFirstLines bytes lines [] → AreLines more others
-    → AreLines (bytes ++ more) (lines ++ others)
-lines_then bytes more lines others first (inl are) =
-    inl (first_then (bytes ++ more) lines more others [] (first_extended bytes lines [] more first) are)
-lines_then bytes more lines others first (inr (before, last, is, are, is_last)) = inr (
+-- lines in front of a rest, and then those of the rest
+pub lines_behind : (bytes : List ℕ) (lines : List (List ℕ)) (rest : List ℕ) (others : List (List ℕ)) → AreFirstLines bytes lines rest
+    → AreLines rest others → AreLines bytes (lines ++ others)
+lines_behind bytes lines rest others first (inl are) = inl (first_then bytes lines rest others [] first are)
+lines_behind bytes lines rest others first (inr (before, last, is, are, is_last)) = inr (
   lines ++ before,
   last,
   ap (λ (l : List (List ℕ)). lines ++ l) is ∙ sym (append_assoc lines before (last ∷ [])),
-  first_then (bytes ++ more) lines more before last (first_extended bytes lines [] more first) are,
+  first_then bytes lines rest before last first are,
   is_last,
 )
+
+-- lines that end, and then those of more bytes
+pub lines_then : (bytes more : List ℕ) (lines others : List (List ℕ)) → AreFirstLines bytes lines [] → AreLines more others
+    → AreLines (bytes ++ more) (lines ++ others)
+lines_then bytes more lines others first are =
+    lines_behind (bytes ++ more) lines more others (first_extended bytes lines [] more first) are
+
+-- ---- there is one
+
+last_lines : (bytes : List ℕ) → HasNoFeed bytes → (lines : List (List ℕ)) × AreLines bytes lines
+last_lines [] none = ([], inl refl)
+last_lines (byte ∷ bytes) none = ((byte ∷ bytes) ∷ [], inr ([], byte ∷ bytes, refl, refl, (omega arith, none)))
+
+-- the lines of some bytes, of which the first are no feed
+lines_from : (before rest : List ℕ) → HasNoFeed before → (lines : List (List ℕ)) × AreLines (before ++ rest) lines
+lines_from before [] none =
+    subst (λ (bytes : List ℕ). (lines : List (List ℕ)) × AreLines bytes lines) (sym (append-nil before)) (last_lines before none)
+lines_from before (byte ∷ rest) none = elim (eqb_tells byte 10) [
+  | inl feed ↦
+      let line = line_before before in
+      let others = lines_from [] rest tt in
+      let is : before ++ byte ∷ rest ≡ before ++ 10 ∷ rest = ap (λ (b : ℕ). before ++ b ∷ rest) feed.1 in (
+        line.0 ∷ others.0,
+        lines_behind (before ++ byte ∷ rest) (line.0 ∷ []) rest others.0
+            (rest, record { before = before; no_feed = none; is_line = line.1; is = is }, refl) others.1,
+      )
+  | inr other ↦ subst (λ (bytes : List ℕ). (lines : List (List ℕ)) × AreLines bytes lines) (append_assoc before (byte ∷ []) rest)
+      (lines_from (before ++ byte ∷ []) rest (all_more (λ b. b ≢ 10) before byte none other.1))
+]
+
+pub some_lines : (bytes : List ℕ) → (lines : List (List ℕ)) × AreLines bytes lines
+some_lines bytes = lines_from [] bytes tt

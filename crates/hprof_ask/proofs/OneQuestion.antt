@@ -20,7 +20,7 @@ use Rattle.hprof_ask.specs.declared.subject.Misnamed.{Misnamed}
 use Rattle.hprof_ask.specs.declared.subject.Misnamed.TheVariants as misnamed
 use Rattle.hprof_ask.specs.declared.question.Question.{Question}
 use Rattle.hprof_ask.specs.declared.question.Question.TheVariants as questions
-use Rattle.hprof_ask.specs.Asked.{Asks, AsksReport, IsFollowed, IsLineOf, IsMisnamed, IsNamed, IsQuestion, NamesId, NamesKind}
+use Rattle.hprof_ask.specs.Asked.{Asks, AsksReport, IsFollowed, IsLineOf, IsMisnamed, IsNamed, IsQuestion, IsQuit, NamesId, NamesKind}
 use Rattle.hprof_ask.specs.Words.{all_words, follows_of, word_of}
 use Rattle.hprof_ask.proofs.WordLists.{of_each}
 
@@ -65,31 +65,32 @@ abbrev word_by : List ReportWord → List ℕ → ReportWord
 word_by [] text = words.Objects
 word_by (word ∷ rest) text = if bytes_eq (word_of word) text then word else word_by rest text
 
--- words have no space, differ from each other, and are not `help`
+-- words have no space, differ from each other, and are none of `help`, `quit` and `exit`
 abbrev Differs : ReportWord → Type 0
 Differs word = (has_space (word_of word) ≡ false) × (word_by all_words (word_of word) ≡ word) × (bytes_eq (word_of word) (codes "help") ≡ false)
-    × (bytes_eq (word_of word) [] ≡ false)
+    × (bytes_eq (word_of word) [] ≡ false) × (bytes_eq (word_of word) (codes "quit") ≡ false)
+    × (bytes_eq (word_of word) (codes "exit") ≡ false)
 
 differs : (word : ReportWord) → Differs word
 differs = of_each Differs (
-  (refl, refl, refl, refl),
+  (refl, refl, refl, refl, refl, refl),
   (
-    (refl, refl, refl, refl),
+    (refl, refl, refl, refl, refl, refl),
     (
-      (refl, refl, refl, refl),
+      (refl, refl, refl, refl, refl, refl),
       (
-        (refl, refl, refl, refl),
+        (refl, refl, refl, refl, refl, refl),
         (
-          (refl, refl, refl, refl),
+          (refl, refl, refl, refl, refl, refl),
           (
-            (refl, refl, refl, refl),
+            (refl, refl, refl, refl, refl, refl),
             (
-              (refl, refl, refl, refl),
+              (refl, refl, refl, refl, refl, refl),
               (
-                (refl, refl, refl, refl),
+                (refl, refl, refl, refl, refl, refl),
                 (
-                  (refl, refl, refl, refl),
-                  ((refl, refl, refl, refl), ((refl, refl, refl, refl), ((refl, refl, refl, refl), tt))),
+                  (refl, refl, refl, refl, refl, refl),
+                  ((refl, refl, refl, refl, refl, refl), ((refl, refl, refl, refl, refl, refl), ((refl, refl, refl, refl, refl, refl), tt))),
                 ),
               ),
             ),
@@ -125,7 +126,7 @@ one_line line word word_too text text_too is is_too =
           (subst (λ (w : ReportWord). IsLineOf line w text) same is) is_too,
     )
 
--- the line of a word has some bytes, and is not `help`
+-- the line of a word has some bytes, and is none of `help`, `quit` and `exit`
 some_bytes : (word : ReportWord) (line text : List ℕ) → IsLineOf line word text → line ≡ [] → ⊥
 some_bytes word line text is none =
     let e : bytes_eq (word_of word) [] ≡ true = ap (λ (l : List ℕ). bytes_eq l []) (sym (line_front word line text is) ∙ ap front none) in
@@ -138,6 +139,18 @@ not_help word line text is help =
     ap (λ (l : List ℕ). bytes_eq l (codes "help")) (sym (line_front word line text is) ∙ ap front help) in
     let no : true ≡ false = sym e ∙ (differs word).2 in
     absurd cc
+
+not_quit : (word : ReportWord) (line text : List ℕ) → IsLineOf line word text → IsQuit line → ⊥
+not_quit word line text is quit = elim quit [
+  | inl is_quit ↦ no_word (codes "quit") refl (ap front is_quit) (differs word).4
+  | inr is_exit ↦ no_word (codes "exit") refl (ap front is_exit) (differs word).5
+] where
+  no_word : (other : List ℕ) → bytes_eq other other ≡ true → front line ≡ other → bytes_eq (word_of word) other ≡ false → ⊥
+  no_word other itself same differ =
+      let e : bytes_eq (word_of word) other ≡ true =
+      ap (λ (l : List ℕ). bytes_eq l other) (sym (line_front word line text is) ∙ same) ∙ itself in
+      let no : true ≡ false = sym e ∙ differ in
+      absurd cc
 
 -- ---- what follows a word
 
@@ -261,12 +274,15 @@ one_named word text (questions.Misnamed one) (questions.Misnamed other) is is_to
     ap questions.Misnamed (one_misnamed word text one other is is_too)
 one_named word text (questions.Report one) questions.Nothing is is_too = absurd is_too
 one_named word text (questions.Report one) questions.Help is is_too = absurd is_too
+one_named word text (questions.Report one) questions.Quit is is_too = absurd is_too
 one_named word text (questions.Report one) questions.NotUnderstood is is_too = absurd is_too
 one_named word text (questions.Misnamed one) questions.Nothing is is_too = absurd is_too
 one_named word text (questions.Misnamed one) questions.Help is is_too = absurd is_too
+one_named word text (questions.Misnamed one) questions.Quit is is_too = absurd is_too
 one_named word text (questions.Misnamed one) questions.NotUnderstood is is_too = absurd is_too
 one_named word text questions.Nothing other is is_too = absurd is
 one_named word text questions.Help other is is_too = absurd is
+one_named word text questions.Quit other is is_too = absurd is
 one_named word text questions.NotUnderstood other is is_too = absurd is
 
 -- ---- what the words of a line ask is one thing
@@ -275,8 +291,9 @@ one_named word text questions.NotUnderstood other is is_too = absurd is
 abbrev Plain : List ℕ → Question → Type 0
 Plain line questions.Nothing = line ≡ []
 Plain line questions.Help = line ≡ codes "help"
+Plain line questions.Quit = IsQuit line
 Plain line questions.NotUnderstood =
-    (line ≡ [] → ⊥) × (line ≡ codes "help" → ⊥) × ((word : ReportWord) (text : List ℕ) → IsLineOf line word text → ⊥)
+    (line ≡ [] → ⊥) × (line ≡ codes "help" → ⊥) × (IsQuit line → ⊥) × ((word : ReportWord) (text : List ℕ) → IsLineOf line word text → ⊥)
 Plain line other = ⊥
 
 -- a word and what follows it
@@ -286,6 +303,7 @@ OfWord line question = (word : ReportWord) × (text : List ℕ) × IsLineOf line
 either : (line : List ℕ) (question : Question) → IsQuestion line question → Plain line question ⊎ OfWord line question
 either line questions.Nothing is = inl is
 either line questions.Help is = inl is
+either line questions.Quit is = inl is
 either line questions.NotUnderstood is = inl is
 either line (questions.Report report) is = inr is
 either line (questions.Misnamed fault) is = inr is
@@ -293,20 +311,41 @@ either line (questions.Misnamed fault) is = inr is
 no_help : (line : List ℕ) → line ≡ [] → line ≡ codes "help" → ⊥
 no_help line none is = let no : 0 ≡ 104 = ap (λ (l : List ℕ). get_or l 0 0) (sym none ∙ is) in absurd (omega (arith, no))
 
+no_quit : (line : List ℕ) → line ≡ [] → IsQuit line → ⊥
+no_quit line none is = elim is [
+  | inl quit ↦ let no : 0 ≡ 113 = ap (λ (l : List ℕ). get_or l 0 0) (sym none ∙ quit) in absurd (omega (arith, no))
+  | inr exit ↦ let no : 0 ≡ 101 = ap (λ (l : List ℕ). get_or l 0 0) (sym none ∙ exit) in absurd (omega (arith, no))
+]
+
+help_no_quit : (line : List ℕ) → line ≡ codes "help" → IsQuit line → ⊥
+help_no_quit line help is = elim is [
+  | inl quit ↦ let no : 104 ≡ 113 = ap (λ (l : List ℕ). get_or l 0 0) (sym help ∙ quit) in absurd (omega (arith, no))
+  | inr exit ↦ let no : 104 ≡ 101 = ap (λ (l : List ℕ). get_or l 0 0) (sym help ∙ exit) in absurd (omega (arith, no))
+]
+
 one_plain : (line : List ℕ) (one other : Question) → Plain line one → Plain line other → one ≡ other
 one_plain line questions.Nothing questions.Nothing is is_too = refl
 one_plain line questions.Nothing questions.Help is is_too = absurd (no_help line is is_too)
+one_plain line questions.Nothing questions.Quit is is_too = absurd (no_quit line is is_too)
 one_plain line questions.Nothing questions.NotUnderstood is is_too = absurd (is_too.0 is)
 one_plain line questions.Help questions.Nothing is is_too = absurd (no_help line is_too is)
 one_plain line questions.Help questions.Help is is_too = refl
+one_plain line questions.Help questions.Quit is is_too = absurd (help_no_quit line is is_too)
 one_plain line questions.Help questions.NotUnderstood is is_too = absurd (is_too.1 is)
+one_plain line questions.Quit questions.Nothing is is_too = absurd (no_quit line is_too is)
+one_plain line questions.Quit questions.Help is is_too = absurd (help_no_quit line is_too is)
+one_plain line questions.Quit questions.Quit is is_too = refl
+one_plain line questions.Quit questions.NotUnderstood is is_too = absurd (is_too.2 is)
 one_plain line questions.NotUnderstood questions.Nothing is is_too = absurd (is.0 is_too)
 one_plain line questions.NotUnderstood questions.Help is is_too = absurd (is.1 is_too)
+one_plain line questions.NotUnderstood questions.Quit is is_too = absurd (is.2 is_too)
 one_plain line questions.NotUnderstood questions.NotUnderstood is is_too = refl
 one_plain line questions.Nothing (questions.Report report) is is_too = absurd is_too
 one_plain line questions.Nothing (questions.Misnamed fault) is is_too = absurd is_too
 one_plain line questions.Help (questions.Report report) is is_too = absurd is_too
 one_plain line questions.Help (questions.Misnamed fault) is is_too = absurd is_too
+one_plain line questions.Quit (questions.Report report) is is_too = absurd is_too
+one_plain line questions.Quit (questions.Misnamed fault) is is_too = absurd is_too
 one_plain line questions.NotUnderstood (questions.Report report) is is_too = absurd is_too
 one_plain line questions.NotUnderstood (questions.Misnamed fault) is is_too = absurd is_too
 one_plain line (questions.Report report) other is is_too = absurd is
@@ -315,7 +354,8 @@ one_plain line (questions.Misnamed fault) other is is_too = absurd is
 plain_no_word : (line : List ℕ) (one other : Question) → Plain line one → OfWord line other → ⊥
 plain_no_word line questions.Nothing other is (word, text, is_line, named) = some_bytes word line text is_line is
 plain_no_word line questions.Help other is (word, text, is_line, named) = not_help word line text is_line is
-plain_no_word line questions.NotUnderstood other is (word, text, is_line, named) = is.2 word text is_line
+plain_no_word line questions.Quit other is (word, text, is_line, named) = not_quit word line text is_line is
+plain_no_word line questions.NotUnderstood other is (word, text, is_line, named) = is.3 word text is_line
 plain_no_word line (questions.Report report) other is it = is
 plain_no_word line (questions.Misnamed fault) other is it = is
 

@@ -20,7 +20,7 @@ use Rattle.hprof_ask.specs.declared.report_word.ReportWord.TheVariants as words
 use Rattle.hprof_ask.specs.declared.subject.Misnamed.TheVariants as misnamed
 use Rattle.hprof_ask.specs.declared.question.Question.{Question}
 use Rattle.hprof_ask.specs.declared.question.Question.TheVariants as questions
-use Rattle.hprof_ask.specs.Asked.{Asks, IsFollowed, IsLineOf, IsNamed, IsQuestion, IsWord, NamesKind}
+use Rattle.hprof_ask.specs.Asked.{Asks, IsFollowed, IsLineOf, IsNamed, IsQuestion, IsQuit, IsWord, NamesKind}
 use Rattle.hprof_ask.proofs.WordLists.{of_each}
 use Rattle.hprof_ask.specs.Words.{all_words, follows_of, word_of}
 use Rattle.hprof_ask.proofs.WordLists.{of_each}
@@ -209,10 +209,11 @@ of_word line word text is (questions.Report report) asks = (questions.Report rep
 of_word line word text is (questions.Misnamed fault) asks = (questions.Misnamed fault, (word, text, is, asks))
 of_word line word text is questions.Nothing asks = absurd asks
 of_word line word text is questions.Help asks = absurd asks
+of_word line word text is questions.Quit asks = absurd asks
 of_word line word text is questions.NotUnderstood asks = absurd asks
 
-of_words : (line : List ℕ) → line ≢ [] → line ≢ codes "help" → (question : Question) × IsQuestion line question
-of_words line some no_help =
+of_words : (line : List ℕ) → line ≢ [] → line ≢ codes "help" → (IsQuit line → ⊥) → (question : Question) × IsQuestion line question
+of_words line some no_help no_quit =
     let P = λ (word : ReportWord). (text : List ℕ) × IsLineOf line word text in
     elim (among P (λ word. listed word (followed (follows_of word) line (word_of word))) all_words) [
       | inl it ↦ let asks = named it.1.0 it.0 in of_word line it.0 it.1.0 it.1.1 asks.0 asks.1
@@ -221,6 +222,7 @@ of_words line some no_help =
         (
           some,
           no_help,
+          no_quit,
           λ word text is. of_each (λ other. P other → ⊥) none word (text, is),
         ),
       )
@@ -230,10 +232,22 @@ of_words line some no_help =
       listed word (inl it) = inl it
       listed word (inr fails) = inr (λ it. fails it.0 it.1)
 
+quit : (line : List ℕ) → IsQuit line ⊎ (IsQuit line → ⊥)
+quit line = elim (same line (codes "quit")) [
+  | inl is ↦ inl (inl is)
+  | inr no_quit ↦ elim (same line (codes "exit")) [
+    | inl is ↦ inl (inr is)
+    | inr no_exit ↦ inr (λ is. elim is [ inl one ↦ no_quit one | inr other ↦ no_exit other ])
+  ]
+]
+
 some_words : (line : List ℕ) → (question : Question) × IsQuestion line question
 some_words line = elim (same line []) [
   | inl is ↦ (questions.Nothing, is)
-  | inr some ↦ elim (same line (codes "help")) [ inl is ↦ (questions.Help, is) | inr no_help ↦ of_words line some no_help ]
+  | inr some ↦ elim (same line (codes "help")) [
+    | inl is ↦ (questions.Help, is)
+    | inr no_help ↦ elim (quit line) [ inl is ↦ (questions.Quit, is) | inr no_quit ↦ of_words line some no_help no_quit ]
+  ]
 ]
 
 pub some_question : (line : List ℕ) → (question : Question) × Asks line question

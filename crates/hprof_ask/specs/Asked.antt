@@ -64,14 +64,27 @@ IsFollowed other line word text = IsWord text × (line ≡ word ++ 32 ∷ text)
 abbrev pub IsLineOf : (line : List ℕ) → ReportWord → (text : List ℕ) → Type 0
 IsLineOf line word text = IsFollowed (follows_of word) line (word_of word) text
 
+-- one of the words that end a dialogue
+abbrev pub IsQuit : List ℕ → Type 0
+IsQuit line = (line ≡ codes "quit") ⊎ (line ≡ codes "exit")
+
 -- what the words of a line ask
 abbrev pub IsQuestion : List ℕ → Question → Type 0
 IsQuestion line questions.Nothing = line ≡ []
 IsQuestion line questions.Help = line ≡ codes "help"
+IsQuestion line questions.Quit = IsQuit line
 IsQuestion line questions.NotUnderstood =
-    (line ≢ []) × (line ≢ codes "help") × ((word : ReportWord) (text : List ℕ) → IsLineOf line word text → ⊥)
+    (line ≢ []) × (line ≢ codes "help") × ¬ (IsQuit line) × ((word : ReportWord) (text : List ℕ) → IsLineOf line word text → ⊥)
 IsQuestion line question = (word : ReportWord) × (text : List ℕ) × IsLineOf line word text × IsNamed word text question
 
 -- what a line asks: one of more than 4,096 bytes is not understood
 abbrev pub Asks : List ℕ → Question → Type 0
 Asks line question = ((length line ≤ 4096) × IsQuestion line question) ⊎ ((4096 < length line) × (question ≡ questions.NotUnderstood))
+
+-- the line ends the dialogue
+abbrev pub Quits : List ℕ → Type 0
+Quits line = Asks line questions.Quit
+
+-- none of the lines does
+abbrev pub NoneQuits : List (List ℕ) → Type 0
+NoneQuits lines = AllByRecursion (λ line. ¬ (Quits line)) lines

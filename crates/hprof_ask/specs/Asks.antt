@@ -20,8 +20,7 @@ use Rattle.hprof_engine.specs.Summaries.{AreSummaries}
 use Rattle.hprof_ask.specs.declared.question.Question.{Question}
 use Rattle.hprof_ask.specs.declared.stop.DialogueStop.TheVariants as stops
 use Rattle.hprof_ask.specs.Answering.{PassesOn}
-use Rattle.hprof_ask.specs.Dialogue.{AnswersLines, AnswersSome, Came, LetsReadOn}
-use Rattle.hprof_ask.specs.Lines.{AreEndedLines, AreLines}
+use Rattle.hprof_ask.specs.Dialogue.{AnswersLines, AnswersSome, AreOpenLines, Came, IsOver, LetsReadOn}
 use Rattle.hprof_ask.specs.declared.ask_fault.AskFault.{AskFault}
 use Rattle.hprof_ask.specs.declared.ask_fault.AskFault.TheVariants as faults
 use Rattle.hprof_ask.specs.HeapAnswers.{IsHeapAnswer}
@@ -78,13 +77,13 @@ pub record Asks {R Q W : Type 0} (left : R → Option (List ℕ)) (health : R �
   -- parts are refused for a fault of reading, or no memory was left for the summaries of parts, of which there are some: nothing was read
   pub kind : (fault : ToolFault) → ended ≡ Some (faults.Parts fault)
       → IsOfReading (Some fault) ⊎ ((fault ≡ tool.OutOfMemory) × (0 < length old) × (new ≡ old))
-  -- Ok: all lines are answered, and all are well
-  pub ok : ended ≡ None → OverParts left old (λ IsAnswer. Came IsAnswer asked asking turns written well was is before after
-      (AnswersLines IsAnswer AreLines)) × IsAtEnd (asked is) × (asking is ≡ healths.Well) × (well after ≡ healths.Well)
-  -- the questions could not be read on: all lines that had ended are answered
+  -- Ok: all lines are answered, or all up to one that ends the dialogue, and all are well
+  pub ok : ended ≡ None → OverParts left old (λ IsAnswer. IsOver IsAnswer asked asking turns written well was is before after)
+      × (asking is ≡ healths.Well) × (well after ≡ healths.Well)
+  -- the questions could not be read on: all lines that had ended are answered, and none of them ends the dialogue
   pub questions : (fault : ReadFault) → ended ≡ Some (faults.Dialogue (stops.Questions fault))
       → OverParts left old (λ IsAnswer. Came IsAnswer asked asking turns written well was is before after
-      (AnswersLines IsAnswer AreEndedLines)) × ((asking is ≡ healths.Failed) ⊎ (2 ^ 64 - 1 ≤ turns is)) × (well after ≡ healths.Well)
+      (AnswersLines IsAnswer AreOpenLines)) × ((asking is ≡ healths.Failed) ⊎ (2 ^ 64 - 1 ≤ turns is)) × (well after ≡ healths.Well)
   -- the writer failed or stuck: the lines that were taken are answered, of the last answer a front
   pub write : (fault : WriteFault) → ended ≡ Some (faults.Dialogue (stops.Write fault))
       → OverParts left old (λ IsAnswer. Came IsAnswer asked asking turns written well was is before after

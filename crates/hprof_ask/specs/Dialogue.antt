@@ -6,11 +6,28 @@ use Rattle.std.specs.Io.KnownBytes.{Appends, Consumes, IsAtEnd}
 use Rattle.hprof_devices.specs.declared.health.Health.{Health}
 use Rattle.hprof_devices.specs.declared.health.Health.TheVariants as healths
 use Rattle.hprof_devices.specs.Device.{health_after}
+use Rattle.hprof_ask.specs.declared.dialogue.Course.{Course}
+use Rattle.hprof_ask.specs.declared.dialogue.Course.TheVariants as courses
 use Rattle.hprof_ask.specs.declared.question.Question.{Question}
 use Rattle.hprof_ask.specs.declared.stop.DialogueStop.{DialogueStop}
 use Rattle.hprof_ask.specs.declared.stop.DialogueStop.TheVariants as stops
 use Rattle.hprof_ask.specs.Answering.{AreAnswers, IsLineAnswer}
+use Rattle.hprof_ask.specs.Asked.{NoneQuits, Quits}
 use Rattle.hprof_ask.specs.Lines.{AreEndedLines, AreFirstLines, AreLines, AreTaken, HasNoFeed}
+
+-- these are the lines that end with a line feed, and none of them ends the dialogue
+abbrev pub AreOpenLines : List ℕ → List (List ℕ) → Type 0
+AreOpenLines bytes lines = AreEndedLines bytes lines × NoneQuits lines
+
+-- these are the first of the lines that end with a line feed; the last of them ends the dialogue, and none before it does
+pub record AreLinesToQuit (bytes : List ℕ) (lines : List (List ℕ)) : Type 0 where
+  pub before : List (List ℕ)
+  pub last : List ℕ
+  pub is : lines ≡ before ++ last ∷ []
+  pub none : NoneQuits before
+  pub quits : Quits last
+  pub rest : List ℕ
+  pub first : AreFirstLines bytes lines rest
 
 module _ (IsAnswer : Question → List ℕ → Type 0) where
   -- lines were taken of the bytes, and the answers to them were written
@@ -21,12 +38,14 @@ module _ (IsAnswer : Question → List ℕ → Type 0) where
     pub are_answers : AreAnswers IsAnswer lines text
     pub appended : Appends start now text
 
-  -- lines were taken of the bytes, and the answers to them were written, to the last of them some, from the front
+  -- lines of which none ends the dialogue were taken of the bytes, and the answers to them were written, to the last of them some, from the
+  -- front
   --   IsEnd: no more bytes come
   pub record AnswersFront (IsEnd : Type 0) (bytes : List ℕ) (start now : Option (List ℕ)) : Type 0 where
     pub lines : List (List ℕ)
     pub last : List ℕ
     pub taken : AreTaken IsEnd bytes (lines ++ last ∷ [])
+    pub none : NoneQuits (lines ++ last ∷ [])
     pub text : List ℕ
     pub are_answers : AreAnswers IsAnswer lines text
     pub answer : List ℕ
@@ -39,20 +58,22 @@ module _ (IsAnswer : Question → List ℕ → Type 0) where
   abbrev pub AnswersSome : (IsEnd : Type 0) (bytes : List ℕ) (start now : Option (List ℕ)) → Type 0
   AnswersSome IsEnd bytes start now = AnswersLines (AreTaken IsEnd) bytes start now ⊎ AnswersFront IsEnd bytes start now
 
-  -- the lines that ended are answered, and this is kept of the bytes behind them: the first 4,098 bytes
+  -- the lines that ended are answered, none of them ends the dialogue, and this is kept of the bytes behind them: the first 4,098 bytes
   pub record Heard (bytes : List ℕ) (start now : Option (List ℕ)) (kept : List ℕ) : Type 0 where
     pub lines : List (List ℕ)
     pub rest : List ℕ
     pub first : AreFirstLines bytes lines rest
+    pub none : NoneQuits lines
     pub no_feed : HasNoFeed rest
     pub kept_is : kept ≡ take 4098 rest
     pub text : List ℕ
     pub are_answers : AreAnswers IsAnswer lines text
     pub appended : Appends start now text
 
-  -- a piece of the bytes was gone over, behind which more may come
-  abbrev pub GoesOver : {A : Type 0} → (bytes : List ℕ) (start now : Option (List ℕ)) (kept : List ℕ) → Result A DialogueStop → Type 0
-  GoesOver bytes start now kept (Ok done) = Heard bytes start now kept
+  -- a piece of the bytes was gone over, behind which more may come, or a line in it ended the dialogue
+  abbrev pub GoesOver : (bytes : List ℕ) (start now : Option (List ℕ)) (kept : List ℕ) → Result Course DialogueStop → Type 0
+  GoesOver bytes start now kept (Ok courses.Open) = Heard bytes start now kept
+  GoesOver bytes start now kept (Ok courses.Ended) = AnswersLines AreLinesToQuit bytes start now
   GoesOver bytes start now kept (Err stop) = AnswersSome ⊥ bytes start now
 
   -- there are no more bytes
@@ -71,23 +92,28 @@ module _ (IsAnswer : Question → List ℕ → Type 0) where
       pub consumed : Consumes (left was) (left is) bytes
       pub holds : Holds bytes (written before) (written after)
 
+    -- no more is to be answered: all lines of the questions are answered, of which no more come, or those up to one that ends the dialogue
+    abbrev pub IsOver : Type 0
+    IsOver = (Came (AnswersLines AreLines) × IsAtEnd (left is)) ⊎ Came (AnswersLines AreLinesToQuit)
+
     -- how a dialogue ended
     abbrev pub EndsDialogue : {A : Type 0} → Result A DialogueStop → Type 0
-    -- all lines of the questions are answered
-    EndsDialogue (Ok done) = Came (AnswersLines AreLines) × IsAtEnd (left is) × (asking is ≡ healths.Well) × (well after ≡ healths.Well)
-    -- the questions could not be read on, or were read more often than can be counted: the lines that had ended are answered
-    EndsDialogue (Err (stops.Questions fault)) = Came (AnswersLines AreEndedLines)
+    -- no more is to be answered
+    EndsDialogue (Ok done) = IsOver × (asking is ≡ healths.Well) × (well after ≡ healths.Well)
+    -- the questions could not be read on, or were read more often than can be counted: the lines that had ended are answered, and none of
+    -- them ends the dialogue
+    EndsDialogue (Err (stops.Questions fault)) = Came (AnswersLines AreOpenLines)
         × ((asking is ≡ healths.Failed) ⊎ (2 ^ 64 - 1 ≤ pulls is)) × (well after ≡ healths.Well)
     -- the writer failed or stuck
     EndsDialogue (Err (stops.Write fault)) = Came (AnswersSome (IsAtEnd (left is))) × (asking is ≡ healths.Well) × (well after ≡ health_after fault)
     -- memory was wanted
     EndsDialogue (Err stops.OutOfMemory) = Came (AnswersSome (IsAtEnd (left is))) × (asking is ≡ healths.Well) × (well after ≡ healths.Well)
 
-  -- the leave to read on: all lines that ended in what came are answered, and all answers were flushed
+  -- the leave to read on: all lines that ended in what came are answered, none of them ends the dialogue, and all answers were flushed
   --   start: what the writer held before;  flushed: nothing of what was written is held back
   --   may_read: the source may be read on while that is the writer
   module _ {Q W : Type 0} (left : Q → Option (List ℕ)) (written : W → Option (List ℕ)) (flushed : W → Type 0)
       (may_read : Q → W → Type 0) (was : Q) (start : Option (List ℕ)) where
     abbrev pub LetsReadOn : Type 0
     LetsReadOn = (bytes : List ℕ) (is : Q) (after : W) → Consumes (left was) (left is) bytes
-        → AnswersLines AreEndedLines bytes start (written after) → flushed after → may_read is after
+        → AnswersLines AreOpenLines bytes start (written after) → flushed after → may_read is after

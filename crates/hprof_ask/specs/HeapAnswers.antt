@@ -19,12 +19,18 @@ misnamed_text misnamed.NoKind = codes "not a class or a type"
 abbrev pub IsReply : List PartSummary → IdSize → List FactValue → Question → List ℕ → Type 0
 IsReply summaries ids facts questions.Nothing text = text ≡ []
 IsReply summaries ids facts questions.Help text = text ≡ help_text
+IsReply summaries ids facts questions.Quit text = text ≡ []
 IsReply summaries ids facts (questions.Report report) text = IsReport summaries ids facts report text
 IsReply summaries ids facts (questions.Misnamed fault) text = text ≡ misnamed_text fault ++ codes "\n"
 IsReply summaries ids facts questions.NotUnderstood text = text ≡ codes "not understood\n"
 
--- the answer: that, and an empty line behind it
+-- what stands behind the reply: an empty line, but nothing where the dialogue ends
+abbrev pub behind_reply : Question → List ℕ
+behind_reply questions.Quit = []
+behind_reply other = codes "\n"
+
+-- the answer: the reply, and that behind it
 pub record IsHeapAnswer (summaries : List PartSummary) (ids : IdSize) (facts : List FactValue) (question : Question) (text : List ℕ) : Type 0 where
   pub reply : List ℕ
   pub is_reply : IsReply summaries ids facts question reply
-  pub is : text ≡ reply ++ codes "\n"
+  pub is : text ≡ reply ++ behind_reply question

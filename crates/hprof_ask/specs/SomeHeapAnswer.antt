@@ -10,7 +10,7 @@ use Rattle.hprof_heap.specs.Heap.{heap_of}
 use Rattle.hprof_heap.specs.HeapFacts.{facts_of, size_of}
 use Rattle.hprof_ask.specs.declared.question.Question.{Question}
 use Rattle.hprof_ask.specs.declared.question.Question.TheVariants as questions
-use Rattle.hprof_ask.specs.HeapAnswers.{IsHeapAnswer, IsReply, misnamed_text}
+use Rattle.hprof_ask.specs.HeapAnswers.{IsHeapAnswer, IsReply, behind_reply, misnamed_text}
 use Rattle.hprof_ask.specs.SomeReport.{some_report}
 use Rattle.hprof_ask.specs.Words.{help_text}
 
@@ -18,6 +18,7 @@ module _ (ids : IdSize) (facts : List FactValue) (agree : IsConsistent facts) (s
   some_reply : (question : Question) → (text : List ℕ) × IsReply summaries ids facts question text
   some_reply questions.Nothing = ([], refl)
   some_reply questions.Help = (help_text, refl)
+  some_reply questions.Quit = ([], refl)
   some_reply (questions.Report report) = some_report ids facts agree summaries report
   some_reply (questions.Misnamed fault) = (misnamed_text fault ++ codes "\n", refl)
   some_reply questions.NotUnderstood = (codes "not understood\n", refl)
@@ -26,7 +27,7 @@ module _ (ids : IdSize) (facts : List FactValue) (agree : IsConsistent facts) (s
   pub some_answer : (question : Question) → (text : List ℕ) × IsHeapAnswer summaries ids facts question text
   some_answer question =
       let reply = some_reply question in
-      (reply.0 ++ codes "\n", record { reply = reply.0; is_reply = reply.1; is = refl })
+      (reply.0 ++ behind_reply question, record { reply = reply.0; is_reply = reply.1; is = refl })
 
 -- the facts of every heap agree
 heap_agrees : (heap : Heap) → IsConsistent (facts_of heap)

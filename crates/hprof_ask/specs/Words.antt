@@ -57,4 +57,4 @@ usage_line word = word_of word ++ follows_text (follows_of word)
 
 -- what can be asked, one question a line
 abbrev pub help_text : List ℕ
-help_text = codes "help\n" ++ flat_map usage_line all_words
+help_text = codes "help\n" ++ (flat_map usage_line all_words ++ codes "quit\nexit\n")

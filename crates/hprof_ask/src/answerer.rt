@@ -19,6 +19,7 @@ ghost use Rattle.hprof_ask.specs.Report.{IsHeapReport, IsNodeReport, IsReport, T
 
 use crate::kept::{Kept, kept_or_made};
 use crate::report::{HeapReport, NodeReport, Report};
+use crate::survey::view_of;
 use hprof_devices::{Target, push_all};
 use hprof_edges::{Edge, referrers};
 use hprof_engine::WriteStop;
@@ -235,8 +236,11 @@ impl<'a> Answerer<'a> {
         holds_of_heap(self.heap);
         let edges = self.edges_to(alloc, kept, id)?;
         let survey = kept_or_made(alloc, self.heap, kept.survey.take())?;
-        let outcome = write_who(alloc, survey.view(self.heap), id, &edges, target);
+        let references = kept_or_made(alloc, self.heap, kept.references.take())?;
+        let view = view_of(self.heap, &survey, &references);
+        let outcome = write_who(alloc, view, id, &edges, target);
         kept.survey = Some(survey);
+        kept.references = Some(references);
         outcome
     }
 
@@ -256,12 +260,14 @@ impl<'a> Answerer<'a> {
         ensures kept { IsKept (size_of self.now.heap.now) (facts_of self.now.heap.now) kept.new }
     {
         holds_of_heap(self.heap);
-        let mut survey = kept_or_made(alloc, self.heap, kept.survey.take())?;
-        let strong = survey.take_strong(alloc, self.heap)?;
-        let view = survey.view(self.heap);
+        let survey = kept_or_made(alloc, self.heap, kept.survey.take())?;
+        let mut references = kept_or_made(alloc, self.heap, kept.references.take())?;
+        let strong = references.take_strong(alloc, self.heap)?;
+        let view = view_of(self.heap, &survey, &references);
         let outcome = write_why(alloc, view, &strong, &mut kept.reach, id, target);
-        survey.strong = Some(strong);
+        references.strong = Some(strong);
         kept.survey = Some(survey);
+        kept.references = Some(references);
         outcome
     }
 

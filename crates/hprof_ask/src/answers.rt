@@ -5,7 +5,7 @@ ghost use Rattle.std.specs.List.{flat_map};
 ghost use Rattle.hprof_devices.specs.declared.health.Health.TheVariants.{Well};
 ghost use Rattle.hprof_heap.specs.HeapFacts.{facts_of, size_of};
 ghost use Rattle.hprof_reports.specs.Stopping.{LeavesTarget, WritesText};
-ghost use Rattle.hprof_ask.specs.HeapAnswers.{IsHeapAnswer, IsReply};
+ghost use Rattle.hprof_ask.specs.HeapAnswers.{IsHeapAnswer, IsReply, behind_reply};
 ghost use Rattle.hprof_ask.specs.Kept.{IsKept};
 ghost use Rattle.hprof_ask.specs.Words.{all_words, follows_text, help_text, usage_line};
 
@@ -62,7 +62,18 @@ fn write_help<W: Target>(target: &mut W) -> Result<(), WriteStop>
     ensures health { LeavesTarget result (W.health target.new) }
 {
     write_str("help\n", target)?;
-    write_usages(target)
+    write_usages(target)?;
+    write_str("quit\nexit\n", target)
+}
+
+/// Returns what stands behind the reply to a question: an empty line, or nothing if the question ends the dialogue.
+fn behind_reply(question: Question) -> &'static str
+    ensures { result.now ≡ behind_reply question }
+{
+    match question {
+        Question::Quit => "",
+        _ => "\n",
+    }
 }
 
 /// Writes the reply to a question, without the empty line behind it. If it stops, the bytes written are the beginning of the reply.
@@ -84,6 +95,7 @@ fn write_reply<W: Target>(
     match question {
         Question::Nothing => write_str("", target),
         Question::Help => write_help(target),
+        Question::Quit => write_str("", target),
         Question::Report(report) => answerer.write(alloc, kept, report, target),
         Question::Misnamed(Misnamed::NoIdentifier) => write_str("not an identifier\n", target),
         Question::Misnamed(Misnamed::NoKind) => write_str("not a class or a type\n", target),
@@ -91,7 +103,8 @@ fn write_reply<W: Target>(
     }
 }
 
-/// Writes the answer to a question: the reply, and an empty line. If it stops, the bytes written are the beginning of it.
+/// Writes the answer to a question: the reply, and an empty line unless the question ends the dialogue. If it stops, the bytes written are
+/// the beginning of the answer.
 fn write_answer<W: Target>(
     alloc: Global,
     answerer: &Answerer<'_>,
@@ -108,7 +121,7 @@ fn write_answer<W: Target>(
     ensures kept { IsKept (size_of answerer.now.heap.now) (facts_of answerer.now.heap.now) kept.new }
 {
     match write_reply(alloc, answerer, kept, question, target) {
-        Ok(()) => write_str("\n", target),
+        Ok(()) => write_str(behind_reply(question), target),
         Err(stop) => Err(stop),
     }
 }

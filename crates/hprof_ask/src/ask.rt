@@ -28,7 +28,7 @@ pub fn ask_kept<R: Source, Q: Asker<W>, W: Flush>(
     requires readers { All (λ reader. R.health reader ≡ Well) readers.old }
     requires asking { Q.health questions.old ≡ Well }
     requires writer { W.health target.old ≡ Well }
-    // No more is read before all lines that ended are answered, and the answers were flushed.
+    // No more is read before all lines that ended are answered, and the answers were flushed, nor behind a line that ends the dialogue.
     requires leave { LetsAsk R.left Q.left W.written W.flushed Q.may_read readers.old questions.old (W.written target.old) }
     ensures asks { Asks R.left R.health R.pulls Q.left Q.health Q.pulls W.written W.health limits readers.old readers.new
         questions.old questions.new target.old target.new (fault_of_asking result) }
@@ -64,7 +64,8 @@ pub fn ask_kept<R: Source, Q: Asker<W>, W: Flush>(
     }
 }
 
-/// Reads all parts, and then answers each line of the questions over the heap that the parts state together.
+/// Reads all parts, and then answers each line of the questions over the heap that the parts state together, up to the first line that ends
+/// the dialogue.
 ///
 /// All parts are read, or refused, before the first question is read. All answers so far are flushed before more questions are read, and
 /// at the end, also if the questions cannot be read on or memory runs out. If memory runs out or the writer fails, the last answer is cut
@@ -79,7 +80,7 @@ pub fn ask_to<R: Source, Q: Asker<W>, W: Flush>(
     requires readers { All (λ reader. R.health reader ≡ Well) readers.old }
     requires asking { Q.health questions.old ≡ Well }
     requires writer { W.health target.old ≡ Well }
-    // No more is read before all lines that ended are answered, and the answers were flushed.
+    // No more is read before all lines that ended are answered, and the answers were flushed, nor behind a line that ends the dialogue.
     requires leave { LetsAsk R.left Q.left W.written W.flushed Q.may_read readers.old questions.old (W.written target.old) }
     ensures asks { Asks R.left R.health R.pulls Q.left Q.health Q.pulls W.written W.health limits readers.old readers.new
         questions.old questions.new target.old target.new (fault_of_asking result) }

@@ -4,7 +4,7 @@ ghost use Rattle.std.specs.Prelude.{◌≡◌, ◌++◌, ◌∷◌, [], ◌<◌,
 ghost use Rattle.std.specs.Io.KnownBytes.{Consumes, IsAtEnd, Keeps};
 ghost use Rattle.hprof_devices.specs.declared.health.Health.TheVariants.{Well, Failed};
 ghost use Rattle.hprof_devices.specs.Device.{LeavesHealth};
-ghost use Rattle.hprof_ask.specs.Answering.{LeavesWriter, PassesOn, WritesAnswer};
+ghost use Rattle.hprof_ask.specs.Answering.{LeavesWriter, PassesOn, TakesQuestion, WritesAnswer};
 ghost use Rattle.hprof_ask.specs.Dialogue.{EndsDialogue, Finishes, GoesOver, Heard, LetsReadOn};
 
 use crate::asker::Asker;
@@ -18,6 +18,15 @@ const PIECE_LEN: usize = 4096;
 
 /// The number of bytes of a line that are kept. The longest line that is understood has one fewer, with a return behind it.
 const KEPT: usize = 4098;
+
+/// Whether a dialogue goes on.
+#[derive(Clone, Copy, Debug, PartialEq, Eq)]
+pub(crate) enum Course {
+    /// It goes on.
+    Open,
+    /// A line ended it.
+    Ended,
+}
 
 /// A type that answers questions.
 pub trait Answers {
@@ -67,7 +76,31 @@ fn keep(line: &mut Vec<u8>, byte: u8)
     }
 }
 
-/// Goes over a piece of the questions: answers each line that ends in it, and keeps the first bytes behind the last one.
+/// Answers a question, unless it ends the dialogue. Returns whether the dialogue goes on.
+fn take_question<A: Answers, W: Target>(
+    alloc: Global,
+    answers: &A,
+    kept: &mut A::Kept,
+    question: Question,
+    target: &mut W,
+) -> Result<Course, DialogueStop>
+    requires well { W.health target.old ≡ Well }
+    requires kept { A.keeps answers.now kept.old }
+    ensures takes { TakesQuestion (A.is_answer answers.now) question (W.written target.old) (W.written target.new) result }
+    ensures health { LeavesWriter result (W.health target.new) }
+    ensures kept { A.keeps answers.now kept.new }
+{
+    match question {
+        Question::Quit => Ok(Course::Ended),
+        _ => {
+            answers.answer(alloc, kept, question, target)?;
+            Ok(Course::Open)
+        }
+    }
+}
+
+/// Goes over a piece of the questions: answers each line that ends in it, up to one that ends the dialogue, and keeps the first bytes
+/// behind the last one. Returns whether the dialogue goes on.
 fn go_over<A: Answers, W: Target>(
     alloc: Global,
     answers: &A,
@@ -75,7 +108,7 @@ fn go_over<A: Answers, W: Target>(
     piece: &[u8],
     line: &mut Vec<u8>,
     target: &mut W,
-) -> Result<(), DialogueStop>
+) -> Result<Course, DialogueStop>
     requires well { W.health target.old ≡ Well }
     requires kept { A.keeps answers.now kept.old }
     requires room { KEPT ≤ vec_capacity line.old }
@@ -87,13 +120,16 @@ fn go_over<A: Answers, W: Target>(
 {
     for byte in piece {
         if *byte == b'\n' {
-            answers.answer(alloc, kept, ended_question(line), target)?;
+            let question = ended_question(line);
+            if let Course::Ended = take_question(alloc, answers, kept, question, target)? {
+                return Ok(Course::Ended);
+            }
             line.clear();
         } else {
             keep(line, *byte);
         }
     }
-    Ok(())
+    Ok(Course::Open)
 }
 
 /// Passes on all bytes that were written.
@@ -144,7 +180,8 @@ fn answer_last<A: Answers, W: Target>(
     if line.is_empty() {
         return Ok(());
     }
-    answers.answer(alloc, kept, last_question(line), target)
+    take_question(alloc, answers, kept, last_question(line), target)?;
+    Ok(())
 }
 
 /// Answers the bytes behind the last line feed, if there are some, and passes all on.
@@ -202,8 +239,10 @@ fn take_lines<A: Answers, Q: Asker<W>, W: Flush>(
         if count == 0 {
             return finish(alloc, answers, kept, line, target);
         }
-        if let Err(stop) = go_over(alloc, answers, kept, &piece[..count], line, target) {
-            return Err(pass_on(stop, target));
+        match go_over(alloc, answers, kept, &piece[..count], line, target) {
+            Ok(Course::Open) => {}
+            Ok(Course::Ended) => return flush_all(target),
+            Err(stop) => return Err(pass_on(stop, target)),
         }
     }
     // So often no source is pulled.
@@ -213,8 +252,9 @@ fn take_lines<A: Answers, Q: Asker<W>, W: Flush>(
     }
 }
 
-/// Takes the lines of the questions and answers each, until there are no more. All answers so far are flushed before more is
-/// read, and at the end, also if memory runs out or the questions cannot be read on. Of a line no more than its first bytes are kept.
+/// Takes the lines of the questions and answers each, until there are no more or a line ends the dialogue. What stands behind that line is
+/// not answered, and no more is read. All answers so far are flushed before more is read, and at the end, also if memory runs out or the
+/// questions cannot be read on. Of a line no more than its first bytes are kept.
 pub fn converse<A: Answers, Q: Asker<W>, W: Flush>(
     alloc: Global,
     answers: &A,
@@ -225,7 +265,7 @@ pub fn converse<A: Answers, Q: Asker<W>, W: Flush>(
     requires asking { Q.health questions.old ≡ Well }
     requires well { W.health target.old ≡ Well }
     requires kept { A.keeps answers.now kept.old }
-    // No more is read before all lines that ended are answered, and the answers were flushed.
+    // No more is read before all lines that ended are answered, and the answers were flushed, nor behind a line that ends the dialogue.
     requires leave { LetsReadOn (A.is_answer answers.now) Q.left W.written W.flushed Q.may_read questions.old (W.written target.old) }
     ensures dialogue { EndsDialogue (A.is_answer answers.now) Q.left Q.health Q.pulls W.written W.health
         questions.old questions.new target.old target.new result }

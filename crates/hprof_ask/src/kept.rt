@@ -5,7 +5,7 @@ ghost use Rattle.hprof_values.specs.declared.ids.IdSize.{IdSize};
 ghost use Rattle.hprof_items.specs.FactValue.{FactValue};
 ghost use Rattle.hprof_heap.specs.HeapFacts.{facts_of, size_of};
 
-use crate::survey::Survey;
+use crate::survey::{References, Survey};
 use hprof_devices::Device;
 use hprof_heap::Heap;
 use hprof_reach::{Reach, ReferrerIndex, index_referrers, reach_of};
@@ -116,6 +116,8 @@ pub struct Kept {
     pub(crate) reach: Option<Reach>,
     /// What is made for reports that people read.
     pub(crate) survey: Option<Survey>,
+    /// What is made for reports that tell strong references from weak ones.
+    pub(crate) references: Option<References>,
     /// The index of referrers.
     pub(crate) referrers: Option<ReferrerIndex>,
     /// The text of the class histogram.
@@ -135,6 +137,7 @@ impl Kept {
             is_for_many,
             reach: None,
             survey: None,
+            references: None,
             referrers: None,
             histogram: None,
             classes: None,

@@ -1,6 +1,6 @@
 //! Laws of the definitions. None of these functions does anything.
 
-ghost use Rattle.std.specs.Prelude.{◌≡◌, ◌↔◌, ◌++◌, ℕ, List, []};
+ghost use Rattle.std.specs.Prelude.{◌≡◌, ◌↔◌, ◌++◌, ◌∷◌, ℕ, List, []};
 ghost use Rattle.hprof_values.specs.declared.ids.IdSize.{IdSize};
 ghost use Rattle.hprof_items.specs.FactValue.{FactValue};
 ghost use Rattle.hprof_stream.specs.declared.summary.PartSummary.{PartSummary};
@@ -12,7 +12,7 @@ ghost use Rattle.hprof_ask.specs.PartsAnswers.{AreAnswersOfParts};
 ghost use Rattle.hprof_ask.specs.Report.{IsReport};
 ghost use Rattle.hprof_ask.specs.declared.report.Report.{Report};
 ghost use Rattle.hprof_ask.specs.declared.question.Question.{Question};
-ghost use Rattle.hprof_ask.specs.Asked.{Asks};
+ghost use Rattle.hprof_ask.specs.Asked.{Asks, NoneQuits, Quits};
 ghost use Rattle.hprof_ask.specs.Lines.{AreFirstLines, AreLines};
 
 use crate::dialogue::Answers;
@@ -26,7 +26,8 @@ pub fn a_report_is_one_text()
 {}
 
 /// The answers to lines over one heap are one text, and there is one if the facts of the heap agree. To ask two lists of lines one after
-/// the other is to ask them together: no answer depends on what was asked before.
+/// the other is to ask them together, unless one of the first lines ends the dialogue: no answer depends on what was asked before. What
+/// stands behind a line that ends the dialogue is not answered.
 pub fn answers_over_a_heap_are_one_text()
     ensures some { (summaries : List PartSummary) (ids : IdSize) (facts : List FactValue) (lines : List (List ℕ)) → IsConsistent facts
         → (text : List ℕ) × AreAnswers (IsHeapAnswer summaries ids facts) lines text }
@@ -34,9 +35,12 @@ pub fn answers_over_a_heap_are_one_text()
         → AreAnswers (IsHeapAnswer summaries ids facts) lines one → AreAnswers (IsHeapAnswer summaries ids facts) lines other
         → one ≡ other }
     ensures together { (summaries : List PartSummary) (ids : IdSize) (facts : List FactValue) (lines more : List (List ℕ)) (text : List ℕ)
-        → AreAnswers (IsHeapAnswer summaries ids facts) (lines ++ more) text
+        → NoneQuits lines → AreAnswers (IsHeapAnswer summaries ids facts) (lines ++ more) text
         ↔ ((first : List ℕ) × (then : List ℕ) × AreAnswers (IsHeapAnswer summaries ids facts) lines first
         × AreAnswers (IsHeapAnswer summaries ids facts) more then × (text ≡ first ++ then)) }
+    ensures behind { (summaries : List PartSummary) (ids : IdSize) (facts : List FactValue) (lines more : List (List ℕ))
+        (last text : List ℕ) → Quits last → AreAnswers (IsHeapAnswer summaries ids facts) (lines ++ last ∷ more) text
+        ↔ AreAnswers (IsHeapAnswer summaries ids facts) lines text }
 {}
 
 /// The answers to lines over the heap of parts are one text, and there is one if the parts agree: they depend on the lines and the parts
@@ -48,8 +52,9 @@ pub fn answers_over_parts_are_one_text()
         → AreAnswersOfParts lines parts other → one ≡ other }
 {}
 
-/// Bytes have one list of lines. Behind bytes whose last line ends with a line feed the lines of more bytes follow.
+/// Bytes have one list of lines, and no other. Behind bytes whose last line ends with a line feed the lines of more bytes follow.
 pub fn bytes_have_one_list_of_lines()
+    ensures some { (bytes : List ℕ) → (lines : List (List ℕ)) × AreLines bytes lines }
     ensures one { (bytes : List ℕ) (one other : List (List ℕ)) → AreLines bytes one → AreLines bytes other → one ≡ other }
     ensures more { (bytes more : List ℕ) (lines others : List (List ℕ)) → AreFirstLines bytes lines [] → AreLines more others
         → AreLines (bytes ++ more) (lines ++ others) }
@@ -61,13 +66,17 @@ pub fn a_line_asks_one_thing()
     ensures one { (line : List ℕ) (one other : Question) → Asks line one → Asks line other → one ≡ other }
 {}
 
-/// The answers to lines are one text, and there is one. To ask two lists of lines one after the other is to ask them together: no answer
-/// depends on a question before.
+/// The answers to lines are one text, and there is one. To ask two lists of lines one after the other is to ask them together, unless one
+/// of the first lines ends the dialogue: no answer depends on a question before. What stands behind a line that ends the dialogue is not
+/// answered.
 pub fn answers_are_one_text<A: Answers>(answers: &A)
     ensures some { (lines : List (List ℕ)) → (text : List ℕ) × AreAnswers (A.is_answer answers.now) lines text }
     ensures one { (lines : List (List ℕ)) (one other : List ℕ) → AreAnswers (A.is_answer answers.now) lines one
         → AreAnswers (A.is_answer answers.now) lines other → one ≡ other }
-    ensures together { (lines more : List (List ℕ)) (text : List ℕ) → AreAnswers (A.is_answer answers.now) (lines ++ more) text
+    ensures together { (lines more : List (List ℕ)) (text : List ℕ) → NoneQuits lines
+        → AreAnswers (A.is_answer answers.now) (lines ++ more) text
         ↔ ((first : List ℕ) × (then : List ℕ) × AreAnswers (A.is_answer answers.now) lines first
         × AreAnswers (A.is_answer answers.now) more then × (text ≡ first ++ then)) }
+    ensures behind { (lines more : List (List ℕ)) (last text : List ℕ) → Quits last
+        → AreAnswers (A.is_answer answers.now) (lines ++ last ∷ more) text ↔ AreAnswers (A.is_answer answers.now) lines text }
 {}

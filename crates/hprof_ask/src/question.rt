@@ -20,6 +20,8 @@ pub enum Question {
     Nothing,
     /// `help`: the questions that can be asked.
     Help,
+    /// `quit` or `exit`: the end of the dialogue.
+    Quit,
     /// A report.
     Report(Report),
     /// The word of a report, and behind it another word that is none of those that follow it.
@@ -94,6 +96,9 @@ fn asked(line: &[u8]) -> Question
     }
     if line == b"help".as_slice() {
         return Question::Help;
+    }
+    if line == b"quit".as_slice() || line == b"exit".as_slice() {
+        return Question::Quit;
     }
     match words_of(line) {
         Some((word, text)) => named(word, text),

@@ -5,7 +5,7 @@ ghost use Rattle.std.specs.Prelude.{◌≡◌};
 use hprof_devices::{ReadFault, WriteFault};
 use std::alloc::AllocError;
 
-/// The reason why a dialogue stopped before the end of the questions.
+/// The reason why a dialogue stopped before the end of the questions, and before a line that ends it.
 #[derive(Clone, Copy, Debug, PartialEq, Eq)]
 pub enum DialogueStop {
     /// The questions could not be read on.

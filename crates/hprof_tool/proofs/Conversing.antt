@@ -9,14 +9,15 @@ use Rattle.hprof_engine.specs.Joining.{IsOfReading}
 use Rattle.hprof_engine.specs.Makes.{dump_making}
 use Rattle.hprof_ask.specs.declared.question.Question.{Question}
 use Rattle.hprof_ask.specs.declared.stop.DialogueStop.TheVariants as stops
-use Rattle.hprof_ask.specs.Dialogue.{AnswersLines, AnswersSome, Came}
-use Rattle.hprof_ask.specs.Lines.{AreEndedLines, AreLines}
+use Rattle.hprof_ask.specs.Dialogue.{AnswersLines, AnswersSome, AreOpenLines, Came, IsOver}
+use Rattle.hprof_ask.specs.Lines.{AreLines}
 use Rattle.hprof_ask.specs.declared.ask_fault.AskFault.{AskFault}
 use Rattle.hprof_ask.specs.declared.ask_fault.AskFault.TheVariants as faults
 use Rattle.hprof_ask.specs.HeapAnswers.{IsHeapAnswer}
 use Rattle.hprof_ask.specs.Asks.{Asks, PassesAnswersOn}
 use Rattle.hprof_ask.specs.Asks as asking
 use Rattle.hprof_ask.proofs.Hearing.{some_for}
+use Rattle.hprof_ask.proofs.QuitLines.{quit_answers}
 use Rattle.hprof_tool.specs.declared.program.refused.Refused.{Refused}
 use Rattle.hprof_tool.specs.declared.program.refused.Refused.TheVariants as refusals
 use Rattle.hprof_tool.specs.Folder.{Answered, AreOpened}
@@ -82,14 +83,14 @@ module _ {R Q W O : Type 0} (left : R → Option (List ℕ)) (health : R → Hea
 
   -- lines that ended are answered, and some answers were written
   abbrev Ended : (Question → List ℕ → Type 0) → (front rest : List ℕ) → Option (List ℕ) → Option (List ℕ) → Type 0
-  Ended IsAnswer front rest start now = AnswersLines IsAnswer AreEndedLines front start now
+  Ended IsAnswer front rest start now = AnswersLines IsAnswer AreOpenLines front start now
 
   abbrev First : (Question → List ℕ → Type 0) → (front rest : List ℕ) → Option (List ℕ) → Option (List ℕ) → Type 0
   First IsAnswer front rest start now = AnswersSome IsAnswer (rest ≡ []) front start now
 
   ended_fronts : asking.OverParts left readers (λ IsAnswer. Came IsAnswer asked how turns written well was is before after
-      (AnswersLines IsAnswer AreEndedLines)) → Fronts Ended (written before) (written after)
-  ended_fronts = fronts (λ IsAnswer. AnswersLines IsAnswer AreEndedLines) Ended (λ IsAnswer front rest start now end holds. holds)
+      (AnswersLines IsAnswer AreOpenLines)) → Fronts Ended (written before) (written after)
+  ended_fronts = fronts (λ IsAnswer. AnswersLines IsAnswer AreOpenLines) Ended (λ IsAnswer front rest start now end holds. holds)
 
   first_fronts : asking.OverParts left readers (λ IsAnswer. Came IsAnswer asked how turns written well was is before after
       (AnswersSome IsAnswer (IsAtEnd (asked is)))) → Fronts First (written before) (written after)
@@ -102,25 +103,32 @@ module _ {R Q W O : Type 0} (left : R → Option (List ℕ)) (health : R → Hea
   of_streams Holds start now start' now' same_start same_now holds =
       subst (Fronts Holds start') same_now (subst (λ (s : Option (List ℕ)). Fronts Holds s now) same_start holds)
 
+  -- all known questions are answered, whether they came to an end or a line ended the dialogue
+  over_all : (IsAnswer : Question → List ℕ → Type 0) → IsOver IsAnswer asked how turns written well was is before after
+      → (questions : List ℕ) → asked was ≡ Some questions → AnswersLines IsAnswer AreLines questions (written before) (written after)
+  over_all IsAnswer (inl (came, end)) questions known =
+      subst (λ (bytes : List ℕ). AnswersLines IsAnswer AreLines bytes (written before) (written after))
+      (all_of (asked was) (asked is) questions came.bytes known came.consumed end) came.holds
+  over_all IsAnswer (inr came) questions known =
+      let front = front_of (asked was) (asked is) questions came.bytes known came.consumed in
+      subst (λ (bytes : List ℕ). AnswersLines IsAnswer AreLines bytes (written before) (written after)) (sym front.1)
+      (quit_answers IsAnswer came.bytes front.0 (written before) (written after) came.holds)
+
   module _ (at_first : written before ≡ contents first) where
     -- all is answered
     pub answered_all : (written after ≡ contents last) → Asked None → AnswersAll contents first Over last
     answered_all at_last a = λ parts told questions known.
-        let ok = a.ok refl in
-        let over = ok.0 in
-        let came = over.holds in
-        let all = all_of (asked was) (asked is) questions came.bytes known came.consumed ok.1 in
+        let over = (a.ok refl).0 in
         let answers = IsHeapAnswer over.summaries over.heap.ids over.heap.facts in
-        let at_start : AnswersLines answers AreLines came.bytes (contents first) (written after) =
-        subst (λ (start : Option (List ℕ)). AnswersLines answers AreLines came.bytes start (written after)) at_first came.holds in
-        let at_end : AnswersLines answers AreLines came.bytes (contents first) (contents last) =
-        subst (λ (now : Option (List ℕ)). AnswersLines answers AreLines came.bytes (contents first) now) at_last at_start in
+        let at_start : AnswersLines answers AreLines questions (contents first) (written after) =
+        subst (λ (start : Option (List ℕ)). AnswersLines answers AreLines questions start (written after)) at_first
+        (over_all answers over.holds questions known) in
         record {
           heap = over.heap;
           agree = over.agree parts told;
           summaries = over.summaries;
           of_parts = over.of_parts parts told;
-          holds = subst (λ (bytes : List ℕ). AnswersLines answers AreLines bytes (contents first) (contents last)) all at_end;
+          holds = subst (λ (now : Option (List ℕ)). AnswersLines answers AreLines questions (contents first) now) at_last at_start;
         }
 
     module _ (unwritten : List ℕ) (at_last : written after ≡ append_known (contents last) unwritten) (same : after ≡ before

@@ -15,8 +15,8 @@ use Rattle.hprof_engine.specs.Makes.{dump_making}
 use Rattle.hprof_engine.specs.Summaries.{AreSummaries}
 use Rattle.hprof_ask.specs.declared.question.Question.{Question}
 use Rattle.hprof_ask.specs.declared.stop.DialogueStop.TheVariants as stops
-use Rattle.hprof_ask.specs.Dialogue.{AnswersLines, AnswersSome}
-use Rattle.hprof_ask.specs.Lines.{AreEndedLines, AreLines}
+use Rattle.hprof_ask.specs.Dialogue.{AnswersLines, AnswersSome, AreOpenLines}
+use Rattle.hprof_ask.specs.Lines.{AreLines}
 use Rattle.hprof_ask.specs.declared.ask_fault.AskFault.{AskFault}
 use Rattle.hprof_ask.specs.declared.ask_fault.AskFault.TheVariants as faults
 use Rattle.hprof_ask.specs.HeapAnswers.{IsHeapAnswer}
@@ -64,13 +64,13 @@ pub record OfFront (questions : List ℕ) (Holds : (front rest : List ℕ) → T
 --   contents, old: what a stream tells that it holds, and the stream before
 --   Over: that holds of the answers and of the questions, if the parts and the questions are told
 module _ {O : Type 0} (contents : O → Option (List ℕ)) (old : O) (Over : ((Question → List ℕ → Type 0) → List ℕ → Type 0) → Type 0) where
-  -- the answers to all lines of the questions were written
+  -- the answers to all lines of the questions were written, up to the first line that ends the dialogue
   abbrev pub AnswersAll : (new : O) → Type 0
   AnswersAll new = Over (λ IsAnswer questions. AnswersLines IsAnswer AreLines questions (contents old) (contents new))
 
-  -- the answers to the lines that had ended were written, when the questions could not be read on
+  -- the answers to the lines that had ended were written, when the questions could not be read on; none of them ends the dialogue
   abbrev pub AnswersEnded : (holds : Option (List ℕ)) → Type 0
-  AnswersEnded holds = Over (λ IsAnswer questions. OfFront questions (λ front rest. AnswersLines IsAnswer AreEndedLines front (contents old) holds))
+  AnswersEnded holds = Over (λ IsAnswer questions. OfFront questions (λ front rest. AnswersLines IsAnswer AreOpenLines front (contents old) holds))
 
   -- the answers to the lines that were taken were written, to the last of them a front
   abbrev pub AnswersFirst : (holds : Option (List ℕ)) → Type 0
@@ -117,7 +117,7 @@ module _ {P W I O : Type 0} (answered : Answered P W) (tells : P → Option (Lis
   OverFiles Holds = OfParts answered tells names
       (λ parts. (questions : List ℕ) → left input ≡ Some questions → OverParts (λ IsAnswer. Holds IsAnswer questions) parts)
 
-  -- the answers to all lines of the questions were written
+  -- the answers to all lines of the questions were written, up to the first line that ends the dialogue
   abbrev pub AnswersQuestions : (new : O) → Type 0
   AnswersQuestions = AnswersAll contents old OverFiles
 

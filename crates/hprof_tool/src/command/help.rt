@@ -58,9 +58,10 @@ A line that is no question is answered with a line that says so.
 
     text 3 cyd
 
-On a terminal, Control-D ends the dialogue. Identifiers are hexadecimal, without
-0x or @. Two dumps of one process are two heaps: ask each alone. A compressed
-dump goes through zcat: hprof ask <(zcat heap.hprof.gz)
+The line `quit` or `exit` ends the dialogue, and on a terminal Control-D does.
+Identifiers are hexadecimal, without 0x or @. Two dumps of one process are two
+heaps: ask each alone. A compressed dump goes through zcat:
+    $ hprof ask <(zcat heap.hprof.gz)
 
 Exit status: 0 done, 1 refused (one line on standard error), 2 not understood.";
 

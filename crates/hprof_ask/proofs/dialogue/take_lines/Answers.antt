@@ -1,8 +1,9 @@
-use Rattle.std.proofs.Common.{◌<◌, ◌++◌, ℕ, length, take, sym, subst, arith}
+use Rattle.std.proofs.Common.{◌<◌, ◌++◌, ℕ, length, take, sym, subst, arith, Ok}
 use Rattle.std.specs.Io.KnownBytes.{Consumes}
-use Rattle.hprof_ask.specs.Dialogue.{Heard}
+use Rattle.hprof_ask.specs.declared.dialogue.Course.{Course}
+use Rattle.hprof_ask.specs.Dialogue.{AnswersLines, AreLinesToQuit, GoesOver, Heard}
 use Rattle.hprof_ask.proofs.Hearing.{some_still}
-use Rattle.hprof_ask.proofs.Dialogues.{ends_all, ends_flushing, ends_piece, may_read_on, so_far_more, so_far_flushed}
+use Rattle.hprof_ask.proofs.Dialogues.{ends_all, ends_flushing, ends_piece, ends_quit, may_read_on, so_far_more, so_far_flushed}
 use Rattle.hprof_ask.proofs.dialogue.take_lines.Goals as goal
 
 -- the answers could not be flushed
@@ -51,6 +52,26 @@ returns-then-count-eq0-clause-dialogue g c =
     (subst (Heard IA flushed.bytes (written before) (written c.flush_all.new.target)) (sym c.deref.ensures.value) flushed.holds))
     c.in-Ok.ensures.health c.finish.ensures.health
 
+-- a line ended the dialogue
+pub returns-in-Ok-Ended-clause-dialogue : goal.returns-in-Ok-Ended-clause-dialogue
+returns-in-Ok-Ended-clause-dialogue g c =
+    let IA = g.A.Answers.is_answer c.args.answers.now in
+    let left = g.Q.Asker.left in
+    let written = g.W.Target.written in
+    let was = c.args.questions.now in
+    let before = c.args.target.now in
+    let flushed = so_far_flushed IA left g.Q.Asker.health g.Q.Asker.pulls written g.W.Target.health was before
+    c.turns.questions c.turns.target c.turns.line.items c.turns.invariant.came c.flush_all.new.target c.flush_all.ensures.bytes in
+    let flush = c.flush_all-in-Ok-Ended in
+    let bytes = flushed.bytes ++ take c.in-Ok.count c.read_on.new.piece in
+    let ended : AnswersLines IA AreLinesToQuit bytes (written before) (written c.go_over.new.target) =
+    subst (λ (course : Course). GoesOver IA bytes (written before) (written c.go_over.new.target) c.go_over.new.line.items (Ok course))
+    c.in-Ok-Ended.field-0-is (c.in-Ok-Ended.ensures.bytes flushed.bytes (written before) flushed.holds) in
+    ends_quit IA left g.Q.Asker.health g.Q.Asker.pulls written g.W.Target.health was before c.turns.questions c.flush_all.new.target
+    c.turns.line.items flushed c.read_on.new.self (take c.in-Ok.count c.read_on.new.piece) c.in-Ok.ensures.bytes c.go_over.new.target
+    flush.new.target flush.result ended flush.ensures.bytes
+    c.in-Ok.ensures.health flush.ensures.health
+
 pub returns-in-Err-go_over-clause-dialogue : goal.returns-in-Err-go_over-clause-dialogue
 returns-in-Err-go_over-clause-dialogue g c =
     let IA = g.A.Answers.is_answer c.args.answers.now in
@@ -75,13 +96,17 @@ turns-preserved g c =
     let before = c.args.target.now in
     let flushed = so_far_flushed IA left g.Q.Asker.health g.Q.Asker.pulls written g.W.Target.health was before
     c.turns.questions c.turns.target c.turns.line.items c.turns.invariant.came c.flush_all.new.target c.flush_all.ensures.bytes in
+    let bytes = flushed.bytes ++ take c.in-Ok.count c.read_on.new.piece in
+    let heard : Heard IA bytes (written before) (written c.go_over.new.target) c.go_over.new.line.items =
+    subst (λ (course : Course). GoesOver IA bytes (written before) (written c.go_over.new.target) c.go_over.new.line.items (Ok course))
+    c.in-Ok-Open.field-0-is (c.in-Ok-Open.ensures.bytes flushed.bytes (written before) flushed.holds) in
     record {
       came = so_far_more IA left g.Q.Asker.health g.Q.Asker.pulls written g.W.Target.health was before c.turns.questions
           c.flush_all.new.target c.turns.line.items flushed c.read_on.new.self (take c.in-Ok.count c.read_on.new.piece)
           c.in-Ok.ensures.bytes c.go_over.new.target c.go_over.new.line.items
-          (c.in_default-go_over.ensures.bytes flushed.bytes (written before) flushed.holds);
+          heard;
       asking = c.in-Ok.ensures.health;
-      well = c.in_default-go_over.ensures.health;
+      well = c.in-Ok-Open.ensures.health;
       keeps = c.go_over.ensures.kept;
       room = c.go_over.ensures.room;
       pulls = omega (arith, c.read_on.ensures.pulls, c.turns.invariant.pulls);
