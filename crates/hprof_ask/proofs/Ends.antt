@@ -26,7 +26,7 @@ text_ends written well IsText memory before after (Err (stops.Write fault)) text
     (health, (text, front.0, is, front.2))
 text_ends written well IsText memory before after (Err stops.OutOfMemory) text is front health wants =
     (wants refl, health, (text, front.0, is, front.2))
-text_ends written well IsText memory before after (Err stops.TooLong) text is front health wants = absurd health
+text_ends written well IsText memory before after (Err (stops.Refused refusal)) text is front health wants = absurd health
 
 -- a report is of the summaries that are kept for it
 pub of_kept : (report : Report) (kept : Vec PartSummary Global) (held summaries : List PartSummary) (ids : IdSize) (facts : List FactValue)

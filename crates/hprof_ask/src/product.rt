@@ -47,7 +47,7 @@ impl Product for Report {
 
     ghost is_text = { IsReportText };
 
-    ghost is_too_long = { λ report heap. ⊥ };
+    ghost refuses = { λ report heap. ⊥ };
 
     ghost takes_memory = { TakesMemory };
 

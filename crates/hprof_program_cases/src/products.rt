@@ -43,7 +43,7 @@ impl Product for Stopped {
 
     ghost is_text = { λ product summaries heap text. text ≡ [] };
 
-    ghost is_too_long = { λ product heap. ⊤ };
+    ghost refuses = { λ product heap. ⊤ };
 
     ghost takes_memory = { λ product. ⊤ };
 
@@ -55,7 +55,7 @@ impl Product for Stopped {
         target: &mut W,
     ) -> Result<(), WriteStop> {
         match self.stop {
-            WriteStop::TooLong => Err(WriteStop::TooLong),
+            WriteStop::Refused(refusal) => Err(WriteStop::Refused(refusal)),
             WriteStop::OutOfMemory => match target.push(&[]) {
                 Ok(_) => Err(WriteStop::OutOfMemory),
                 Err(fault) => Err(WriteStop::Write(fault)),
@@ -91,7 +91,7 @@ fn check_stopped(
 #[test]
 fn products_that_stop(rt: HostRuntime) -> Result<(), Fail> {
     let cases = [
-        (WriteStop::TooLong, ToolFault::DumpTooLong),
+        (WriteStop::Refused(refusal), ToolFault::DumpTooLong),
         (WriteStop::OutOfMemory, ToolFault::OutOfMemory),
     ];
     for (stop, fault) in cases {

@@ -93,7 +93,7 @@ pub text_ends : {W : Type 0} (written : W → Option (List ℕ)) (well : W → H
 text_ends written well IsText before after (Ok done) text is writes health = (health, (text, is, writes))
 text_ends written well IsText before after (Err (stops.Write fault)) text is front health = (health, (text, front.0, is, front.2))
 text_ends written well IsText before after (Err stops.OutOfMemory) text is front health = (tt, health, (text, front.0, is, front.2))
-text_ends written well IsText before after (Err stops.TooLong) text is front health = absurd health
+text_ends written well IsText before after (Err (stops.Refused refusal)) text is front health = absurd health
 
 -- the same of a report that is told by the facts and the size of a heap
 pub report_ends : {W : Type 0} (written : W → Option (List ℕ)) (well : W → Health) (IsText : IdSize → List FactValue → List ℕ → Type 0)

@@ -17,4 +17,4 @@ abbrev pub LeavesTarget : {A : Type 0} → Result A WriteStop → Health → Typ
 LeavesTarget (Ok done) health = health ≡ Well
 LeavesTarget (Err (stops.Write fault)) health = health ≡ health_after fault
 LeavesTarget (Err stops.OutOfMemory) health = health ≡ Well
-LeavesTarget (Err stops.TooLong) health = ⊥
+LeavesTarget (Err (stops.Refused refusal)) health = ⊥

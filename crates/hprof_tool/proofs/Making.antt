@@ -47,30 +47,30 @@ module _ {R : Type 0} (left : R → Option (List ℕ)) (health : R → Health) (
   -- ---- what a refusal says
 
   module _ {W : Type 0} (written : W → Option (List ℕ)) (well : W → Health) (IsText : List PartSummary → HeapValue → List ℕ → Type 0)
-      (TooLong : HeapValue → Type 0) (TakesRoom : ℕ → Type 0) (TakesMemory : Type 0) (before after : W) where
+      (Refuses : ProductRefusal → HeapValue → Type 0) (TakesRoom : ℕ → Type 0) (TakesMemory : Type 0) (before after : W) where
     pub refusal : (fault : ToolFault)
-        → Makes left health pulls written well usual_limits (making_of IsText TooLong TakesRoom TakesMemory) old new before after
+        → Makes left health pulls written well usual_limits (making_of IsText Refuses TakesRoom TakesMemory) old new before after
         (Some fault) → (parts : List (List ℕ)) → Tell left old parts
-        → IsRefusal left health pulls old new (making_of IsText TooLong TakesRoom TakesMemory) (refused_of fault) parts
+        → IsRefusal left health pulls old new (making_of IsText Refuses TakesRoom TakesMemory) (refused_of fault) parts
     refusal (tool.Part index fault) m parts told = m.reads.part index fault refl parts told
     refusal tool.NoParts m parts told = no_parts_told left old parts (m.reads.no_parts.0 refl) told
     refusal tool.IdSizes m parts told = m.reads.id_sizes refl parts told
     refusal (tool.Conflict key) m parts told = m.reads.conflict key refl parts told
     refusal (tool.Write fault) m parts told =
         let is = (m.write fault refl).1 parts told in (is.0, is.2)
-    refusal tool.DumpTooLong m parts told = let is = m.too_long refl in (is.0, is.1, is.2 parts told)
+    refusal (tool.Refused refusal) m parts told = let is = m.too_long refl in (is.0, is.1, is.2 parts told)
     refusal tool.OutOfMemory m parts told = tt
 
   -- the same of what a stream tells
-  pub refused_by : (IsText : List PartSummary → HeapValue → List ℕ → Type 0) (TooLong : HeapValue → Type 0) (TakesRoom : ℕ → Type 0)
+  pub refused_by : (IsText : List PartSummary → HeapValue → List ℕ → Type 0) (Refuses : ProductRefusal → HeapValue → Type 0) (TakesRoom : ℕ → Type 0)
       (TakesMemory : Type 0)
       (held holds : Option (List ℕ)) (end : Health) (fault : ToolFault)
       → Makes {W = Option (List ℕ) × Health} left health pulls (λ s. s.0) (λ s. s.1) usual_limits
-      (making_of IsText TooLong TakesRoom TakesMemory) old new (held, healths.Well) (holds, end) (Some fault)
+      (making_of IsText Refuses TakesRoom TakesMemory) old new (held, healths.Well) (holds, end) (Some fault)
       → (parts : List (List ℕ)) → Tell left old parts
-      → IsRefusal left health pulls old new (making_of IsText TooLong TakesRoom TakesMemory) (refused_of fault) parts
-  refused_by IsText TooLong TakesRoom TakesMemory held holds end fault m parts told =
-      refusal {W = Option (List ℕ) × Health} (λ s. s.0) (λ s. s.1) IsText TooLong TakesRoom TakesMemory (held, healths.Well) (holds, end)
+      → IsRefusal left health pulls old new (making_of IsText Refuses TakesRoom TakesMemory) (refused_of fault) parts
+  refused_by IsText Refuses TakesRoom TakesMemory held holds end fault m parts told =
+      refusal {W = Option (List ℕ) × Health} (λ s. s.0) (λ s. s.1) IsText Refuses TakesRoom TakesMemory (held, healths.Well) (holds, end)
       fault m parts told
 
   -- ---- a device that is taken apart

@@ -24,7 +24,7 @@ returns-clause-no_parts g c = if_err_more _ _ c.write_through_buffer.result
 pub returns-clause-refused : goal.returns-clause-refused
 returns-clause-refused g c =
     let is_text = g.P.Product.is_text c.args.report.now in
-    let too_long = g.P.Product.is_too_long c.args.report.now in
+    let too_long = g.P.Product.refuses c.args.report.now in
     let room = g.P.Summaries.takes_room c.args.report.now in
     let memory = g.P.Product.takes_memory c.args.report.now in
     let answered = g.F.Folder.answered c.args.files.now in
@@ -45,7 +45,7 @@ returns-clause-refused g c =
 pub returns-in-Err-clause-refused : goal.returns-in-Err-clause-refused
 returns-in-Err-clause-refused g c =
     let is_text = g.P.Product.is_text c.args.report.now in
-    let making = making_of is_text (g.P.Product.is_too_long c.args.report.now) (g.P.Summaries.takes_room c.args.report.now)
+    let making = making_of is_text (g.P.Product.refuses c.args.report.now) (g.P.Summaries.takes_room c.args.report.now)
     (g.P.Product.takes_memory c.args.report.now) in
     let answered = g.F.Folder.answered c.args.files.now in (
       opening_reports making answered g.F.Part.Source.left g.F.Part.Source.health g.F.Part.Source.pulls c.args.names.now c.in-Err.why

@@ -16,7 +16,7 @@ returns-in_err-parts-clause-no_parts g c = λ same.
 
 pub returns-in_err-parts-clause-refused : goal.returns-in_err-parts-clause-refused
 returns-in_err-parts-clause-refused g c =
-    let making = making_of (g.P.Product.is_text c.args.product.now) (g.P.Product.is_too_long c.args.product.now)
+    let making = making_of (g.P.Product.is_text c.args.product.now) (g.P.Product.refuses c.args.product.now)
     (g.P.Summaries.takes_room c.args.product.now)
     (g.P.Product.takes_memory c.args.product.now) in
     if_the_error _ c.from_residual.result c.in_err-parts.field-0.0 (of_starting making
@@ -46,7 +46,7 @@ remove_out-requires g c = (
 pub returns-clause-refused : goal.returns-clause-refused
 returns-clause-refused g c =
     let is_text = g.P.Product.is_text c.args.product.now in
-    let too_long = g.P.Product.is_too_long c.args.product.now in
+    let too_long = g.P.Product.refuses c.args.product.now in
     let room = g.P.Summaries.takes_room c.args.product.now in
     let memory = g.P.Product.takes_memory c.args.product.now in
     let answered = g.F.Folder.answered c.args.files.now in
