@@ -1,5 +1,5 @@
 -- Making something of parts.
-use Rattle.std.proofs.Common.{◌≡◌, inr, ℕ, List, Option, Some, None, Result, Ok, Err, refl, subst, arith}
+use Rattle.std.proofs.Common.{◌≡◌, inl, inr, ℕ, List, Option, Some, None, Result, Ok, Err, refl, subst, arith}
 use Rattle.std.specs.Prelude.{All}
 use Rattle.hprof_devices.specs.declared.health.Health.{Health}
 use Rattle.hprof_devices.specs.declared.health.Health.TheVariants as healths
@@ -129,7 +129,10 @@ module _ {R : Type 0} (left : R → Option (List ℕ)) (health : R → Health) (
         ends.0,
         reads.read_out,
         ends.1,
-        λ parts told. (ends.2.0, ends.2.1, made parts told ends.2.0 ends.2.2, ends.2.3),
+        elim ends.2 [
+          | inl front ↦ inl (λ parts told. (front.0, front.1, made parts told front.0 front.2, front.3))
+          | inr refused ↦ inr ((refused.0.0, (heap, refused.0.1, agree)), refused.1)
+        ],
       );
       no_other = λ parts ids millis facts told state are_well is_well unhindered. absurd (unhindered tt);
     }

@@ -62,6 +62,11 @@ pub record Making : Type 1 where
   -- memory is taken while it is written
   pub TakesMemory : Type 0
 
+-- the heap that the parts state is one that is refused
+abbrev pub RefusesHeap : {R : Type 0} → (left : R → Option (List ℕ)) → (old : List R) → (Refuses : HeapValue → Type 0) → Type 0
+RefusesHeap left old Refuses = (heap : HeapValue) × Refuses heap
+    × ((parts : List (List ℕ)) → Tell left old parts → Agree parts heap.ids heap.millis heap.facts)
+
 -- what a call answers that reads all parts, and then writes something that is made of them
 --   written, well: what a writer holds, where it tells, and how it is doing
 --   before, after: the writer, before and afterwards
@@ -74,15 +79,15 @@ pub record Makes {R W : Type 0} (left : R → Option (List ℕ)) (health : R →
   -- a refusal before writing leaves the writer as it was
   pub unwritten : IsBeforeWriting ended → after ≡ before
   -- the heap that the parts state is refused for that reason
-  pub refused : (refusal : ProductRefusal) → ended ≡ Some (tool.Refused refusal) → (heap : HeapValue) × making.Refuses refusal heap
-      × ((parts : List (List ℕ)) → Tell left old parts → Agree parts heap.ids heap.millis heap.facts)
+  pub refused : (refusal : ProductRefusal) → ended ≡ Some (tool.Refused refusal) → RefusesHeap left old (making.Refuses refusal)
   -- the writer failed or stuck, and a front was written
   pub write : (fault : WriteFault) → ended ≡ Some (tool.Write fault) → (well after ≡ health_after fault)
       × ((parts : List (List ℕ)) → Tell left old parts → WritesFront making.IsMade parts (written before) (written after))
-  -- memory was wanted before anything was read or written, or when all was read, and a front was written
+  -- memory was wanted before anything was read or written, or when all was read, and a front was written; of a heap that is refused, nothing
   pub memory : ended ≡ Some tool.OutOfMemory → (making.TakesRoom (length old) × (new ≡ old) × (after ≡ before))
       ⊎ (making.TakesMemory × AreReadOut left health pulls limits old new (length old) × (well after ≡ healths.Well)
-      × ((parts : List (List ℕ)) → Tell left old parts → WritesFront making.IsMade parts (written before) (written after)))
+      × (((parts : List (List ℕ)) → Tell left old parts → WritesFront making.IsMade parts (written before) (written after))
+      ⊎ (((refusal : ProductRefusal) × RefusesHeap left old (making.Refuses refusal)) × (after ≡ before))))
   -- no other answer where the parts state something together, readers and writer stay well, and nothing hindered it
   pub no_other : (parts : List (List ℕ)) (ids : IdSize) (millis : ℕ) (facts : List FactValue) → Tell left old parts
       → IsState parts ids millis facts → All (λ reader. health reader ≡ healths.Well) new → well after ≡ healths.Well
@@ -99,7 +104,9 @@ EndsWriting written well IsText Refuses TakesMemory before after (Ok done) =
 EndsWriting written well IsText Refuses TakesMemory before after (Err (stops.Write fault)) =
     (well after ≡ health_after fault) × ((text : List ℕ) × (count : ℕ) × IsText text × Appends (written before) (written after) (take count text))
 EndsWriting written well IsText Refuses TakesMemory before after (Err stops.OutOfMemory) = TakesMemory
-    × (well after ≡ healths.Well) × ((text : List ℕ) × (count : ℕ) × IsText text × Appends (written before) (written after) (take count text))
+    × (well after ≡ healths.Well)
+    × (((text : List ℕ) × (count : ℕ) × IsText text × Appends (written before) (written after) (take count text))
+    ⊎ (((refusal : ProductRefusal) × Refuses refusal) × (after ≡ before)))
 EndsWriting written well IsText Refuses TakesMemory before after (Err (stops.Refused refusal)) = Refuses refusal × (after ≡ before)
 
 -- the parts agree, and this is made of their summaries and of the heap that they state

@@ -13,6 +13,7 @@ use Rattle.hprof_devices.specs.Device.{health_after}
 use Rattle.hprof_stream.specs.declared.limits.Limits.{Limits}
 use Rattle.hprof_stream.specs.declared.summary.PartSummary.{PartSummary}
 use Rattle.hprof_rows.specs.HeapValue.{HeapValue}
+use Rattle.hprof_engine.specs.declared.product_refusal.ProductRefusal.{ProductRefusal}
 use Rattle.hprof_engine.specs.declared.tool_fault.ToolFault.{ToolFault}
 use Rattle.hprof_engine.specs.declared.tool_fault.ToolFault.TheVariants as tool
 use Rattle.hprof_engine.specs.Joining.{Tell, IsBeforeWriting, fault_of}
@@ -58,7 +59,7 @@ module _ {R : Type 0} (left : R → Option (List ℕ)) (health : R → Health) (
     refusal (tool.Conflict key) m parts told = m.reads.conflict key refl parts told
     refusal (tool.Write fault) m parts told =
         let is = (m.write fault refl).1 parts told in (is.0, is.2)
-    refusal (tool.Refused refusal) m parts told = let is = m.too_long refl in (is.0, is.1, is.2 parts told)
+    refusal (tool.Refused why) m parts told = let is = m.refused why refl in (is.0, is.1, is.2 parts told)
     refusal tool.OutOfMemory m parts told = tt
 
   -- the same of what a stream tells
@@ -84,11 +85,14 @@ module _ {R : Type 0} (left : R → Option (List ℕ)) (health : R → Health) (
       reads = m.reads;
       ok = m.ok;
       unwritten = λ none. let same = m.unwritten none in ap (λ (w : W). (written w, well w)) same;
-      too_long = m.too_long;
+      refused = m.refused;
       write = m.write;
       memory = λ e. elim (m.memory e) [
         | inl none ↦ inl (none.0, none.1, ap (λ (w : W). (written w, well w)) none.2)
-        | inr all ↦ inr all
+        | inr all ↦ inr (all.0, all.1, all.2, elim all.3 [
+          | inl front ↦ inl front
+          | inr refused ↦ inr (refused.0, ap (λ (w : W). (written w, well w)) refused.1)
+        ])
       ];
       no_other = m.no_other;
     }
@@ -103,7 +107,7 @@ module _ {R : Type 0} (left : R → Option (List ℕ)) (health : R → Health) (
       reads = m.reads;
       ok = λ e. (refl, λ parts told. let all = (m.ok e).1 parts told in (all.0, all.1, Appends-kept held holds end all.0 all.2 keeps));
       unwritten = λ none. absurd none;
-      too_long = λ e. absurd cc;
+      refused = λ why e. absurd cc;
       write = λ fault e. absurd cc;
       memory = λ e. absurd cc;
       no_other = λ parts ids millis facts told state are_well is_well unhindered. tt;
@@ -125,7 +129,7 @@ module _ {R : Type 0} (left : R → Option (List ℕ)) (health : R → Health) (
       };
       ok = λ e. absurd cc;
       unwritten = λ none. absurd none;
-      too_long = λ e. absurd cc;
+      refused = λ why e. absurd cc;
       write = λ fault e.
           let one : write_faults.Failed ≡ fault = cc in (
             subst (λ (f : WriteFault). healths.Failed ≡ health_after f) one refl,

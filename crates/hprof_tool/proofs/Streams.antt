@@ -5,6 +5,7 @@ use Rattle.std.specs.Io.KnownBytes.{append_known}
 use Rattle.hprof_devices.specs.declared.health.Health.{Health}
 use Rattle.hprof_stream.specs.declared.summary.PartSummary.{PartSummary}
 use Rattle.hprof_rows.specs.HeapValue.{HeapValue}
+use Rattle.hprof_engine.specs.declared.product_refusal.ProductRefusal.{ProductRefusal}
 use Rattle.hprof_engine.specs.declared.tool_fault.ToolFault.{ToolFault}
 use Rattle.hprof_engine.specs.declared.tool_fault.ToolFault.TheVariants as tool
 use Rattle.hprof_engine.specs.Joining.{Tell, IsBeforeWriting}
@@ -97,7 +98,10 @@ module _ {R W : Type 0} (left : R → Option (List ℕ)) (health : R → Health)
       unwritten,
       elim (makes.1.memory refl) [
         | inl none ↦ inl (ap (λ (s : Option (List ℕ) × Health). s.0) none.2)
-        | inr all ↦ inr (front (contents before) (append_known (contents after) unwritten) all.3)
+        | inr all ↦ elim all.3 [
+          | inl written ↦ inr (front (contents before) (append_known (contents after) unwritten) written)
+          | inr refused ↦ inl (ap (λ (s : Option (List ℕ) × Health). s.0) refused.1)
+        ]
       ],
     )
 
