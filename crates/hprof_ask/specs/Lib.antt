@@ -6,6 +6,7 @@ pub mod SomeCheck
 pub mod SomeReferrers
 pub mod SomeReport
 pub mod Lines
+pub mod Same
 pub mod Asked
 pub mod Answering
 pub mod Dialogue

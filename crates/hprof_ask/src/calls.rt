@@ -6,7 +6,7 @@ ghost use Rattle.hprof_engine.specs.Joining.{fault_of};
 ghost use Rattle.hprof_engine.specs.Makes.{Makes};
 ghost use Rattle.hprof_ask.specs.Report.{report_making};
 
-use crate::report::{HeapReport, NodeReport, Report};
+use crate::report::{HeapReport, Kinds, Node, NodeReport, Report};
 use hprof_devices::{Source, Target};
 use hprof_engine::{NoSummaries, ToolFault, read_heap, write_to};
 use hprof_graph::LiveHeap;
@@ -14,6 +14,24 @@ use hprof_histogram::Kind;
 use hprof_reports::write_refs;
 use hprof_stream::Limits;
 use std::alloc::Global;
+
+/// Reads all parts, and writes a report on them and on their heap. All parts are read before the first byte is written. If the report is on
+/// a name that no class has, it is refused, and nothing is written. If memory runs out when all parts are read, the bytes written are the
+/// beginning of the report.
+pub fn report_to<R: Source, W: Target>(
+    alloc: Global,
+    readers: &mut [R],
+    report: Report<'_>,
+    target: &mut W,
+    limits: Limits,
+) -> Result<(), ToolFault>
+    requires readers { All (λ reader. R.health reader ≡ Well) readers.old }
+    requires writer { W.health target.old ≡ Well }
+    ensures { Makes R.left R.health R.pulls W.written W.health limits (report_making report.entry)
+        readers.old readers.new target.old target.new (fault_of result) }
+{
+    write_to(alloc, &report, readers, target, limits)
+}
 
 /// Reads all parts, and writes the report `check`: a line for each part, in order, a line for each table of their heap with the
 /// number of its facts, and the number of names that are not modified UTF-8. All parts are read before the first byte is
@@ -29,7 +47,7 @@ pub fn check_to<R: Source, W: Target>(
     ensures { Makes R.left R.health R.pulls W.written W.health limits (report_making (Report.Heap HeapReport.Check))
         readers.old readers.new target.old target.new (fault_of result) }
 {
-    write_to(alloc, &Report::Heap(HeapReport::Check), readers, target, limits)
+    report_to(alloc, readers, Report::Heap(HeapReport::Check), target, limits)
 }
 
 /// Reads all parts, and writes the report `histo` on their heap: a line for each class and each type of arrays that has objects, with
@@ -46,7 +64,7 @@ pub fn histo_to<R: Source, W: Target>(
     ensures { Makes R.left R.health R.pulls W.written W.health limits (report_making (Report.Heap HeapReport.Histogram))
         readers.old readers.new target.old target.new (fault_of result) }
 {
-    write_to(alloc, &Report::Heap(HeapReport::Histogram), readers, target, limits)
+    report_to(alloc, readers, Report::Heap(HeapReport::Histogram), target, limits)
 }
 
 /// Reads all parts, and writes the report `classes` on their heap: a line for each class dump, with its superclass and the objects of the
@@ -63,7 +81,7 @@ pub fn classes_to<R: Source, W: Target>(
     ensures { Makes R.left R.health R.pulls W.written W.health limits (report_making (Report.Heap HeapReport.Classes))
         readers.old readers.new target.old target.new (fault_of result) }
 {
-    write_to(alloc, &Report::Heap(HeapReport::Classes), readers, target, limits)
+    report_to(alloc, readers, Report::Heap(HeapReport::Classes), target, limits)
 }
 
 /// Reads all parts, and writes the report `objects` on a class or a type in their heap: a line for each of its objects, with the bytes of
@@ -78,10 +96,10 @@ pub fn objects_to<R: Source, W: Target>(
 ) -> Result<(), ToolFault>
     requires readers { All (λ reader. R.health reader ≡ Well) readers.old }
     requires writer { W.health target.old ≡ Well }
-    ensures { Makes R.left R.health R.pulls W.written W.health limits (report_making (Report.Objects kind))
+    ensures { Makes R.left R.health R.pulls W.written W.health limits (report_making (Report.Objects (Kinds.Of kind)))
         readers.old readers.new target.old target.new (fault_of result) }
 {
-    write_to(alloc, &Report::Objects(kind), readers, target, limits)
+    report_to(alloc, readers, Report::Objects(Kinds::Of(kind)), target, limits)
 }
 
 /// Reads all parts, and writes the report `object` on an identifier in their heap: the lines of its class dump, then those of
@@ -96,10 +114,10 @@ pub fn object_to<R: Source, W: Target>(
 ) -> Result<(), ToolFault>
     requires readers { All (λ reader. R.health reader ≡ Well) readers.old }
     requires writer { W.health target.old ≡ Well }
-    ensures { Makes R.left R.health R.pulls W.written W.health limits (report_making (Report.Node NodeReport.Object id))
+    ensures { Makes R.left R.health R.pulls W.written W.health limits (report_making (Report.Node NodeReport.Object (Node.Identifier id)))
         readers.old readers.new target.old target.new (fault_of result) }
 {
-    write_to(alloc, &Report::Node(NodeReport::Object, id), readers, target, limits)
+    report_to(alloc, readers, Report::Node(NodeReport::Object, Node::Identifier(id)), target, limits)
 }
 
 /// Reads all parts, and writes the report `path` on an identifier in their heap: its distance from the GC roots, then a line
@@ -114,10 +132,10 @@ pub fn path_to<R: Source, W: Target>(
 ) -> Result<(), ToolFault>
     requires readers { All (λ reader. R.health reader ≡ Well) readers.old }
     requires writer { W.health target.old ≡ Well }
-    ensures { Makes R.left R.health R.pulls W.written W.health limits (report_making (Report.Node NodeReport.Path id))
+    ensures { Makes R.left R.health R.pulls W.written W.health limits (report_making (Report.Node NodeReport.Path (Node.Identifier id)))
         readers.old readers.new target.old target.new (fault_of result) }
 {
-    write_to(alloc, &Report::Node(NodeReport::Path, id), readers, target, limits)
+    report_to(alloc, readers, Report::Node(NodeReport::Path, Node::Identifier(id)), target, limits)
 }
 
 /// Reads all parts, and writes the report `text` on an identifier in their heap: the number of units of its text, and the text in print, or
@@ -132,10 +150,10 @@ pub fn text_to<R: Source, W: Target>(
 ) -> Result<(), ToolFault>
     requires readers { All (λ reader. R.health reader ≡ Well) readers.old }
     requires writer { W.health target.old ≡ Well }
-    ensures { Makes R.left R.health R.pulls W.written W.health limits (report_making (Report.Node NodeReport.Text id))
+    ensures { Makes R.left R.health R.pulls W.written W.health limits (report_making (Report.Node NodeReport.Text (Node.Identifier id)))
         readers.old readers.new target.old target.new (fault_of result) }
 {
-    write_to(alloc, &Report::Node(NodeReport::Text, id), readers, target, limits)
+    report_to(alloc, readers, Report::Node(NodeReport::Text, Node::Identifier(id)), target, limits)
 }
 
 /// Reads all parts, and writes the report `threads` on their heap: for each thread its object and its name, the frames of its stack, and
@@ -152,7 +170,7 @@ pub fn threads_to<R: Source, W: Target>(
     ensures { Makes R.left R.health R.pulls W.written W.health limits (report_making (Report.Heap HeapReport.Threads))
         readers.old readers.new target.old target.new (fault_of result) }
 {
-    write_to(alloc, &Report::Heap(HeapReport::Threads), readers, target, limits)
+    report_to(alloc, readers, Report::Heap(HeapReport::Threads), target, limits)
 }
 
 /// Reads all parts, and writes the report `show` on an identifier in their heap: the contents of its class dump and of its object dump,
@@ -167,10 +185,10 @@ pub fn show_to<R: Source, W: Target>(
 ) -> Result<(), ToolFault>
     requires readers { All (λ reader. R.health reader ≡ Well) readers.old }
     requires writer { W.health target.old ≡ Well }
-    ensures { Makes R.left R.health R.pulls W.written W.health limits (report_making (Report.Node NodeReport.Show id))
+    ensures { Makes R.left R.health R.pulls W.written W.health limits (report_making (Report.Node NodeReport.Show (Node.Identifier id)))
         readers.old readers.new target.old target.new (fault_of result) }
 {
-    write_to(alloc, &Report::Node(NodeReport::Show, id), readers, target, limits)
+    report_to(alloc, readers, Report::Node(NodeReport::Show, Node::Identifier(id)), target, limits)
 }
 
 /// Reads all parts, and writes the report `who` on an identifier in their heap: its GC roots, each with its thread, the sums of more than
@@ -185,10 +203,10 @@ pub fn who_to<R: Source, W: Target>(
 ) -> Result<(), ToolFault>
     requires readers { All (λ reader. R.health reader ≡ Well) readers.old }
     requires writer { W.health target.old ≡ Well }
-    ensures { Makes R.left R.health R.pulls W.written W.health limits (report_making (Report.Node NodeReport.Who id))
+    ensures { Makes R.left R.health R.pulls W.written W.health limits (report_making (Report.Node NodeReport.Who (Node.Identifier id)))
         readers.old readers.new target.old target.new (fault_of result) }
 {
-    write_to(alloc, &Report::Node(NodeReport::Who, id), readers, target, limits)
+    report_to(alloc, readers, Report::Node(NodeReport::Who, Node::Identifier(id)), target, limits)
 }
 
 /// Reads all parts, and writes the report `why` on an identifier in their heap: the shortest path of strong references from a GC root, with
@@ -204,10 +222,10 @@ pub fn why_to<R: Source, W: Target>(
 ) -> Result<(), ToolFault>
     requires readers { All (λ reader. R.health reader ≡ Well) readers.old }
     requires writer { W.health target.old ≡ Well }
-    ensures { Makes R.left R.health R.pulls W.written W.health limits (report_making (Report.Node NodeReport.Why id))
+    ensures { Makes R.left R.health R.pulls W.written W.health limits (report_making (Report.Node NodeReport.Why (Node.Identifier id)))
         readers.old readers.new target.old target.new (fault_of result) }
 {
-    write_to(alloc, &Report::Node(NodeReport::Why, id), readers, target, limits)
+    report_to(alloc, readers, Report::Node(NodeReport::Why, Node::Identifier(id)), target, limits)
 }
 
 /// Reads all parts, and writes the report `refs` on an identifier: a line for each reference to it in their heap, in order, and
@@ -222,7 +240,7 @@ pub fn refs_to<R: Source, W: Target>(
 ) -> Result<(), ToolFault>
     requires readers { All (λ reader. R.health reader ≡ Well) readers.old }
     requires writer { W.health target.old ≡ Well }
-    ensures { Makes R.left R.health R.pulls W.written W.health limits (report_making (Report.Node NodeReport.Refs id))
+    ensures { Makes R.left R.health R.pulls W.written W.health limits (report_making (Report.Node NodeReport.Refs (Node.Identifier id)))
         readers.old readers.new target.old target.new (fault_of result) }
 {
     let live = LiveHeap::watching(alloc, id);

@@ -22,6 +22,7 @@ const KEPT: usize = 4098;
 /// A type that answers questions.
 pub trait Answers {
     ghost use Rattle.hprof_ask.specs.declared.question.Question.{Question};
+    ghost use Rattle.hprof_ask.specs.Same.{IsSame};
     ghost use Rattle.hprof_devices.specs.declared.health.Health.TheVariants.{Well};
 
     // The text is the answer to that question.
@@ -38,12 +39,12 @@ pub trait Answers {
         &self,
         alloc: Global,
         kept: &mut Self::Kept,
-        question: Question,
+        question: Question<'_>,
         target: &mut W,
     ) -> Result<(), DialogueStop>
         requires well { W.health target.old ≡ Well }
         requires kept { keeps self.now kept.old }
-        ensures bytes { (text : List ℕ) × is_answer self.now question text
+        ensures bytes { (text : List ℕ) × is_answer self.now question.entry text
             × WritesAnswer (W.written target.old) (W.written target.new) result text }
         ensures health { LeavesWriter result (W.health target.new) }
         ensures kept { keeps self.now kept.new };
@@ -51,9 +52,9 @@ pub trait Answers {
     // A question has an answer.
     ghost some_answer: { (answers : Self) (question : Question) → (text : List ℕ) × is_answer answers question text };
 
-    // And no other.
-    ghost one_answer: { (answers : Self) (question : Question) (one other : List ℕ)
-        → is_answer answers question one → is_answer answers question other → one ≡ other };
+    // And no other, wherever the bytes of a name lie.
+    ghost one_answer: { (answers : Self) (question same : Question) (one other : List ℕ) → IsSame question same
+        → is_answer answers question one → is_answer answers same other → one ≡ other };
 }
 
 /// Keeps one more byte of a line, if there is room for it.
