@@ -10,3 +10,4 @@ pub mod WordLists
 pub mod SomeQuestion
 pub mod Usages
 pub mod Ends
+pub mod Replies

@@ -100,7 +100,7 @@ identifier text = elim (below 0 (length text)) [
 ]
 
 -- bytes, at some place
-bytes_at : List ℕ → Bor (List ℕ)
+abbrev bytes_at : List ℕ → Bor (List ℕ)
 bytes_at text = record { ref_ptr = (0, 0); now = text }
 
 kinds_said : (text : List ℕ) → (which : Kinds) × SaysKinds text which

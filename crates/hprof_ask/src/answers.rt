@@ -86,7 +86,8 @@ fn write_report<W: Target>(
     match answerer.write(alloc, kept, report, target) {
         Ok(()) => Ok(()),
         Err(WriteStop::Refused(_)) => write_str("no class has this name\n", target),
-        Err(stop) => Err(stop),
+        Err(WriteStop::Write(fault)) => Err(WriteStop::Write(fault)),
+        Err(WriteStop::OutOfMemory) => Err(WriteStop::OutOfMemory),
     }
 }
 
