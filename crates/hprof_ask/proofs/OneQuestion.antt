@@ -75,10 +75,32 @@ Differs word = (has_space (word_of word) ≡ false) × (word_by all_words (word_
 
 differs : (word : ReportWord) → Differs word
 differs = of_each Differs (
-  (refl, refl, refl, refl), ((refl, refl, refl, refl), ((refl, refl, refl, refl),
-  ((refl, refl, refl, refl), ((refl, refl, refl, refl), ((refl, refl, refl, refl),
-  ((refl, refl, refl, refl), ((refl, refl, refl, refl), ((refl, refl, refl, refl),
-  ((refl, refl, refl, refl), ((refl, refl, refl, refl), ((refl, refl, refl, refl), tt)))))))))))
+  (refl, refl, refl, refl),
+  (
+    (refl, refl, refl, refl),
+    (
+      (refl, refl, refl, refl),
+      (
+        (refl, refl, refl, refl),
+        (
+          (refl, refl, refl, refl),
+          (
+            (refl, refl, refl, refl),
+            (
+              (refl, refl, refl, refl),
+              (
+                (refl, refl, refl, refl),
+                (
+                  (refl, refl, refl, refl),
+                  ((refl, refl, refl, refl), ((refl, refl, refl, refl), ((refl, refl, refl, refl), tt))),
+                ),
+              ),
+            ),
+          ),
+        ),
+      ),
+    ),
+  ),
 )
 
 -- the line of a word begins with it
@@ -101,11 +123,10 @@ one_line : (line : List ℕ) (word word_too : ReportWord) (text text_too : List 
     → (word ≡ word_too) × (text ≡ text_too)
 one_line line word word_too text text_too is is_too =
     let fronts = sym (line_front word line text is) ∙ line_front word_too line text_too is_too in
-    let same = sym (differs word).1 ∙ ap (word_by all_words) fronts ∙ (differs word_too).1 in
-    (
+    let same = sym (differs word).1 ∙ ap (word_by all_words) fronts ∙ (differs word_too).1 in (
       same,
       one_text (follows_of word_too) line (word_of word_too) text text_too
-      (subst (λ (w : ReportWord). IsLineOf line w text) same is) is_too,
+          (subst (λ (w : ReportWord). IsLineOf line w text) same is) is_too,
     )
 
 -- the line of a word has some bytes, and is not `help`
@@ -118,7 +139,7 @@ some_bytes word line text is none =
 not_help : (word : ReportWord) (line text : List ℕ) → IsLineOf line word text → line ≡ codes "help" → ⊥
 not_help word line text is help =
     let e : bytes_eq (word_of word) (codes "help") ≡ true =
-        ap (λ (l : List ℕ). bytes_eq l (codes "help")) (sym (line_front word line text is) ∙ ap front help) in
+    ap (λ (l : List ℕ). bytes_eq l (codes "help")) (sym (line_front word line text is) ∙ ap front help) in
     let no : true ≡ false = sym e ∙ (differs word).2 in
     absurd cc
 

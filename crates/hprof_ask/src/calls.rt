@@ -47,7 +47,13 @@ pub fn check_to<R: Source, W: Target>(
     ensures { Makes R.left R.health R.pulls W.written W.health limits (report_making (Report.Heap HeapReport.Check))
         readers.old readers.new target.old target.new (fault_of result) }
 {
-    report_to(alloc, readers, Report::Heap(HeapReport::Check), target, limits)
+    report_to(
+        alloc,
+        readers,
+        Report::Heap(HeapReport::Check),
+        target,
+        limits,
+    )
 }
 
 /// Reads all parts, and writes the report `histo` on their heap: a line for each class and each type of arrays that has objects, with
@@ -64,7 +70,13 @@ pub fn histo_to<R: Source, W: Target>(
     ensures { Makes R.left R.health R.pulls W.written W.health limits (report_making (Report.Heap HeapReport.Histogram))
         readers.old readers.new target.old target.new (fault_of result) }
 {
-    report_to(alloc, readers, Report::Heap(HeapReport::Histogram), target, limits)
+    report_to(
+        alloc,
+        readers,
+        Report::Heap(HeapReport::Histogram),
+        target,
+        limits,
+    )
 }
 
 /// Reads all parts, and writes the report `classes` on their heap: a line for each class dump, with its superclass and the objects of the
@@ -81,7 +93,13 @@ pub fn classes_to<R: Source, W: Target>(
     ensures { Makes R.left R.health R.pulls W.written W.health limits (report_making (Report.Heap HeapReport.Classes))
         readers.old readers.new target.old target.new (fault_of result) }
 {
-    report_to(alloc, readers, Report::Heap(HeapReport::Classes), target, limits)
+    report_to(
+        alloc,
+        readers,
+        Report::Heap(HeapReport::Classes),
+        target,
+        limits,
+    )
 }
 
 /// Reads all parts, and writes the report `objects` on a class or a type in their heap: a line for each of its objects, with the bytes of
@@ -99,7 +117,13 @@ pub fn objects_to<R: Source, W: Target>(
     ensures { Makes R.left R.health R.pulls W.written W.health limits (report_making (Report.Objects (Kinds.Of kind)))
         readers.old readers.new target.old target.new (fault_of result) }
 {
-    report_to(alloc, readers, Report::Objects(Kinds::Of(kind)), target, limits)
+    report_to(
+        alloc,
+        readers,
+        Report::Objects(Kinds::Of(kind)),
+        target,
+        limits,
+    )
 }
 
 /// Reads all parts, and writes the report `object` on an identifier in their heap: the lines of its class dump, then those of
@@ -117,7 +141,13 @@ pub fn object_to<R: Source, W: Target>(
     ensures { Makes R.left R.health R.pulls W.written W.health limits (report_making (Report.Node NodeReport.Object (Node.Identifier id)))
         readers.old readers.new target.old target.new (fault_of result) }
 {
-    report_to(alloc, readers, Report::Node(NodeReport::Object, Node::Identifier(id)), target, limits)
+    report_to(
+        alloc,
+        readers,
+        Report::Node(NodeReport::Object, Node::Identifier(id)),
+        target,
+        limits,
+    )
 }
 
 /// Reads all parts, and writes the report `path` on an identifier in their heap: its distance from the GC roots, then a line
@@ -135,7 +165,13 @@ pub fn path_to<R: Source, W: Target>(
     ensures { Makes R.left R.health R.pulls W.written W.health limits (report_making (Report.Node NodeReport.Path (Node.Identifier id)))
         readers.old readers.new target.old target.new (fault_of result) }
 {
-    report_to(alloc, readers, Report::Node(NodeReport::Path, Node::Identifier(id)), target, limits)
+    report_to(
+        alloc,
+        readers,
+        Report::Node(NodeReport::Path, Node::Identifier(id)),
+        target,
+        limits,
+    )
 }
 
 /// Reads all parts, and writes the report `text` on an identifier in their heap: the number of units of its text, and the text in print, or
@@ -153,7 +189,13 @@ pub fn text_to<R: Source, W: Target>(
     ensures { Makes R.left R.health R.pulls W.written W.health limits (report_making (Report.Node NodeReport.Text (Node.Identifier id)))
         readers.old readers.new target.old target.new (fault_of result) }
 {
-    report_to(alloc, readers, Report::Node(NodeReport::Text, Node::Identifier(id)), target, limits)
+    report_to(
+        alloc,
+        readers,
+        Report::Node(NodeReport::Text, Node::Identifier(id)),
+        target,
+        limits,
+    )
 }
 
 /// Reads all parts, and writes the report `threads` on their heap: for each thread its object and its name, the frames of its stack, and
@@ -170,7 +212,13 @@ pub fn threads_to<R: Source, W: Target>(
     ensures { Makes R.left R.health R.pulls W.written W.health limits (report_making (Report.Heap HeapReport.Threads))
         readers.old readers.new target.old target.new (fault_of result) }
 {
-    report_to(alloc, readers, Report::Heap(HeapReport::Threads), target, limits)
+    report_to(
+        alloc,
+        readers,
+        Report::Heap(HeapReport::Threads),
+        target,
+        limits,
+    )
 }
 
 /// Reads all parts, and writes the report `show` on an identifier in their heap: the contents of its class dump and of its object dump,
@@ -188,7 +236,13 @@ pub fn show_to<R: Source, W: Target>(
     ensures { Makes R.left R.health R.pulls W.written W.health limits (report_making (Report.Node NodeReport.Show (Node.Identifier id)))
         readers.old readers.new target.old target.new (fault_of result) }
 {
-    report_to(alloc, readers, Report::Node(NodeReport::Show, Node::Identifier(id)), target, limits)
+    report_to(
+        alloc,
+        readers,
+        Report::Node(NodeReport::Show, Node::Identifier(id)),
+        target,
+        limits,
+    )
 }
 
 /// Reads all parts, and writes the report `who` on an identifier in their heap: its GC roots, each with its thread, the sums of more than
@@ -206,7 +260,13 @@ pub fn who_to<R: Source, W: Target>(
     ensures { Makes R.left R.health R.pulls W.written W.health limits (report_making (Report.Node NodeReport.Who (Node.Identifier id)))
         readers.old readers.new target.old target.new (fault_of result) }
 {
-    report_to(alloc, readers, Report::Node(NodeReport::Who, Node::Identifier(id)), target, limits)
+    report_to(
+        alloc,
+        readers,
+        Report::Node(NodeReport::Who, Node::Identifier(id)),
+        target,
+        limits,
+    )
 }
 
 /// Reads all parts, and writes the report `why` on an identifier in their heap: the shortest path of strong references from a GC root, with
@@ -225,7 +285,13 @@ pub fn why_to<R: Source, W: Target>(
     ensures { Makes R.left R.health R.pulls W.written W.health limits (report_making (Report.Node NodeReport.Why (Node.Identifier id)))
         readers.old readers.new target.old target.new (fault_of result) }
 {
-    report_to(alloc, readers, Report::Node(NodeReport::Why, Node::Identifier(id)), target, limits)
+    report_to(
+        alloc,
+        readers,
+        Report::Node(NodeReport::Why, Node::Identifier(id)),
+        target,
+        limits,
+    )
 }
 
 /// Reads all parts, and writes the report `refs` on an identifier: a line for each reference to it in their heap, in order, and

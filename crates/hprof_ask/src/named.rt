@@ -1,6 +1,6 @@
 //! Reports on the classes that a name means.
 
-ghost use Rattle.std.specs.Prelude.{◌≡◌, ◌↔◌, [], ℕ, List, ⊤, IfOk, IsTrue};
+ghost use Rattle.std.specs.Prelude.{◌≡◌, ◌↔◌, ℕ, List, ⊤, IfOk, IsTrue};
 ghost use Rattle.hprof_devices.specs.declared.health.Health.TheVariants.{Well};
 ghost use Rattle.hprof_engine.specs.Makes.{EndsWriting};
 ghost use Rattle.hprof_heap.specs.HeapFacts.{facts_of, size_of};
@@ -14,7 +14,7 @@ ghost use Rattle.hprof_ask.specs.declared.report.Node.TheVariants as that;
 
 use crate::answerer::Answerer;
 use crate::kept::{Kept, kept_or_made};
-use crate::report::{Kinds, Node, NodeReport, Report};
+use crate::report::{NodeReport, Report};
 use hprof_devices::Target;
 use hprof_engine::{ProductRefusal, WriteStop};
 use hprof_heap::holds_of_heap;
@@ -33,7 +33,12 @@ fn names_classes(name: &[u8]) -> bool
 
 impl<'a> Answerer<'a> {
     /// Returns the classes that a name means, ascending.
-    fn classes_named(&self, alloc: Global, kept: &mut Kept, name: &[u8]) -> Result<Vec<u64>, AllocError>
+    fn classes_named(
+        &self,
+        alloc: Global,
+        kept: &mut Kept,
+        name: &[u8],
+    ) -> Result<Vec<u64>, AllocError>
         requires { IsKept (size_of self.now.heap.now) (facts_of self.now.heap.now) kept.old }
         ensures classes { IfOk result (λ classes. AreMeantClasses (facts_of self.now.heap.now) name.now classes.items) }
         ensures kept { IsKept (size_of self.now.heap.now) (facts_of self.now.heap.now) kept.new }
@@ -45,7 +50,12 @@ impl<'a> Answerer<'a> {
     }
 
     /// Returns the class dumps that a name means, ascending.
-    fn dumps_named(&self, alloc: Global, kept: &mut Kept, name: &[u8]) -> Result<Vec<u64>, AllocError>
+    fn dumps_named(
+        &self,
+        alloc: Global,
+        kept: &mut Kept,
+        name: &[u8],
+    ) -> Result<Vec<u64>, AllocError>
         requires { IsKept (size_of self.now.heap.now) (facts_of self.now.heap.now) kept.old }
         ensures dumps { IfOk result (λ dumps. AreMeantDumps (facts_of self.now.heap.now) name.now dumps.items) }
         ensures kept { IsKept (size_of self.now.heap.now) (facts_of self.now.heap.now) kept.new }

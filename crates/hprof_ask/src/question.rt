@@ -58,7 +58,10 @@ fn text_behind(line: &[u8], word: ReportWord) -> Option<&[u8]>
     match row.follows {
         Follows::Nothing if line == row.word.as_bytes() => Some(&[]),
         Follows::Nothing => None,
-        Follows::Identifier | Follows::ClassOrObject | Follows::ClassOrType => word_behind(line, row.word.as_bytes()),
+        Follows::Identifier | Follows::ClassOrObject | Follows::ClassOrType => word_behind(
+            line,
+            row.word.as_bytes(),
+        ),
     }
 }
 

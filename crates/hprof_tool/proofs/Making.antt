@@ -89,10 +89,15 @@ module _ {R : Type 0} (left : R → Option (List ℕ)) (health : R → Health) (
       write = m.write;
       memory = λ e. elim (m.memory e) [
         | inl none ↦ inl (none.0, none.1, ap (λ (w : W). (written w, well w)) none.2)
-        | inr all ↦ inr (all.0, all.1, all.2, elim all.3 [
-          | inl front ↦ inl front
-          | inr refused ↦ inr (refused.0, ap (λ (w : W). (written w, well w)) refused.1)
-        ])
+        | inr all ↦ inr (
+          all.0,
+          all.1,
+          all.2,
+          elim all.3 [
+            | inl front ↦ inl front
+            | inr refused ↦ inr (refused.0, ap (λ (w : W). (written w, well w)) refused.1)
+          ],
+        )
       ];
       no_other = m.no_other;
     }
