@@ -2,7 +2,7 @@
 
 use crate::expecting::{equal, equal_at};
 use hprof_devices::WriteFault;
-use hprof_engine::{FaultedPart, Joined, ToolFault};
+use hprof_engine::{FaultedPart, Joined, ProductRefusal, ToolFault};
 use hprof_heap::Key;
 use hprof_items::Reason;
 use hprof_stream::{PartFault, SinkFault};
@@ -89,7 +89,14 @@ const FAULTS: [(ToolFault, &str); 12] = [
     (ToolFault::Write(WriteFault::Failed), "write failed"),
     (ToolFault::Write(WriteFault::Stuck), "write failed"),
     (ToolFault::OutOfMemory, "out of memory"),
-    (ToolFault::DumpTooLong, "dump too long"),
+    (
+        ToolFault::Refused(ProductRefusal::DumpTooLong),
+        "dump too long",
+    ),
+    (
+        ToolFault::Refused(ProductRefusal::NoClass),
+        "no class has this name",
+    ),
 ];
 
 #[test]
