@@ -68,8 +68,8 @@ fn write_help<W: Target>(target: &mut W) -> Result<(), WriteStop>
 }
 
 /// Returns what stands behind the reply to a question: an empty line, or nothing if the question ends the dialogue.
-fn behind_reply(question: Question) -> &'static str
-    ensures { result.now ≡ behind_reply question }
+fn behind_reply(question: Question<'_>) -> &'static str
+    ensures { result.now ≡ behind_reply question.entry }
 {
     match question {
         Question::Quit => "",
