@@ -59,7 +59,7 @@ fn texts_of_faults_of_parts(rt: HostRuntime) -> Result<(), Fail> {
 }
 
 /// Faults, no two of them equal, with the texts of those that are not faults of parts.
-const FAULTS: [(ToolFault, &str); 12] = [
+const FAULTS: [(ToolFault, &str); 13] = [
     (
         ToolFault::Part {
             index: 0,
