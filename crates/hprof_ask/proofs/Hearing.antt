@@ -11,13 +11,21 @@ use Rattle.hprof_ask.specs.Asked.{Asks, NoneQuits, Quits}
 use Rattle.hprof_ask.specs.Dialogue.{AnswersLines, AnswersFront, AnswersSome, AreLinesToQuit, AreOpenLines, Finishes, Heard}
 use Rattle.hprof_ask.specs.declared.stop.DialogueStop.{DialogueStop}
 use Rattle.std.proofs.lemmas.List.{length-take, nil_from_length}
+use Rattle.hprof_ask.specs.Same.{IsSame}
 use Rattle.hprof_ask.specs.Lines.{AreFirstLines, AreLines, AreTaken, IsBeforeFeed}
 use Rattle.hprof_ask.proofs.LineLemmas.{all_more, first_extended, first_more, line_before}
 use Rattle.hprof_ask.proofs.OneQuestion.{asks_once}
 
 -- another question does not end the dialogue
 no_quit : (line : List ℕ) (question : Question) → Asks line question → question ≢ questions.Quit → Quits line → ⊥
-no_quit line question asks other quits = other (asks_once line question questions.Quit asks quits)
+no_quit line question asks other quits = by question other (asks_once line question questions.Quit asks quits) where
+  by : (one : Question) → one ≢ questions.Quit → IsSame one questions.Quit → ⊥
+  by questions.Quit other same = other refl
+  by questions.Nothing other same = absurd cc
+  by questions.Help other same = absurd cc
+  by (questions.Report report) other same = absurd cc
+  by (questions.Misnamed fault) other same = absurd cc
+  by questions.NotUnderstood other same = absurd cc
 
 -- none of one line more does
 none_more : (lines : List (List ℕ)) (line : List ℕ) → NoneQuits lines → (Quits line → ⊥) → NoneQuits (lines ++ line ∷ [])

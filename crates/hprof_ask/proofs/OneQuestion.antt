@@ -1,15 +1,16 @@
 -- A line asks one thing.
 use Rattle.std.proofs.Common.{◌≡◌, ◌⊎◌, ℕ, ◌<◌, ◌==◌, ◌||◌, Bool, true, false, List, [], ◌∷◌, ◌++◌, refl, sym, ap, subst, ◌∙◌, inl, inr, get_or, arith, codes, append_assoc}
-use Rattle.std.specs.Prelude.{if◌then◌else◌, bytes_eq}
-use Rattle.std.specs.Char.{digit_value}
-use Rattle.std.specs.Str.Parse.{AllDigits}
-use Rattle.std.proofs.lemmas.Bool.Decides.{nat_tests}
+use Rattle.std.specs.Prelude.{if◌then◌else◌, bytes_eq, Some, None}
+use Rattle.std.specs.Borrow.{Bor}
 use Rattle.std.proofs.lemmas.List.{append_cancel_left}
-use Rattle.hprof_text.specs.Identifier.{IsIdText, id_value}
+use Rattle.hprof_text.specs.Identifier.{IsIdText}
 use Rattle.hprof_values.specs.declared.basic.Basic.{Basic}
-use Rattle.hprof_values.specs.declared.basic.Basic.TheVariants as basics
-use Rattle.hprof_histogram.specs.declared.row.Kind.{Kind}
 use Rattle.hprof_histogram.specs.declared.row.Kind.TheVariants as kinds
+use Rattle.hprof_ask.specs.declared.report.Kinds.{Kinds}
+use Rattle.hprof_ask.specs.declared.report.Kinds.TheVariants as these
+use Rattle.hprof_ask.specs.declared.report.Node.{Node}
+use Rattle.hprof_ask.specs.declared.report.Node.TheVariants as that
+use Rattle.hprof_ask.specs.declared.report.NodeReport.{NodeReport}
 use Rattle.hprof_ask.specs.declared.report.Report.{Report}
 use Rattle.hprof_ask.specs.declared.report.Report.TheVariants as reports
 use Rattle.hprof_ask.specs.declared.report_word.Follows.{Follows}
@@ -20,8 +21,9 @@ use Rattle.hprof_ask.specs.declared.subject.Misnamed.{Misnamed}
 use Rattle.hprof_ask.specs.declared.subject.Misnamed.TheVariants as misnamed
 use Rattle.hprof_ask.specs.declared.question.Question.{Question}
 use Rattle.hprof_ask.specs.declared.question.Question.TheVariants as questions
-use Rattle.hprof_ask.specs.Asked.{Asks, AsksReport, IsFollowed, IsLineOf, IsMisnamed, IsNamed, IsQuestion, IsQuit, NamesId, NamesKind}
-use Rattle.hprof_ask.specs.Words.{all_words, follows_of, word_of}
+use Rattle.hprof_ask.specs.Asked.{Asks, AsksReport, IsFollowed, IsLineOf, IsMisnamed, IsNamed, IsQuestion, IsQuit, SaysKinds, SaysNode}
+use Rattle.hprof_ask.specs.Same.{IsSame, placed_question, placed_report}
+use Rattle.hprof_ask.specs.Words.{all_words, follows_of, node_follows, word_of}
 use Rattle.hprof_ask.proofs.WordLists.{of_each}
 
 -- ---- which word it is
@@ -58,6 +60,7 @@ front_behind (byte ∷ word) text none = by (byte == 32) none (front_behind word
 front_of : (follows : Follows) (line word text : List ℕ) → has_space word ≡ false → IsFollowed follows line word text → front line ≡ word
 front_of follow.Nothing line word text none is = ap front is.0 ∙ front_alone word none
 front_of follow.Identifier line word text none is = ap front is.1 ∙ front_behind word text none
+front_of follow.ClassOrObject line word text none is = ap front is.1 ∙ front_behind word text none
 front_of follow.ClassOrType line word text none is = ap front is.1 ∙ front_behind word text none
 
 -- the first report of the list with that word
@@ -113,6 +116,7 @@ one_text : (follows : Follows) (line word one other : List ℕ) → IsFollowed f
     → one ≡ other
 one_text follow.Nothing line word one other is is_too = is.1 ∙ sym is_too.1
 one_text follow.Identifier line word one other is is_too = behind line word one other is.1 is_too.1
+one_text follow.ClassOrObject line word one other is is_too = behind line word one other is.1 is_too.1
 one_text follow.ClassOrType line word one other is is_too = behind line word one other is.1 is_too.1
 
 -- a line is that of one word, with one text behind it
@@ -154,76 +158,57 @@ not_quit word line text is quit = elim quit [
 
 -- ---- what follows a word
 
--- the word of a type has a bracket, which is no digit
-abbrev has_bracket : List ℕ → Bool
-has_bracket [] = false
-has_bracket (byte ∷ rest) = (byte == 91) || has_bracket rest
+one_kinds : (text : List ℕ) (one other : Kinds) → SaysKinds text one → SaysKinds text other
+    → placed_report (reports.Objects one) ≡ placed_report (reports.Objects other)
+one_kinds text (these.Of (kinds.Prim one)) (these.Of (kinds.Prim other)) is is_too =
+    let e : Some one ≡ Some other = sym is ∙ is_too in
+    let same : one ≡ other = cc in
+    ap (λ (elem : Basic). reports.Objects (these.Of (kinds.Prim elem))) same
+one_kinds text (these.Of (kinds.Prim elem)) (these.Of (kinds.Class class)) is is_too =
+    let no : Some elem ≡ None = sym is ∙ is_too.0 in absurd cc
+one_kinds text (these.Of (kinds.Prim elem)) (these.Named name) is is_too = let no : Some elem ≡ None = sym is ∙ is_too.0 in absurd cc
+one_kinds text (these.Of (kinds.Class class)) (these.Of (kinds.Prim elem)) is is_too =
+    let no : Some elem ≡ None = sym is_too ∙ is.0 in absurd cc
+one_kinds text (these.Named name) (these.Of (kinds.Prim elem)) is is_too = let no : Some elem ≡ None = sym is_too ∙ is.0 in absurd cc
+one_kinds text (these.Of (kinds.Class one)) (these.Of (kinds.Class other)) is is_too =
+    ap (λ (class : ℕ). reports.Objects (these.Of (kinds.Class class))) (sym is.1.1 ∙ is_too.1.1)
+one_kinds text (these.Of (kinds.Class class)) (these.Named name) is is_too = absurd (is_too.1 is.1.0)
+one_kinds text (these.Named name) (these.Of (kinds.Class class)) is is_too = absurd (is.1 is_too.1.0)
+one_kinds text (these.Named one) (these.Named other) is is_too =
+    ap (λ (bytes : List ℕ). reports.Objects (these.Named (record { ref_ptr = (0, 0); now = bytes }))) (is.2 ∙ sym is_too.2)
 
-no_bracket : (c : ℕ) → digit_value c < 16 → (c == 91) ≡ false
-no_bracket c low = grind (arith, nat_tests)
+-- no text is both an identifier and a name
+both_said : (follows : Follows) (text : List ℕ) (name : Bor (List ℕ)) → IsIdText text → SaysNode follows text (that.Named name) → ⊥
+both_said follow.ClassOrObject text name is says = says.0 is
+both_said follow.Nothing text name is says = says
+both_said follow.Identifier text name is says = says
+both_said follow.ClassOrType text name is says = says
 
-digits_no_bracket : (ds : List ℕ) → AllDigits 16 ds → has_bracket ds ≡ false
-digits_no_bracket [] all = refl
-digits_no_bracket (c ∷ cs) all = ap (λ (b : Bool). b || has_bracket cs) (no_bracket c all.0) ∙ digits_no_bracket cs all.1
+says_text : (follows : Follows) (text : List ℕ) (name : Bor (List ℕ)) → SaysNode follows text (that.Named name) → name.now ≡ text
+says_text follow.ClassOrObject text name says = says.1
+says_text follow.Nothing text name says = absurd says
+says_text follow.Identifier text name says = absurd says
+says_text follow.ClassOrType text name says = absurd says
 
-type_bracket : (elem : Basic) (word : List ℕ) → NamesKind word (kinds.Prim elem) → has_bracket word ≡ true
-type_bracket basics.Array word e = absurd e
-type_bracket basics.Object word e = absurd e
-type_bracket basics.Boolean word e = ap has_bracket e
-type_bracket basics.Char word e = ap has_bracket e
-type_bracket basics.Float word e = ap has_bracket e
-type_bracket basics.Double word e = ap has_bracket e
-type_bracket basics.Byte word e = ap has_bracket e
-type_bracket basics.Short word e = ap has_bracket e
-type_bracket basics.Int word e = ap has_bracket e
-type_bracket basics.Long word e = ap has_bracket e
-
--- which type it is, by its first bytes
-abbrev type_by : (b y c f d s i : Bool) → Basic
-type_by true true c f d s i = basics.Byte
-type_by true false c f d s i = basics.Boolean
-type_by false y true f d s i = basics.Char
-type_by false y false true d s i = basics.Float
-type_by false y false false true s i = basics.Double
-type_by false y false false false true i = basics.Short
-type_by false y false false false false true = basics.Int
-type_by false y false false false false false = basics.Long
-
-abbrev type_at : (first second : ℕ) → Basic
-type_at first second =
-    type_by (first == 98) (second == 121) (first == 99) (first == 102) (first == 100) (first == 115) (first == 105)
-
-type_back : (elem : Basic) (word : List ℕ) → NamesKind word (kinds.Prim elem) → type_at (get_or word 0 0) (get_or word 1 0) ≡ elem
-type_back basics.Array word e = absurd e
-type_back basics.Object word e = absurd e
-type_back basics.Boolean word e = ap (λ (l : List ℕ). type_at (get_or l 0 0) (get_or l 1 0)) e
-type_back basics.Char word e = ap (λ (l : List ℕ). type_at (get_or l 0 0) (get_or l 1 0)) e
-type_back basics.Float word e = ap (λ (l : List ℕ). type_at (get_or l 0 0) (get_or l 1 0)) e
-type_back basics.Double word e = ap (λ (l : List ℕ). type_at (get_or l 0 0) (get_or l 1 0)) e
-type_back basics.Byte word e = ap (λ (l : List ℕ). type_at (get_or l 0 0) (get_or l 1 0)) e
-type_back basics.Short word e = ap (λ (l : List ℕ). type_at (get_or l 0 0) (get_or l 1 0)) e
-type_back basics.Int word e = ap (λ (l : List ℕ). type_at (get_or l 0 0) (get_or l 1 0)) e
-type_back basics.Long word e = ap (λ (l : List ℕ). type_at (get_or l 0 0) (get_or l 1 0)) e
-
--- a word names one class or type
-one_kind : (word : List ℕ) (one other : Kind) → NamesKind word one → NamesKind word other → one ≡ other
-one_kind word (kinds.Class one) (kinds.Class other) e f = ap kinds.Class (sym e.1 ∙ f.1)
-one_kind word (kinds.Class one) (kinds.Prim elem) e f =
-    let both : true ≡ false = sym (type_bracket elem word f) ∙ digits_no_bracket word e.0.digits.1 in absurd cc
-one_kind word (kinds.Prim elem) (kinds.Class other) e f =
-    let both : true ≡ false = sym (type_bracket elem word e) ∙ digits_no_bracket word f.0.digits.1 in absurd cc
-one_kind word (kinds.Prim one) (kinds.Prim other) e f = ap kinds.Prim (sym (type_back one word e) ∙ type_back other word f)
+one_node : (follows : Follows) (text : List ℕ) (report : NodeReport) (one other : Node) → SaysNode follows text one → SaysNode follows text other
+    → placed_report (reports.Node report one) ≡ placed_report (reports.Node report other)
+one_node follows text report (that.Identifier one) (that.Identifier other) is is_too =
+    ap (λ (id : ℕ). reports.Node report (that.Identifier id)) (sym is.1 ∙ is_too.1)
+one_node follows text report (that.Identifier id) (that.Named name) is is_too = absurd (both_said follows text name is.0 is_too)
+one_node follows text report (that.Named name) (that.Identifier id) is is_too = absurd (both_said follows text name is_too.0 is)
+one_node follows text report (that.Named one) (that.Named other) is is_too =
+    ap (λ (bytes : List ℕ). reports.Node report (that.Named (record { ref_ptr = (0, 0); now = bytes })))
+    (says_text follows text one is ∙ sym (says_text follows text other is_too))
 
 -- ---- what a word asks with a text behind it
 
-one_asked : (word : ReportWord) (text : List ℕ) (one other : Report) → AsksReport word text one → AsksReport word text other → one ≡ other
+one_asked : (word : ReportWord) (text : List ℕ) (one other : Report) → AsksReport word text one → AsksReport word text other
+    → placed_report one ≡ placed_report other
 one_asked (words.Heap word) text (reports.Heap one) (reports.Heap other) is is_too = ap reports.Heap (sym is ∙ is_too)
-one_asked words.Objects text (reports.Objects one) (reports.Objects other) is is_too =
-    ap reports.Objects (one_kind text one other is is_too)
-one_asked (words.Node word) text (reports.Node one id) (reports.Node other id_too) is is_too =
-    let same = sym is.0 ∙ is_too.0 in
-    let same_id = sym is.1.1 ∙ is_too.1.1 in
-    λ i. reports.Node (same i) (same_id i)
+one_asked words.Objects text (reports.Objects one) (reports.Objects other) is is_too = one_kinds text one other is is_too
+one_asked (words.Node word) text (reports.Node one node) (reports.Node other node_too) is is_too =
+    one_node (node_follows word) text one node node_too is.1 is_too.1
+    ∙ ap (λ (report : NodeReport). placed_report (reports.Node report node_too)) (sym is.0 ∙ is_too.0)
 one_asked (words.Heap word) text (reports.Heap one) (reports.Objects kind) is is_too = absurd is_too
 one_asked (words.Heap word) text (reports.Heap one) (reports.Node other id) is is_too = absurd is_too
 one_asked (words.Heap word) text (reports.Objects kind) other is is_too = absurd is
@@ -239,34 +224,21 @@ one_asked (words.Node word) text (reports.Objects kind) other is is_too = absurd
 
 names_id : (word : ReportWord) (text : List ℕ) (report : Report) → AsksReport word text report → follows_of word ≡ follow.Identifier
     → IsIdText text
-names_id (words.Node word) text (reports.Node report id) is same = is.1.0
+names_id (words.Node word) text (reports.Node report (that.Identifier id)) is same = is.1.0
+names_id (words.Node word) text (reports.Node report (that.Named name)) is same =
+    absurd (subst (λ (follows : Follows). SaysNode follows text (that.Named name)) same is.1)
 names_id (words.Node word) text (reports.Heap report) is same = absurd is
 names_id (words.Node word) text (reports.Objects kind) is same = absurd is
 names_id (words.Heap word) text report is same = absurd cc
 names_id words.Objects text report is same = absurd cc
 
-names_kind : (word : ReportWord) (text : List ℕ) (report : Report) → AsksReport word text report → follows_of word ≡ follow.ClassOrType
-    → (kind : Kind) × NamesKind text kind
-names_kind words.Objects text (reports.Objects kind) is same = (kind, is)
-names_kind words.Objects text (reports.Heap report) is same = absurd is
-names_kind words.Objects text (reports.Node report id) is same = absurd is
-names_kind (words.Heap word) text report is same = absurd cc
-names_kind (words.Node word) text report is same = absurd cc
-
 misnames : (word : ReportWord) (text : List ℕ) (report : Report) (fault : Misnamed) → AsksReport word text report → IsMisnamed word text fault → ⊥
 misnames word text report misnamed.NoIdentifier is fails = fails.1 (names_id word text report is fails.0)
-misnames word text report misnamed.NoKind is fails = let it = names_kind word text report is fails.0 in fails.1 it.0 it.1
-
-both_follow : (word : ReportWord) → follows_of word ≡ follow.Identifier → follows_of word ≡ follow.ClassOrType → ⊥
-both_follow word one other = let no : follow.Identifier ≡ follow.ClassOrType = sym one ∙ other in cc
 
 one_misnamed : (word : ReportWord) (text : List ℕ) (one other : Misnamed) → IsMisnamed word text one → IsMisnamed word text other → one ≡ other
 one_misnamed word text misnamed.NoIdentifier misnamed.NoIdentifier is is_too = refl
-one_misnamed word text misnamed.NoIdentifier misnamed.NoKind is is_too = absurd (both_follow word is.0 is_too.0)
-one_misnamed word text misnamed.NoKind misnamed.NoIdentifier is is_too = absurd (both_follow word is_too.0 is.0)
-one_misnamed word text misnamed.NoKind misnamed.NoKind is is_too = refl
 
-one_named : (word : ReportWord) (text : List ℕ) (one other : Question) → IsNamed word text one → IsNamed word text other → one ≡ other
+one_named : (word : ReportWord) (text : List ℕ) (one other : Question) → IsNamed word text one → IsNamed word text other → IsSame one other
 one_named word text (questions.Report one) (questions.Report other) is is_too = ap questions.Report (one_asked word text one other is is_too)
 one_named word text (questions.Report one) (questions.Misnamed other) is is_too = absurd (misnames word text one other is is_too)
 one_named word text (questions.Misnamed one) (questions.Report other) is is_too = absurd (misnames word text other one is_too is)
@@ -359,23 +331,23 @@ plain_no_word line questions.NotUnderstood other is (word, text, is_line, named)
 plain_no_word line (questions.Report report) other is it = is
 plain_no_word line (questions.Misnamed fault) other is it = is
 
-one_of_word : (line : List ℕ) (one other : Question) → OfWord line one → OfWord line other → one ≡ other
+one_of_word : (line : List ℕ) (one other : Question) → OfWord line one → OfWord line other → IsSame one other
 one_of_word line one other (word, text, is_line, named) (word_too, text_too, is_line_too, named_too) =
     let same = one_line line word word_too text text_too is_line is_line_too in
     one_named word_too text_too one other
     (subst (λ (t : List ℕ). IsNamed word_too t one) same.1 (subst (λ (w : ReportWord). IsNamed w text one) same.0 named)) named_too
 
-pub one_question : (line : List ℕ) (one other : Question) → IsQuestion line one → IsQuestion line other → one ≡ other
+pub one_question : (line : List ℕ) (one other : Question) → IsQuestion line one → IsQuestion line other → IsSame one other
 one_question line one other is is_too = by (either line one is) (either line other is_too) where
-  by : Plain line one ⊎ OfWord line one → Plain line other ⊎ OfWord line other → one ≡ other
-  by (inl plain) (inl plain_too) = one_plain line one other plain plain_too
+  by : Plain line one ⊎ OfWord line one → Plain line other ⊎ OfWord line other → IsSame one other
+  by (inl plain) (inl plain_too) = ap placed_question (one_plain line one other plain plain_too)
   by (inl plain) (inr word) = absurd (plain_no_word line one other plain word)
   by (inr word) (inl plain) = absurd (plain_no_word line other one plain word)
   by (inr word) (inr word_too) = one_of_word line one other word word_too
 
 -- a line asks one thing
-pub asks_once : (line : List ℕ) (one other : Question) → Asks line one → Asks line other → one ≡ other
+pub asks_once : (line : List ℕ) (one other : Question) → Asks line one → Asks line other → IsSame one other
 asks_once line one other (inl (short, is)) (inl (short_too, is_too)) = one_question line one other is is_too
 asks_once line one other (inl (short, is)) (inr (long, is_too)) = absurd (omega arith)
 asks_once line one other (inr (long, is)) (inl (short, is_too)) = absurd (omega arith)
-asks_once line one other (inr (long, is)) (inr (long_too, is_too)) = is ∙ sym is_too
+asks_once line one other (inr (long, is)) (inr (long_too, is_too)) = ap placed_question (is ∙ sym is_too)

@@ -2,17 +2,18 @@
 use Rattle.std.proofs.Common.{◌≡◌, ◌⊎◌, ℕ, List, [], ◌∷◌, ◌++◌, refl, sym, ap, subst, ◌∙◌, inl, inr, append_assoc}
 use Rattle.hprof_ask.specs.declared.question.Question.{Question}
 use Rattle.hprof_ask.specs.declared.question.Question.TheVariants as questions
+use Rattle.hprof_ask.specs.Same.{IsSame}
 use Rattle.hprof_ask.specs.Answering.{AreAnswers, IsLineAnswer}
 use Rattle.hprof_ask.specs.Asked.{Asks, NoneQuits, Quits}
 use Rattle.hprof_ask.proofs.OneQuestion.{asks_once}
 use Rattle.hprof_ask.proofs.SomeQuestion.{some_question}
 
 module _ (IsAnswer : Question → List ℕ → Type 0)
-    (once : (question : Question) (one other : List ℕ) → IsAnswer question one → IsAnswer question other → one ≡ other) where
+    (once : (question same : Question) (one other : List ℕ) → IsSame question same → IsAnswer question one → IsAnswer same other
+    → one ≡ other) where
   pub line_answer_once : (line one other : List ℕ) → IsLineAnswer IsAnswer line one → IsLineAnswer IsAnswer line other → one ≡ other
   line_answer_once line one other is is_too =
-      once is_too.question one other
-      (subst (λ (q : Question). IsAnswer q one) (asks_once line is.question is_too.question is.asks is_too.asks) is.is) is_too.is
+      once is.question is_too.question one other (asks_once line is.question is_too.question is.asks is_too.asks) is.is is_too.is
 
   pub answers_once : (lines : List (List ℕ)) (one other : List ℕ) → AreAnswers IsAnswer lines one → AreAnswers IsAnswer lines other
       → one ≡ other

@@ -1,5 +1,7 @@
 -- Each line asks something.
 use Rattle.std.proofs.Common.{◌≡◌, ◌≢◌, ◌⊎◌, ℕ, ◌<◌, ltb, Bool, true, false, List, [], ◌∷◌, ◌++◌, length, refl, sym, ap, ◌∙◌, inl, inr, arith, get_or, drop, codes, subst, append_assoc}
+use Rattle.std.specs.Prelude.{Option, Some, None}
+use Rattle.std.specs.Borrow.{Bor}
 use Rattle.std.specs.Char.{digit_value}
 use Rattle.std.specs.List.{AllByRecursion}
 use Rattle.std.specs.Str.Parse.{AllDigits}
@@ -8,10 +10,13 @@ use Rattle.std.proofs.lemmas.List.{append_cancel_left}
 use Rattle.std.proofs.lemmas.Bool.Decides.{eqb_tells}
 use Rattle.hprof_text.specs.Identifier.{IsIdText, id_value}
 use Rattle.hprof_values.specs.declared.basic.Basic.{Basic}
-use Rattle.hprof_values.specs.declared.basic.Basic.TheVariants as basics
-use Rattle.hprof_histogram.specs.declared.row.Kind.{Kind}
 use Rattle.hprof_histogram.specs.declared.row.Kind.TheVariants as kinds
-use Rattle.hprof_naming.specs.TypeWord.{type_word}
+use Rattle.hprof_naming.specs.TypeNames.{arrays_named}
+use Rattle.hprof_ask.specs.declared.report.Kinds.{Kinds}
+use Rattle.hprof_ask.specs.declared.report.Kinds.TheVariants as these
+use Rattle.hprof_ask.specs.declared.report.Node.TheVariants as that
+use Rattle.hprof_ask.specs.declared.report.NodeReport.{NodeReport}
+use Rattle.hprof_ask.specs.declared.report.NodeReport.TheVariants as nodes
 use Rattle.hprof_ask.specs.declared.report.Report.TheVariants as reports
 use Rattle.hprof_ask.specs.declared.report_word.Follows.{Follows}
 use Rattle.hprof_ask.specs.declared.report_word.Follows.TheVariants as follow
@@ -20,9 +25,9 @@ use Rattle.hprof_ask.specs.declared.report_word.ReportWord.TheVariants as words
 use Rattle.hprof_ask.specs.declared.subject.Misnamed.TheVariants as misnamed
 use Rattle.hprof_ask.specs.declared.question.Question.{Question}
 use Rattle.hprof_ask.specs.declared.question.Question.TheVariants as questions
-use Rattle.hprof_ask.specs.Asked.{Asks, IsFollowed, IsLineOf, IsNamed, IsQuestion, IsQuit, IsWord, NamesKind}
+use Rattle.hprof_ask.specs.Asked.{Asks, IsFollowed, IsLineOf, IsNamed, IsQuestion, IsQuit, IsWord, SaysKinds, SaysNode}
 use Rattle.hprof_ask.proofs.WordLists.{of_each}
-use Rattle.hprof_ask.specs.Words.{all_words, follows_of, word_of}
+use Rattle.hprof_ask.specs.Words.{all_words, follows_of, node_follows, word_of}
 use Rattle.hprof_ask.proofs.WordLists.{of_each}
 
 -- ---- what holds, or does not
@@ -94,82 +99,47 @@ identifier text = elim (below 0 (length text)) [
   | inr none ↦ inr (λ is. none is.digits.0)
 ]
 
-type_named : (word : List ℕ) → ((elem : Basic) × NamesKind word (kinds.Prim elem)) ⊎ ((elem : Basic) → NamesKind word (kinds.Prim elem) → ⊥)
-type_named word = elim (same word (type_word basics.Boolean ++ codes "[]")) [
-  | inl is ↦ inl (basics.Boolean, is)
-  | inr no_boolean ↦ elim (same word (type_word basics.Char ++ codes "[]")) [
-    | inl is ↦ inl (basics.Char, is)
-    | inr no_char ↦ elim (same word (type_word basics.Float ++ codes "[]")) [
-      | inl is ↦ inl (basics.Float, is)
-      | inr no_float ↦ elim (same word (type_word basics.Double ++ codes "[]")) [
-        | inl is ↦ inl (basics.Double, is)
-        | inr no_double ↦ elim (same word (type_word basics.Byte ++ codes "[]")) [
-          | inl is ↦ inl (basics.Byte, is)
-          | inr no_byte ↦ elim (same word (type_word basics.Short ++ codes "[]")) [
-            | inl is ↦ inl (basics.Short, is)
-            | inr no_short ↦ elim (same word (type_word basics.Int ++ codes "[]")) [
-              | inl is ↦ inl (basics.Int, is)
-              | inr no_int ↦ elim (same word (type_word basics.Long ++ codes "[]")) [
-                | inl is ↦ inl (basics.Long, is)
-                | inr no_long ↦ inr (none no_boolean no_char no_float no_double no_byte no_short no_int no_long)
-              ]
-            ]
-          ]
-        ]
-      ]
-    ]
-  ]
-] where
-  none : word ≢ type_word basics.Boolean ++ codes "[]"
-      → word ≢ type_word basics.Char ++ codes "[]"
-      → word ≢ type_word basics.Float ++ codes "[]"
-      → word ≢ type_word basics.Double ++ codes "[]"
-      → word ≢ type_word basics.Byte ++ codes "[]"
-      → word ≢ type_word basics.Short ++ codes "[]"
-      → word ≢ type_word basics.Int ++ codes "[]"
-      → word ≢ type_word basics.Long ++ codes "[]"
-      → (elem : Basic) → NamesKind word (kinds.Prim elem) → ⊥
-  none no_boolean no_char no_float no_double no_byte no_short no_int no_long basics.Array = λ e. e
-  none no_boolean no_char no_float no_double no_byte no_short no_int no_long basics.Object = λ e. e
-  none no_boolean no_char no_float no_double no_byte no_short no_int no_long basics.Boolean = no_boolean
-  none no_boolean no_char no_float no_double no_byte no_short no_int no_long basics.Char = no_char
-  none no_boolean no_char no_float no_double no_byte no_short no_int no_long basics.Float = no_float
-  none no_boolean no_char no_float no_double no_byte no_short no_int no_long basics.Double = no_double
-  none no_boolean no_char no_float no_double no_byte no_short no_int no_long basics.Byte = no_byte
-  none no_boolean no_char no_float no_double no_byte no_short no_int no_long basics.Short = no_short
-  none no_boolean no_char no_float no_double no_byte no_short no_int no_long basics.Int = no_int
-  none no_boolean no_char no_float no_double no_byte no_short no_int no_long basics.Long = no_long
+-- bytes, at some place
+abbrev bytes_at : List ℕ → Bor (List ℕ)
+bytes_at text = record { ref_ptr = (0, 0); now = text }
 
-kind_named : (word : List ℕ) → ((kind : Kind) × NamesKind word kind) ⊎ ((kind : Kind) → NamesKind word kind → ⊥)
-kind_named word = elim (identifier word) [
-  | inl is ↦ inl (kinds.Class (id_value word), (is, refl))
-  | inr no_id ↦ elim (type_named word) [
-    | inl it ↦ inl (kinds.Prim it.0, it.1)
-    | inr no_type ↦ inr (none no_id no_type)
-  ]
-] where
-  none : (IsIdText word → ⊥) → ((elem : Basic) → NamesKind word (kinds.Prim elem) → ⊥) → (kind : Kind) → NamesKind word kind → ⊥
-  none no_id no_type (kinds.Class class) = λ e. no_id e.0
-  none no_id no_type (kinds.Prim elem) = no_type elem
+kinds_said : (text : List ℕ) → (which : Kinds) × SaysKinds text which
+kinds_said text = by (arrays_named text) refl (identifier text) where
+  by : (found : Option Basic) → arrays_named text ≡ found → IsIdText text ⊎ (IsIdText text → ⊥) → (which : Kinds) × SaysKinds text which
+  by (Some elem) e id = (these.Of (kinds.Prim elem), e)
+  by None e (inl is) = (these.Of (kinds.Class (id_value text)), (e, (is, refl)))
+  by None e (inr fails) = (these.Named (bytes_at text), (e, fails, refl))
 
 -- ---- what a word asks
 
 module _ (text : List ℕ) where
-  of_identifier : (word : ReportWord) → follows_of word ≡ follow.Identifier
-      → ((is : IsIdText text) → (question : Question) × IsNamed word text question) → (question : Question) × IsNamed word text question
-  of_identifier word follows on = elim (identifier text) [
-    | inl is ↦ on is
+  of_identifier : (report : NodeReport) → node_follows report ≡ follow.Identifier
+      → (question : Question) × IsNamed (words.Node report) text question
+  of_identifier report follows = elim (identifier text) [
+    | inl is ↦ (questions.Report (reports.Node report (that.Identifier (id_value text))), (refl, (is, refl)))
     | inr fails ↦ (questions.Misnamed misnamed.NoIdentifier, (follows, fails))
+  ]
+
+  of_name : (report : NodeReport) → node_follows report ≡ follow.ClassOrObject
+      → (question : Question) × IsNamed (words.Node report) text question
+  of_name report follows = elim (identifier text) [
+    | inl is ↦ (questions.Report (reports.Node report (that.Identifier (id_value text))), (refl, (is, refl)))
+    | inr fails ↦ (
+      questions.Report (reports.Node report (that.Named (bytes_at text))),
+      (refl, subst (λ (after : Follows). SaysNode after text (that.Named (bytes_at text))) (sym follows) (fails, refl)),
+    )
   ]
 
   named : (word : ReportWord) → (question : Question) × IsNamed word text question
   named (words.Heap report) = (questions.Report (reports.Heap report), refl)
-  named (words.Node report) =
-      of_identifier (words.Node report) refl (λ is. (questions.Report (reports.Node report (id_value text)), (refl, (is, refl))))
-  named words.Objects = elim (kind_named text) [
-    | inl it ↦ (questions.Report (reports.Objects it.0), it.1)
-    | inr fails ↦ (questions.Misnamed misnamed.NoKind, (refl, fails))
-  ]
+  named (words.Node nodes.Show) = of_name nodes.Show refl
+  named (words.Node nodes.Why) = of_name nodes.Why refl
+  named (words.Node nodes.Who) = of_name nodes.Who refl
+  named (words.Node nodes.Text) = of_identifier nodes.Text refl
+  named (words.Node nodes.Object) = of_identifier nodes.Object refl
+  named (words.Node nodes.Refs) = of_identifier nodes.Refs refl
+  named (words.Node nodes.Path) = of_identifier nodes.Path refl
+  named words.Objects = let it = kinds_said text in (questions.Report (reports.Objects it.0), it.1)
 
 -- ---- what a line asks
 
@@ -192,6 +162,7 @@ followed follow.Nothing line name = elim (same line name) [
   | inr fails ↦ inr (λ text is. fails is.0)
 ]
 followed follow.Identifier line name = elim (spaced line name) [ inl it ↦ inl it | inr fails ↦ inr (λ text is. fails text is.0 is.1) ]
+followed follow.ClassOrObject line name = elim (spaced line name) [ inl it ↦ inl it | inr fails ↦ inr (λ text is. fails text is.0 is.1) ]
 followed follow.ClassOrType line name = elim (spaced line name) [ inl it ↦ inl it | inr fails ↦ inr (λ text is. fails text is.0 is.1) ]
 
 -- of each word it is asked

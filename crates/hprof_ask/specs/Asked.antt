@@ -1,11 +1,13 @@
 -- What a line asks.
-use Rattle.std.specs.Prelude.{◌≡◌, ◌≢◌, ◌⊎◌, ℕ, ◌<◌, ◌≤◌, List, [], ◌∷◌, ◌++◌, length, codes, ⊤}
+use Rattle.std.specs.Prelude.{◌≡◌, ◌≢◌, ◌⊎◌, ℕ, ◌<◌, ◌≤◌, List, [], ◌∷◌, ◌++◌, length, codes, Some, None, ⊤}
 use Rattle.std.specs.List.{AllByRecursion}
 use Rattle.hprof_text.specs.Identifier.{IsIdText, id_value}
-use Rattle.hprof_values.specs.declared.basic.Basic.TheVariants as basics
-use Rattle.hprof_histogram.specs.declared.row.Kind.{Kind}
 use Rattle.hprof_histogram.specs.declared.row.Kind.TheVariants as kinds
-use Rattle.hprof_naming.specs.TypeWord.{type_word}
+use Rattle.hprof_naming.specs.TypeNames.{arrays_named}
+use Rattle.hprof_ask.specs.declared.report.Kinds.{Kinds}
+use Rattle.hprof_ask.specs.declared.report.Kinds.TheVariants as these
+use Rattle.hprof_ask.specs.declared.report.Node.{Node}
+use Rattle.hprof_ask.specs.declared.report.Node.TheVariants as that
 use Rattle.hprof_ask.specs.declared.report.Report.{Report}
 use Rattle.hprof_ask.specs.declared.report.Report.TheVariants as reports
 use Rattle.hprof_ask.specs.declared.report_word.Follows.{Follows}
@@ -16,7 +18,7 @@ use Rattle.hprof_ask.specs.declared.subject.Misnamed.{Misnamed}
 use Rattle.hprof_ask.specs.declared.subject.Misnamed.TheVariants as misnamed
 use Rattle.hprof_ask.specs.declared.question.Question.{Question}
 use Rattle.hprof_ask.specs.declared.question.Question.TheVariants as questions
-use Rattle.hprof_ask.specs.Words.{follows_of, word_of}
+use Rattle.hprof_ask.specs.Words.{follows_of, node_follows, word_of}
 
 -- ---- what follows a word
 
@@ -24,24 +26,29 @@ use Rattle.hprof_ask.specs.Words.{follows_of, word_of}
 abbrev pub NamesId : List ℕ → ℕ → Type 0
 NamesId text id = IsIdText text × (id_value text ≡ id)
 
--- the text names a class by its identifier, or the arrays of a type
-abbrev pub NamesKind : List ℕ → Kind → Type 0
-NamesKind text (kinds.Class class) = NamesId text class
-NamesKind text (kinds.Prim basics.Array) = ⊥
-NamesKind text (kinds.Prim basics.Object) = ⊥
-NamesKind text (kinds.Prim elem) = text ≡ type_word elem ++ codes "[]"
+-- the text says whose objects: the arrays of a type; if it names none, those of the class with that identifier; if it is none, those of
+-- all classes that it names
+abbrev pub SaysKinds : List ℕ → Kinds → Type 0
+SaysKinds text (these.Of (kinds.Prim elem)) = arrays_named text ≡ Some elem
+SaysKinds text (these.Of (kinds.Class class)) = (arrays_named text ≡ None) × NamesId text class
+SaysKinds text (these.Named name) = (arrays_named text ≡ None) × ¬ (IsIdText text) × (name.now ≡ text)
+
+-- the text says which class or object: by its identifier; if it is none, and a name may follow, the class that it names
+abbrev pub SaysNode : Follows → List ℕ → Node → Type 0
+SaysNode follows text (that.Identifier id) = NamesId text id
+SaysNode follow.ClassOrObject text (that.Named name) = ¬ (IsIdText text) × (name.now ≡ text)
+SaysNode other text (that.Named name) = ⊥
 
 -- the word asks for the report, with this text behind it
 abbrev pub AsksReport : ReportWord → List ℕ → Report → Type 0
 AsksReport (words.Heap word) text (reports.Heap report) = word ≡ report
-AsksReport words.Objects text (reports.Objects kind) = NamesKind text kind
-AsksReport (words.Node word) text (reports.Node report id) = (word ≡ report) × NamesId text id
+AsksReport words.Objects text (reports.Objects kinds) = SaysKinds text kinds
+AsksReport (words.Node word) text (reports.Node report node) = (word ≡ report) × SaysNode (node_follows word) text node
 AsksReport word text report = ⊥
 
 -- the text is none of those that follow the word
 abbrev pub IsMisnamed : ReportWord → List ℕ → Misnamed → Type 0
 IsMisnamed word text misnamed.NoIdentifier = (follows_of word ≡ follow.Identifier) × ¬ (IsIdText text)
-IsMisnamed word text misnamed.NoKind = (follows_of word ≡ follow.ClassOrType) × ((kind : Kind) → NamesKind text kind → ⊥)
 
 -- what the word asks with that text behind it
 abbrev pub IsNamed : ReportWord → List ℕ → Question → Type 0

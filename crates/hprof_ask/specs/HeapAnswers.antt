@@ -1,26 +1,31 @@
 -- Answers over a heap, and over what was read of each part.
-use Rattle.std.specs.Prelude.{◌≡◌, ℕ, List, [], ◌++◌, codes}
+use Rattle.std.specs.Prelude.{◌≡◌, ◌⊎◌, ℕ, List, [], ◌++◌, codes}
 use Rattle.hprof_values.specs.declared.ids.IdSize.{IdSize}
 use Rattle.hprof_items.specs.FactValue.{FactValue}
 use Rattle.hprof_stream.specs.declared.summary.PartSummary.{PartSummary}
 use Rattle.hprof_ask.specs.declared.question.Question.{Question}
 use Rattle.hprof_ask.specs.declared.question.Question.TheVariants as questions
+use Rattle.hprof_ask.specs.declared.report.Report.{Report}
 use Rattle.hprof_ask.specs.declared.subject.Misnamed.{Misnamed}
 use Rattle.hprof_ask.specs.declared.subject.Misnamed.TheVariants as misnamed
-use Rattle.hprof_ask.specs.Report.{IsReport}
+use Rattle.hprof_ask.specs.Report.{IsReport, LacksClass}
 use Rattle.hprof_ask.specs.Words.{help_text}
 
 -- what is told of a text that does not follow a word
 abbrev pub misnamed_text : Misnamed → List ℕ
 misnamed_text misnamed.NoIdentifier = codes "not an identifier"
-misnamed_text misnamed.NoKind = codes "not a class or a type"
+
+-- the reply to a question for a report: its text, or that no class has the name that it is on
+abbrev pub IsReportReply : List PartSummary → IdSize → List FactValue → Report → List ℕ → Type 0
+IsReportReply summaries ids facts report text =
+    IsReport summaries ids facts report text ⊎ (LacksClass facts report × (text ≡ codes "no class has this name\n"))
 
 -- the reply to a question: a report, or a line
 abbrev pub IsReply : List PartSummary → IdSize → List FactValue → Question → List ℕ → Type 0
 IsReply summaries ids facts questions.Nothing text = text ≡ []
 IsReply summaries ids facts questions.Help text = text ≡ help_text
 IsReply summaries ids facts questions.Quit text = text ≡ []
-IsReply summaries ids facts (questions.Report report) text = IsReport summaries ids facts report text
+IsReply summaries ids facts (questions.Report report) text = IsReportReply summaries ids facts report text
 IsReply summaries ids facts (questions.Misnamed fault) text = text ≡ misnamed_text fault ++ codes "\n"
 IsReply summaries ids facts questions.NotUnderstood text = text ≡ codes "not understood\n"
 

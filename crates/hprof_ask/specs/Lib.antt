@@ -5,6 +5,7 @@ pub mod OneReport
 pub mod SomeCheck
 pub mod SomeReport
 pub mod Lines
+pub mod Same
 pub mod Asked
 pub mod Answering
 pub mod Dialogue

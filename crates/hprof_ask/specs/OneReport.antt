@@ -1,5 +1,5 @@
 -- A report is one text.
-use Rattle.std.proofs.Common.{◌≡◌, ℕ, List}
+use Rattle.std.proofs.Common.{◌≡◌, ℕ, List, [], ◌∷◌, subst}
 use Rattle.hprof_values.specs.declared.ids.IdSize.{IdSize}
 use Rattle.hprof_items.specs.FactValue.{FactValue}
 use Rattle.hprof_stream.specs.declared.summary.PartSummary.{PartSummary}
@@ -15,13 +15,19 @@ use Rattle.hprof_show.proofs.OneReport.{one_show_text}
 use Rattle.hprof_holders.proofs.SomeThreads.{text_once as threads_once}
 use Rattle.hprof_holders.proofs.SomeWho.{who_once}
 use Rattle.hprof_why.proofs.OneText.{why_once}
+use Rattle.hprof_meaning.specs.MeantClasses.{IsMeantClass, IsMeantDump}
+use Rattle.hprof_meaning.specs.ObjectsOfText.{IsObjectsOfText}
+use Rattle.hprof_meaning.proofs.MeantLists.{one_all}
+use Rattle.hprof_meaning.proofs.OneTexts.{one_named_text, one_objects_text as one_objects_of_classes}
 use Rattle.hprof_ask.specs.declared.report.HeapReport.{HeapReport}
 use Rattle.hprof_ask.specs.declared.report.HeapReport.TheVariants as heaps
 use Rattle.hprof_ask.specs.declared.report.NodeReport.{NodeReport}
 use Rattle.hprof_ask.specs.declared.report.NodeReport.TheVariants as nodes
+use Rattle.hprof_ask.specs.declared.report.Kinds.TheVariants as these
+use Rattle.hprof_ask.specs.declared.report.Node.TheVariants as that
 use Rattle.hprof_ask.specs.declared.report.Report.{Report}
 use Rattle.hprof_ask.specs.declared.report.Report.TheVariants as reports
-use Rattle.hprof_ask.specs.Report.{IsHeapReport, IsNodeReport, IsReport}
+use Rattle.hprof_ask.specs.Report.{IsHeapReport, IsNamedObjects, IsNamedReport, IsNodeReport, IsReport, IsReportOfDumps, LacksClass}
 
 module _ (summaries : List PartSummary) (ids : IdSize) (facts : List FactValue) where
   one_heap_report : (report : HeapReport) (one other : List ℕ) → IsHeapReport summaries ids facts report one
@@ -41,8 +47,42 @@ module _ (summaries : List PartSummary) (ids : IdSize) (facts : List FactValue) 
   one_node_report nodes.Refs id = one_refs ids facts id
   one_node_report nodes.Path id = one_path_text ids facts id
 
+  one_named_objects : (name : List ℕ) (one other : List ℕ) → IsNamedObjects ids facts name one → IsNamedObjects ids facts name other
+      → one ≡ other
+  one_named_objects name one other is is_too =
+      one_objects_of_classes ids facts is_too.classes one other
+      (subst (λ (classes : List ℕ). IsObjectsOfText ids facts classes one)
+      (one_all (IsMeantClass facts name) is.classes is_too.classes is.are_classes is_too.are_classes) is.is) is_too.is
+
+  one_report_of_dumps : (report : NodeReport) (dumps : List ℕ) (one other : List ℕ) → IsReportOfDumps ids facts report dumps one
+      → IsReportOfDumps ids facts report dumps other → one ≡ other
+  one_report_of_dumps report [] one other is is_too = absurd is
+  one_report_of_dumps report (id ∷ []) one other is is_too = one_node_report report id one other is is_too
+  one_report_of_dumps report (id ∷ second ∷ more) one other is is_too =
+      one_named_text ids facts (id ∷ second ∷ more) one other is is_too
+
+  one_named_report : (report : NodeReport) (name : List ℕ) (one other : List ℕ) → IsNamedReport ids facts report name one
+      → IsNamedReport ids facts report name other → one ≡ other
+  one_named_report report name one other is is_too =
+      one_report_of_dumps report is_too.dumps one other
+      (subst (λ (dumps : List ℕ). IsReportOfDumps ids facts report dumps one)
+      (one_all (IsMeantDump facts name) is.dumps is_too.dumps is.are_dumps is_too.are_dumps) is.is) is_too.is
+
   pub one_report : (report : Report) (one other : List ℕ) → IsReport summaries ids facts report one
       → IsReport summaries ids facts report other → one ≡ other
   one_report (reports.Heap report) = one_heap_report report
-  one_report (reports.Objects kind) = one_objects_text ids facts kind
-  one_report (reports.Node report id) = one_node_report report id
+  one_report (reports.Objects (these.Of kind)) = one_objects_text ids facts kind
+  one_report (reports.Objects (these.Named name)) = one_named_objects name.now
+  one_report (reports.Node report (that.Identifier id)) = one_node_report report id
+  one_report (reports.Node report (that.Named name)) = one_named_report report name.now
+
+  -- and none of a name that no class has
+  pub no_report : (report : Report) (text : List ℕ) → LacksClass facts report → IsReport summaries ids facts report text → ⊥
+  no_report (reports.Objects (these.Named name)) text lacks is =
+      lacks.1 (is.there (one_all (IsMeantClass facts name.now) is.classes [] is.are_classes lacks.0))
+  no_report (reports.Node report (that.Named name)) text lacks is =
+      subst (λ (dumps : List ℕ). IsReportOfDumps ids facts report dumps text)
+      (one_all (IsMeantDump facts name.now) is.dumps [] is.are_dumps lacks) is.is
+  no_report (reports.Heap report) text lacks is = lacks
+  no_report (reports.Objects (these.Of kind)) text lacks is = lacks
+  no_report (reports.Node report (that.Identifier id)) text lacks is = lacks

@@ -1,10 +1,16 @@
 -- The reports, and the text of each.
-use Rattle.std.specs.Prelude.{ℕ, ◌<◌, List, ⊤}
+use Rattle.std.specs.Prelude.{◌≡◌, ℕ, ◌<◌, List, [], ◌∷◌, codes, ⊤}
 use Rattle.hprof_values.specs.declared.ids.IdSize.{IdSize}
 use Rattle.hprof_items.specs.FactValue.{FactValue}
 use Rattle.hprof_stream.specs.declared.summary.PartSummary.{PartSummary}
 use Rattle.hprof_rows.specs.HeapValue.{HeapValue}
+use Rattle.hprof_engine.specs.declared.product_refusal.ProductRefusal.{ProductRefusal}
+use Rattle.hprof_engine.specs.declared.product_refusal.ProductRefusal.TheVariants as refusals
 use Rattle.hprof_engine.specs.Makes.{Making, making_of}
+use Rattle.hprof_naming.specs.MeantLabel.{Means}
+use Rattle.hprof_meaning.specs.MeantClasses.{AreMeantClasses, AreMeantDumps}
+use Rattle.hprof_meaning.specs.NamedText.{IsNamedText}
+use Rattle.hprof_meaning.specs.ObjectsOfText.{IsObjectsOfText}
 use Rattle.hprof_reports.specs.Check.{IsCheck}
 use Rattle.hprof_reports.specs.HistogramText.{IsHistogramText}
 use Rattle.hprof_reports.specs.ClassesText.{IsClassesText}
@@ -21,6 +27,8 @@ use Rattle.hprof_ask.specs.declared.report.HeapReport.{HeapReport}
 use Rattle.hprof_ask.specs.declared.report.HeapReport.TheVariants as heaps
 use Rattle.hprof_ask.specs.declared.report.NodeReport.{NodeReport}
 use Rattle.hprof_ask.specs.declared.report.NodeReport.TheVariants as nodes
+use Rattle.hprof_ask.specs.declared.report.Kinds.TheVariants as these
+use Rattle.hprof_ask.specs.declared.report.Node.TheVariants as that
 use Rattle.hprof_ask.specs.declared.report.Report.{Report}
 use Rattle.hprof_ask.specs.declared.report.Report.TheVariants as reports
 
@@ -41,11 +49,51 @@ IsNodeReport ids facts nodes.Object id text = IsObjectText ids facts id text
 IsNodeReport ids facts nodes.Refs id text = IsRefsText ids facts id text
 IsNodeReport ids facts nodes.Path id text = IsPathText ids facts id text
 
+-- ---- names
+
+-- the name is that of the class of all classes, which every heap has
+abbrev pub NamesClasses : List ℕ → Type 0
+NamesClasses name = Means name (codes "java/lang/Class")
+
+-- it is the report `objects` on all classes that the name means, of which there are some, or on the class of all classes
+pub record IsNamedObjects (ids : IdSize) (facts : List FactValue) (name text : List ℕ) : Type 0 where
+  pub classes : List ℕ
+  pub are_classes : AreMeantClasses facts name classes
+  pub there : classes ≡ [] → NamesClasses name
+  pub is : IsObjectsOfText ids facts classes text
+
+-- the name is that of these class dumps: of one it is the report on this one, of more it tells which they are
+abbrev pub IsReportOfDumps : IdSize → List FactValue → NodeReport → List ℕ → List ℕ → Type 0
+IsReportOfDumps ids facts report [] text = ⊥
+IsReportOfDumps ids facts report (id ∷ []) text = IsNodeReport ids facts report id text
+IsReportOfDumps ids facts report dumps text = IsNamedText ids facts dumps text
+
+-- it is the report on the class dumps that the name means
+pub record IsNamedReport (ids : IdSize) (facts : List FactValue) (report : NodeReport) (name text : List ℕ) : Type 0 where
+  pub dumps : List ℕ
+  pub are_dumps : AreMeantDumps facts name dumps
+  pub is : IsReportOfDumps ids facts report dumps text
+
+-- ---- all reports
+
 -- it is the report on parts with these summaries and on a heap of these facts
 abbrev pub IsReport : List PartSummary → IdSize → List FactValue → Report → List ℕ → Type 0
 IsReport summaries ids facts (reports.Heap report) text = IsHeapReport summaries ids facts report text
-IsReport summaries ids facts (reports.Objects kind) text = IsObjectsText ids facts kind text
-IsReport summaries ids facts (reports.Node report id) text = IsNodeReport ids facts report id text
+IsReport summaries ids facts (reports.Objects (these.Of kind)) text = IsObjectsText ids facts kind text
+IsReport summaries ids facts (reports.Objects (these.Named name)) text = IsNamedObjects ids facts name.now text
+IsReport summaries ids facts (reports.Node report (that.Identifier id)) text = IsNodeReport ids facts report id text
+IsReport summaries ids facts (reports.Node report (that.Named name)) text = IsNamedReport ids facts report name.now text
+
+-- the report is on a name that no class of these facts has
+abbrev pub LacksClass : List FactValue → Report → Type 0
+LacksClass facts (reports.Objects (these.Named name)) = AreMeantClasses facts name.now [] × ¬ (NamesClasses name.now)
+LacksClass facts (reports.Node report (that.Named name)) = AreMeantDumps facts name.now []
+LacksClass facts other = ⊥
+
+-- the report on these facts is refused for that reason
+abbrev pub RefusesReport : List FactValue → Report → ProductRefusal → Type 0
+RefusesReport facts report refusals.DumpTooLong = ⊥
+RefusesReport facts report refusals.NoClass = LacksClass facts report
 
 -- the same of a heap with its size of identifiers
 abbrev pub IsReportText : Report → List PartSummary → HeapValue → List ℕ → Type 0
@@ -61,6 +109,7 @@ abbrev pub TakesMemory : Report → Type 0
 TakesMemory (reports.Heap heaps.Check) = ⊥
 TakesMemory other = ⊤
 
--- what a report makes of parts; none is too long
+-- what a report makes of parts
 abbrev pub report_making : Report → Making
-report_making report = making_of (IsReportText report) (λ heap. ⊥) (TakesRoom report) (TakesMemory report)
+report_making report = making_of (IsReportText report) (λ refusal heap. RefusesReport heap.facts report refusal) (TakesRoom report)
+    (TakesMemory report)

@@ -1,5 +1,5 @@
 -- A question has an answer over a heap and what was read of each part.
-use Rattle.std.proofs.Common.{ℕ, List, [], ◌++◌, codes, refl}
+use Rattle.std.proofs.Common.{ℕ, List, [], ◌++◌, codes, refl, inl, inr}
 use Rattle.hprof_values.specs.declared.ids.IdSize.{IdSize}
 use Rattle.hprof_items.specs.FactValue.{FactValue}
 use Rattle.hprof_stream.specs.declared.summary.PartSummary.{PartSummary}
@@ -10,16 +10,23 @@ use Rattle.hprof_heap.specs.Heap.{heap_of}
 use Rattle.hprof_heap.specs.HeapFacts.{facts_of, size_of}
 use Rattle.hprof_ask.specs.declared.question.Question.{Question}
 use Rattle.hprof_ask.specs.declared.question.Question.TheVariants as questions
-use Rattle.hprof_ask.specs.HeapAnswers.{IsHeapAnswer, IsReply, behind_reply, misnamed_text}
-use Rattle.hprof_ask.specs.SomeReport.{some_report}
+use Rattle.hprof_ask.specs.declared.report.Report.{Report}
+use Rattle.hprof_ask.specs.HeapAnswers.{IsHeapAnswer, IsReply, IsReportReply, behind_reply, misnamed_text}
+use Rattle.hprof_ask.specs.SomeReport.{report_or_none}
 use Rattle.hprof_ask.specs.Words.{help_text}
 
 module _ (ids : IdSize) (facts : List FactValue) (agree : IsConsistent facts) (summaries : List PartSummary) where
+  report_reply : (report : Report) → (text : List ℕ) × IsReportReply summaries ids facts report text
+  report_reply report = elim (report_or_none ids facts agree summaries report) [
+    | inl it ↦ (it.0, inl it.1)
+    | inr none ↦ (codes "no class has this name\n", inr (none, refl))
+  ]
+
   some_reply : (question : Question) → (text : List ℕ) × IsReply summaries ids facts question text
   some_reply questions.Nothing = ([], refl)
   some_reply questions.Help = (help_text, refl)
   some_reply questions.Quit = ([], refl)
-  some_reply (questions.Report report) = some_report ids facts agree summaries report
+  some_reply (questions.Report report) = report_reply report
   some_reply (questions.Misnamed fault) = (misnamed_text fault ++ codes "\n", refl)
   some_reply questions.NotUnderstood = (codes "not understood\n", refl)
 

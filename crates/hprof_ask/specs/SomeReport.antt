@@ -1,6 +1,9 @@
 -- A report of facts that agree is there.
-use Rattle.std.specs.Prelude.{map}
-use Rattle.std.proofs.Common.{ℕ, List, refl}
+use Rattle.std.specs.Prelude.{bytes_eq, map}
+use Rattle.std.proofs.Common.{◌≡◌, ◌⊎◌, inl, inr, ℕ, List, [], ◌∷◌, codes, refl}
+use Rattle.std.proofs.lemmas.Bool.{cases_Bool}
+use Rattle.std.proofs.lemmas.Bool.Decides.{not_from_Decides}
+use Rattle.std.proofs.lemmas.Slice.Eq.{bytes_eq-Decides}
 use Rattle.hprof_values.specs.declared.ids.IdSize.{IdSize}
 use Rattle.hprof_items.specs.FactValue.{FactValue}
 use Rattle.hprof_stream.specs.declared.summary.PartSummary.{PartSummary}
@@ -26,15 +29,28 @@ use Rattle.hprof_show.proofs.OneReport.{some_show}
 use Rattle.hprof_holders.proofs.SomeThreads.{text_exists as some_threads}
 use Rattle.hprof_holders.proofs.SomeWho.{who_exists}
 use Rattle.hprof_why.proofs.SomeText.{why_exists}
+use Rattle.hprof_naming.specs.MeantLabel.{meant_label, slashed}
+use Rattle.hprof_meaning.specs.MeantClasses.{AreMeantClasses, AreMeantDumps}
+use Rattle.hprof_meaning.proofs.OneTexts.{some_named_text, some_objects_text}
+use Rattle.hprof_meaning.proofs.SomeLists.{some_classes as some_classes_named, some_dumps as some_dumps_named}
 use Rattle.hprof_ask.specs.declared.report.HeapReport.{HeapReport}
 use Rattle.hprof_ask.specs.declared.report.HeapReport.TheVariants as heaps
 use Rattle.hprof_ask.specs.declared.report.NodeReport.{NodeReport}
 use Rattle.hprof_ask.specs.declared.report.NodeReport.TheVariants as nodes
+use Rattle.hprof_ask.specs.declared.report.Kinds.TheVariants as these
+use Rattle.hprof_ask.specs.declared.report.Node.TheVariants as that
 use Rattle.hprof_ask.specs.declared.report.Report.{Report}
 use Rattle.hprof_ask.specs.declared.report.Report.TheVariants as reports
-use Rattle.hprof_ask.specs.Report.{IsHeapReport, IsNodeReport, IsReport}
+use Rattle.hprof_ask.specs.Report.{IsHeapReport, IsNamedObjects, IsNamedReport, IsNodeReport, IsReport, LacksClass, NamesClasses}
 use Rattle.hprof_ask.specs.SomeCheck.{some_check}
 use Rattle.hprof_holders.specs.SomeReferrers.{some_referrers}
+
+-- two lists of bytes are one, or two
+same_bytes : (one other : List ℕ) → (one ≡ other) ⊎ ¬ (one ≡ other)
+same_bytes one other = elim (cases_Bool (bytes_eq one other)) [
+  | inl same ↦ inl ((bytes_eq-Decides one other).0 same)
+  | inr apart ↦ inr (not_from_Decides (bytes_eq one other) (bytes_eq-Decides one other) apart)
+]
 
 module _ (ids : IdSize) (facts : List FactValue) (agree : IsConsistent facts) where
   some_histogram : (text : List ℕ) × IsHistogramText ids facts text
@@ -97,13 +113,13 @@ module _ (ids : IdSize) (facts : List FactValue) (agree : IsConsistent facts) wh
       let text = text_exists ids facts id in
       (text_line id text.0, record { agree = agree; text = text.0; is_text = text.1; is = refl })
 
-  some_heap_report : (summaries : List PartSummary) (report : HeapReport) → (text : List ℕ) × IsHeapReport summaries ids facts report text
+  pub some_heap_report : (summaries : List PartSummary) (report : HeapReport) → (text : List ℕ) × IsHeapReport summaries ids facts report text
   some_heap_report summaries heaps.Check = some_check summaries facts
   some_heap_report summaries heaps.Histogram = some_histogram
   some_heap_report summaries heaps.Classes = some_classes
   some_heap_report summaries heaps.Threads = some_threads facts agree ids
 
-  some_node_report : (report : NodeReport) (id : ℕ) → (text : List ℕ) × IsNodeReport ids facts report id text
+  pub some_node_report : (report : NodeReport) (id : ℕ) → (text : List ℕ) × IsNodeReport ids facts report id text
   some_node_report nodes.Show id = some_show ids facts id agree
   some_node_report nodes.Why id = why_exists ids facts agree id
   some_node_report nodes.Who id = who_exists ids facts agree id
@@ -112,7 +128,50 @@ module _ (ids : IdSize) (facts : List FactValue) (agree : IsConsistent facts) wh
   some_node_report nodes.Refs id = some_refs id
   some_node_report nodes.Path id = some_path_text id
 
-  pub some_report : (summaries : List PartSummary) (report : Report) → (text : List ℕ) × IsReport summaries ids facts report text
-  some_report summaries (reports.Heap report) = some_heap_report summaries report
-  some_report summaries (reports.Objects kind) = some_objects kind
-  some_report summaries (reports.Node report id) = some_node_report report id
+  -- ---- names
+
+  names_classes : (name : List ℕ) → NamesClasses name ⊎ ¬ (NamesClasses name)
+  names_classes name = same_bytes (slashed (codes "java/lang/Class")) (slashed (meant_label name))
+
+  objects_named : (name : List ℕ) (classes : List ℕ) → AreMeantClasses facts name classes → (classes ≡ [] → NamesClasses name)
+      → (text : List ℕ) × IsNamedObjects ids facts name text
+  objects_named name classes are there =
+      let text = some_objects_text ids facts classes in
+      (text.0, record { classes = classes; are_classes = are; there = there; is = text.1 })
+
+  named_objects : (name : List ℕ) → ((text : List ℕ) × IsNamedObjects ids facts name text)
+      ⊎ (AreMeantClasses facts name [] × ¬ (NamesClasses name))
+  named_objects name = let all = some_classes_named facts name agree in by all.0 all.1 (names_classes name) where
+    by : (classes : List ℕ) → AreMeantClasses facts name classes → NamesClasses name ⊎ ¬ (NamesClasses name)
+        → ((text : List ℕ) × IsNamedObjects ids facts name text) ⊎ (AreMeantClasses facts name [] × ¬ (NamesClasses name))
+    by [] are (inl is) = inl (objects_named name [] are (λ _. is))
+    by [] are (inr fails) = inr (are, fails)
+    by (class ∷ classes) are either = inl (objects_named name (class ∷ classes) are (λ none. absurd cc))
+
+  named_report : (report : NodeReport) (name : List ℕ) → ((text : List ℕ) × IsNamedReport ids facts report name text)
+      ⊎ AreMeantDumps facts name []
+  named_report report name = let all = some_dumps_named facts name agree in by all.0 all.1 where
+    by : (dumps : List ℕ) → AreMeantDumps facts name dumps → ((text : List ℕ) × IsNamedReport ids facts report name text)
+        ⊎ AreMeantDumps facts name []
+    by [] are = inr are
+    by (id ∷ []) are =
+        let text = some_node_report report id in
+        inl (text.0, record { dumps = id ∷ []; are_dumps = are; is = text.1 })
+    by (id ∷ other ∷ more) are =
+        let text = some_named_text ids facts (id ∷ other ∷ more) agree in
+        inl (text.0, record { dumps = id ∷ other ∷ more; are_dumps = are; is = text.1 })
+
+  -- ---- all reports
+
+  -- there is one, or the report is on a name that no class has
+  pub report_or_none : (summaries : List PartSummary) (report : Report) → ((text : List ℕ) × IsReport summaries ids facts report text)
+      ⊎ LacksClass facts report
+  report_or_none summaries (reports.Heap report) = inl (some_heap_report summaries report)
+  report_or_none summaries (reports.Objects (these.Of kind)) = inl (some_objects kind)
+  report_or_none summaries (reports.Objects (these.Named name)) = named_objects name.now
+  report_or_none summaries (reports.Node report (that.Identifier id)) = inl (some_node_report report id)
+  report_or_none summaries (reports.Node report (that.Named name)) = named_report report name.now
+
+  pub some_report : (summaries : List PartSummary) (report : Report) → (LacksClass facts report → ⊥)
+      → (text : List ℕ) × IsReport summaries ids facts report text
+  some_report summaries report there = elim (report_or_none summaries report) [ inl it ↦ it | inr none ↦ absurd (there none) ]

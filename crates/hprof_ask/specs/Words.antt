@@ -27,6 +27,13 @@ node_word nodes.Object = codes "object"
 node_word nodes.Refs = codes "refs"
 node_word nodes.Path = codes "path"
 
+-- what follows these words: `show`, `why` and `who` take the name of a class, too
+abbrev pub node_follows : NodeReport → Follows
+node_follows nodes.Show = follow.ClassOrObject
+node_follows nodes.Why = follow.ClassOrObject
+node_follows nodes.Who = follow.ClassOrObject
+node_follows other = follow.Identifier
+
 abbrev pub word_of : ReportWord → List ℕ
 word_of (words.Heap report) = heap_word report
 word_of words.Objects = codes "objects"
@@ -35,7 +42,7 @@ word_of (words.Node report) = node_word report
 abbrev pub follows_of : ReportWord → Follows
 follows_of (words.Heap report) = follow.Nothing
 follows_of words.Objects = follow.ClassOrType
-follows_of (words.Node report) = follow.Identifier
+follows_of (words.Node report) = node_follows report
 
 -- all of them, in the order in which help lists them
 abbrev pub all_words : List ReportWord
@@ -50,6 +57,7 @@ all_words =
 abbrev pub follows_text : Follows → List ℕ
 follows_text follow.Nothing = codes "\n"
 follows_text follow.Identifier = codes " ID\n"
+follows_text follow.ClassOrObject = codes " ID\n"
 follows_text follow.ClassOrType = codes " KIND\n"
 
 abbrev pub usage_line : ReportWord → List ℕ

@@ -2,6 +2,7 @@
 
 ghost use Rattle.std.specs.Prelude.{◌≡◌, ℕ, List, Err, IfOk};
 ghost use Rattle.hprof_devices.specs.declared.health.Health.TheVariants.{Well};
+ghost use Rattle.hprof_engine.specs.Makes.{EndsWriting};
 ghost use Rattle.hprof_heap.specs.HeapFacts.{facts_of, size_of};
 ghost use Rattle.hprof_reports.specs.Check.{IsCheck};
 ghost use Rattle.hprof_reports.specs.ClassesText.{IsClassesText};
@@ -15,10 +16,10 @@ ghost use Rattle.hprof_holders.specs.ThreadsText.{IsThreadsText};
 ghost use Rattle.hprof_holders.specs.WhoText.{IsWhoText};
 ghost use Rattle.hprof_why.specs.WhyText.{IsWhyText};
 ghost use Rattle.hprof_ask.specs.Kept.{IsKept};
-ghost use Rattle.hprof_ask.specs.Report.{IsHeapReport, IsNodeReport, IsReport, TakesMemory};
+ghost use Rattle.hprof_ask.specs.Report.{IsHeapReport, IsNodeReport, IsReport, RefusesReport, TakesMemory};
 
 use crate::kept::{Kept, kept_or_made};
-use crate::report::{HeapReport, NodeReport, Report};
+use crate::report::{HeapReport, Kinds, Node, NodeReport, Report};
 use crate::survey::view_of;
 use hprof_devices::{Target, push_all};
 use hprof_edges::{Edge, referrers};
@@ -296,7 +297,7 @@ impl<'a> Answerer<'a> {
     }
 
     /// Writes a report on an identifier.
-    fn write_node_report<W: Target>(
+    pub(crate) fn write_node_report<W: Target>(
         &self,
         alloc: Global,
         kept: &mut Kept,
@@ -322,28 +323,35 @@ impl<'a> Answerer<'a> {
         }
     }
 
-    /// Writes a report. If the writer fails or memory runs out, the bytes written are the beginning of the report. `kept` has what was kept
-    /// of the heap at the reports before, and keeps what is made now.
+    /// Writes a report. If the writer fails or memory runs out, the bytes written are the beginning of the report. If the report is on a name
+    /// that no class has, it is refused, and nothing is written. `kept` has what was kept of the heap at the reports before, and keeps
+    /// what is made now.
     pub fn write<W: Target>(
         &self,
         alloc: Global,
         kept: &mut Kept,
-        report: Report,
+        report: Report<'_>,
         target: &mut W,
     ) -> Result<(), WriteStop>
         requires well { W.health target.old ≡ Well }
         requires kept { IsKept (size_of self.now.heap.now) (facts_of self.now.heap.now) kept.old }
-        ensures bytes { (text : List ℕ)
-            × IsReport self.now.summaries.now (size_of self.now.heap.now) (facts_of self.now.heap.now) report text
-            × WritesText (W.written target.old) (W.written target.new) result text }
-        ensures health { LeavesTarget result (W.health target.new) }
-        ensures memory { result ≡ Err WriteStop.OutOfMemory → TakesMemory report }
+        ensures ends { EndsWriting W.written W.health
+            (IsReport self.now.summaries.now (size_of self.now.heap.now) (facts_of self.now.heap.now) report.entry)
+            (RefusesReport (facts_of self.now.heap.now) report.entry) (TakesMemory report.entry) target.old target.new result }
         ensures kept { IsKept (size_of self.now.heap.now) (facts_of self.now.heap.now) kept.new }
     {
         match report {
             Report::Heap(report) => self.write_heap_report(alloc, kept, report, target),
-            Report::Objects(kind) => write_objects(alloc, self.heap, kind, target),
-            Report::Node(report, id) => self.write_node_report(alloc, kept, report, id, target),
+            Report::Objects(Kinds::Of(kind)) => write_objects(alloc, self.heap, kind, target),
+            Report::Objects(Kinds::Named(name)) => {
+                self.write_objects_named(alloc, kept, name, target)
+            }
+            Report::Node(report, Node::Identifier(id)) => {
+                self.write_node_report(alloc, kept, report, id, target)
+            }
+            Report::Node(report, Node::Named(name)) => {
+                self.write_node_named(alloc, kept, report, name, target)
+            }
         }
     }
 }

@@ -5,7 +5,7 @@ ghost use Rattle.std.specs.List.{flat_map};
 ghost use Rattle.hprof_devices.specs.declared.health.Health.TheVariants.{Well};
 ghost use Rattle.hprof_heap.specs.HeapFacts.{facts_of, size_of};
 ghost use Rattle.hprof_reports.specs.Stopping.{LeavesTarget, WritesText};
-ghost use Rattle.hprof_ask.specs.HeapAnswers.{IsHeapAnswer, IsReply, behind_reply};
+ghost use Rattle.hprof_ask.specs.HeapAnswers.{IsHeapAnswer, IsReply, IsReportReply, behind_reply};
 ghost use Rattle.hprof_ask.specs.Kept.{IsKept};
 ghost use Rattle.hprof_ask.specs.Words.{all_words, follows_text, help_text, usage_line};
 
@@ -13,6 +13,7 @@ use crate::answerer::Answerer;
 use crate::dialogue::Answers;
 use crate::kept::Kept;
 use crate::question::Question;
+use crate::report::Report;
 use crate::report_word::{ALL, Follows, ReportWord};
 use crate::stop::DialogueStop;
 use crate::subject::Misnamed;
@@ -27,7 +28,7 @@ fn follows_text(follows: Follows) -> &'static str
 {
     match follows {
         Follows::Nothing => "\n",
-        Follows::Identifier => " ID\n",
+        Follows::Identifier | Follows::ClassOrObject => " ID\n",
         Follows::ClassOrType => " KIND\n",
     }
 }
@@ -67,12 +68,37 @@ fn write_help<W: Target>(target: &mut W) -> Result<(), WriteStop>
 }
 
 /// Returns what stands behind the reply to a question: an empty line, or nothing if the question ends the dialogue.
-fn behind_reply(question: Question) -> &'static str
-    ensures { result.now ≡ behind_reply question }
+fn behind_reply(question: Question<'_>) -> &'static str
+    ensures { result.now ≡ behind_reply question.entry }
 {
     match question {
         Question::Quit => "",
         _ => "\n",
+    }
+}
+
+/// Writes the reply to a question for a report: the report, or that no class has the name that it is on. If it stops, the bytes written are
+/// the beginning of the reply.
+fn write_report<W: Target>(
+    alloc: Global,
+    answerer: &Answerer<'_>,
+    kept: &mut Kept,
+    report: Report<'_>,
+    target: &mut W,
+) -> Result<(), WriteStop>
+    requires well { W.health target.old ≡ Well }
+    requires kept { IsKept (size_of answerer.now.heap.now) (facts_of answerer.now.heap.now) kept.old }
+    ensures bytes { (text : List ℕ)
+        × IsReportReply answerer.now.summaries.now (size_of answerer.now.heap.now) (facts_of answerer.now.heap.now) report.entry text
+        × WritesText (W.written target.old) (W.written target.new) result text }
+    ensures health { LeavesTarget result (W.health target.new) }
+    ensures kept { IsKept (size_of answerer.now.heap.now) (facts_of answerer.now.heap.now) kept.new }
+{
+    match answerer.write(alloc, kept, report, target) {
+        Ok(()) => Ok(()),
+        Err(WriteStop::Refused(_)) => write_str("no class has this name\n", target),
+        Err(WriteStop::Write(fault)) => Err(WriteStop::Write(fault)),
+        Err(WriteStop::OutOfMemory) => Err(WriteStop::OutOfMemory),
     }
 }
 
@@ -81,13 +107,13 @@ fn write_reply<W: Target>(
     alloc: Global,
     answerer: &Answerer<'_>,
     kept: &mut Kept,
-    question: Question,
+    question: Question<'_>,
     target: &mut W,
 ) -> Result<(), WriteStop>
     requires well { W.health target.old ≡ Well }
     requires kept { IsKept (size_of answerer.now.heap.now) (facts_of answerer.now.heap.now) kept.old }
     ensures bytes { (text : List ℕ)
-        × IsReply answerer.now.summaries.now (size_of answerer.now.heap.now) (facts_of answerer.now.heap.now) question text
+        × IsReply answerer.now.summaries.now (size_of answerer.now.heap.now) (facts_of answerer.now.heap.now) question.entry text
         × WritesText (W.written target.old) (W.written target.new) result text }
     ensures health { LeavesTarget result (W.health target.new) }
     ensures kept { IsKept (size_of answerer.now.heap.now) (facts_of answerer.now.heap.now) kept.new }
@@ -96,9 +122,8 @@ fn write_reply<W: Target>(
         Question::Nothing => write_str("", target),
         Question::Help => write_help(target),
         Question::Quit => write_str("", target),
-        Question::Report(report) => answerer.write(alloc, kept, report, target),
+        Question::Report(report) => write_report(alloc, answerer, kept, report, target),
         Question::Misnamed(Misnamed::NoIdentifier) => write_str("not an identifier\n", target),
-        Question::Misnamed(Misnamed::NoKind) => write_str("not a class or a type\n", target),
         Question::NotUnderstood => write_str("not understood\n", target),
     }
 }
@@ -109,13 +134,13 @@ fn write_answer<W: Target>(
     alloc: Global,
     answerer: &Answerer<'_>,
     kept: &mut Kept,
-    question: Question,
+    question: Question<'_>,
     target: &mut W,
 ) -> Result<(), WriteStop>
     requires well { W.health target.old ≡ Well }
     requires kept { IsKept (size_of answerer.now.heap.now) (facts_of answerer.now.heap.now) kept.old }
     ensures bytes { (text : List ℕ)
-        × IsHeapAnswer answerer.now.summaries.now (size_of answerer.now.heap.now) (facts_of answerer.now.heap.now) question text
+        × IsHeapAnswer answerer.now.summaries.now (size_of answerer.now.heap.now) (facts_of answerer.now.heap.now) question.entry text
         × WritesText (W.written target.old) (W.written target.new) result text }
     ensures health { LeavesTarget result (W.health target.new) }
     ensures kept { IsKept (size_of answerer.now.heap.now) (facts_of answerer.now.heap.now) kept.new }
@@ -140,15 +165,15 @@ impl<'a> Answers for Answerer<'a> {
         &self,
         alloc: Global,
         kept: &mut Kept,
-        question: Question,
+        question: Question<'_>,
         target: &mut W,
     ) -> Result<(), DialogueStop> {
         match write_answer(alloc, self, kept, question, target) {
             Ok(()) => Ok(()),
             Err(WriteStop::Write(fault)) => Err(DialogueStop::Write(fault)),
             Err(WriteStop::OutOfMemory) => Err(DialogueStop::OutOfMemory),
-            // No answer is too long.
-            Err(WriteStop::TooLong) => unreachable!(),
+            // A report that is refused is answered by a line.
+            Err(WriteStop::Refused(_)) => unreachable!(),
         }
     }
 

@@ -6,7 +6,7 @@ ghost use Rattle.hprof_engine.specs.Joining.{fault_of};
 ghost use Rattle.hprof_engine.specs.Makes.{Makes};
 ghost use Rattle.hprof_ask.specs.Report.{report_making};
 
-use crate::report::{HeapReport, NodeReport, Report};
+use crate::report::{HeapReport, Kinds, Node, NodeReport, Report};
 use hprof_devices::{Source, Target};
 use hprof_engine::{NoSummaries, ToolFault, read_heap, write_to};
 use hprof_graph::LiveHeap;
@@ -14,6 +14,24 @@ use hprof_histogram::Kind;
 use hprof_reports::write_refs;
 use hprof_stream::Limits;
 use std::alloc::Global;
+
+/// Reads all parts, and writes a report on them and on their heap. All parts are read before the first byte is written. If the report is on
+/// a name that no class has, it is refused, and nothing is written. If memory runs out when all parts are read, the bytes written are the
+/// beginning of the report.
+pub fn report_to<R: Source, W: Target>(
+    alloc: Global,
+    readers: &mut [R],
+    report: Report<'_>,
+    target: &mut W,
+    limits: Limits,
+) -> Result<(), ToolFault>
+    requires readers { All (λ reader. R.health reader ≡ Well) readers.old }
+    requires writer { W.health target.old ≡ Well }
+    ensures { Makes R.left R.health R.pulls W.written W.health limits (report_making report.entry)
+        readers.old readers.new target.old target.new (fault_of result) }
+{
+    write_to(alloc, &report, readers, target, limits)
+}
 
 /// Reads all parts, and writes the report `check`: a line for each part, in order, a line for each table of their heap with the
 /// number of its facts, and the number of names that are not modified UTF-8. All parts are read before the first byte is
@@ -29,10 +47,10 @@ pub fn check_to<R: Source, W: Target>(
     ensures { Makes R.left R.health R.pulls W.written W.health limits (report_making (Report.Heap HeapReport.Check))
         readers.old readers.new target.old target.new (fault_of result) }
 {
-    write_to(
+    report_to(
         alloc,
-        &Report::Heap(HeapReport::Check),
         readers,
+        Report::Heap(HeapReport::Check),
         target,
         limits,
     )
@@ -52,10 +70,10 @@ pub fn histo_to<R: Source, W: Target>(
     ensures { Makes R.left R.health R.pulls W.written W.health limits (report_making (Report.Heap HeapReport.Histogram))
         readers.old readers.new target.old target.new (fault_of result) }
 {
-    write_to(
+    report_to(
         alloc,
-        &Report::Heap(HeapReport::Histogram),
         readers,
+        Report::Heap(HeapReport::Histogram),
         target,
         limits,
     )
@@ -75,10 +93,10 @@ pub fn classes_to<R: Source, W: Target>(
     ensures { Makes R.left R.health R.pulls W.written W.health limits (report_making (Report.Heap HeapReport.Classes))
         readers.old readers.new target.old target.new (fault_of result) }
 {
-    write_to(
+    report_to(
         alloc,
-        &Report::Heap(HeapReport::Classes),
         readers,
+        Report::Heap(HeapReport::Classes),
         target,
         limits,
     )
@@ -96,10 +114,16 @@ pub fn objects_to<R: Source, W: Target>(
 ) -> Result<(), ToolFault>
     requires readers { All (λ reader. R.health reader ≡ Well) readers.old }
     requires writer { W.health target.old ≡ Well }
-    ensures { Makes R.left R.health R.pulls W.written W.health limits (report_making (Report.Objects kind))
+    ensures { Makes R.left R.health R.pulls W.written W.health limits (report_making (Report.Objects (Kinds.Of kind)))
         readers.old readers.new target.old target.new (fault_of result) }
 {
-    write_to(alloc, &Report::Objects(kind), readers, target, limits)
+    report_to(
+        alloc,
+        readers,
+        Report::Objects(Kinds::Of(kind)),
+        target,
+        limits,
+    )
 }
 
 /// Reads all parts, and writes the report `object` on an identifier in their heap: the lines of its class dump, then those of
@@ -114,13 +138,13 @@ pub fn object_to<R: Source, W: Target>(
 ) -> Result<(), ToolFault>
     requires readers { All (λ reader. R.health reader ≡ Well) readers.old }
     requires writer { W.health target.old ≡ Well }
-    ensures { Makes R.left R.health R.pulls W.written W.health limits (report_making (Report.Node NodeReport.Object id))
+    ensures { Makes R.left R.health R.pulls W.written W.health limits (report_making (Report.Node NodeReport.Object (Node.Identifier id)))
         readers.old readers.new target.old target.new (fault_of result) }
 {
-    write_to(
+    report_to(
         alloc,
-        &Report::Node(NodeReport::Object, id),
         readers,
+        Report::Node(NodeReport::Object, Node::Identifier(id)),
         target,
         limits,
     )
@@ -138,13 +162,13 @@ pub fn path_to<R: Source, W: Target>(
 ) -> Result<(), ToolFault>
     requires readers { All (λ reader. R.health reader ≡ Well) readers.old }
     requires writer { W.health target.old ≡ Well }
-    ensures { Makes R.left R.health R.pulls W.written W.health limits (report_making (Report.Node NodeReport.Path id))
+    ensures { Makes R.left R.health R.pulls W.written W.health limits (report_making (Report.Node NodeReport.Path (Node.Identifier id)))
         readers.old readers.new target.old target.new (fault_of result) }
 {
-    write_to(
+    report_to(
         alloc,
-        &Report::Node(NodeReport::Path, id),
         readers,
+        Report::Node(NodeReport::Path, Node::Identifier(id)),
         target,
         limits,
     )
@@ -162,13 +186,13 @@ pub fn text_to<R: Source, W: Target>(
 ) -> Result<(), ToolFault>
     requires readers { All (λ reader. R.health reader ≡ Well) readers.old }
     requires writer { W.health target.old ≡ Well }
-    ensures { Makes R.left R.health R.pulls W.written W.health limits (report_making (Report.Node NodeReport.Text id))
+    ensures { Makes R.left R.health R.pulls W.written W.health limits (report_making (Report.Node NodeReport.Text (Node.Identifier id)))
         readers.old readers.new target.old target.new (fault_of result) }
 {
-    write_to(
+    report_to(
         alloc,
-        &Report::Node(NodeReport::Text, id),
         readers,
+        Report::Node(NodeReport::Text, Node::Identifier(id)),
         target,
         limits,
     )
@@ -188,10 +212,10 @@ pub fn threads_to<R: Source, W: Target>(
     ensures { Makes R.left R.health R.pulls W.written W.health limits (report_making (Report.Heap HeapReport.Threads))
         readers.old readers.new target.old target.new (fault_of result) }
 {
-    write_to(
+    report_to(
         alloc,
-        &Report::Heap(HeapReport::Threads),
         readers,
+        Report::Heap(HeapReport::Threads),
         target,
         limits,
     )
@@ -209,13 +233,13 @@ pub fn show_to<R: Source, W: Target>(
 ) -> Result<(), ToolFault>
     requires readers { All (λ reader. R.health reader ≡ Well) readers.old }
     requires writer { W.health target.old ≡ Well }
-    ensures { Makes R.left R.health R.pulls W.written W.health limits (report_making (Report.Node NodeReport.Show id))
+    ensures { Makes R.left R.health R.pulls W.written W.health limits (report_making (Report.Node NodeReport.Show (Node.Identifier id)))
         readers.old readers.new target.old target.new (fault_of result) }
 {
-    write_to(
+    report_to(
         alloc,
-        &Report::Node(NodeReport::Show, id),
         readers,
+        Report::Node(NodeReport::Show, Node::Identifier(id)),
         target,
         limits,
     )
@@ -233,13 +257,13 @@ pub fn who_to<R: Source, W: Target>(
 ) -> Result<(), ToolFault>
     requires readers { All (λ reader. R.health reader ≡ Well) readers.old }
     requires writer { W.health target.old ≡ Well }
-    ensures { Makes R.left R.health R.pulls W.written W.health limits (report_making (Report.Node NodeReport.Who id))
+    ensures { Makes R.left R.health R.pulls W.written W.health limits (report_making (Report.Node NodeReport.Who (Node.Identifier id)))
         readers.old readers.new target.old target.new (fault_of result) }
 {
-    write_to(
+    report_to(
         alloc,
-        &Report::Node(NodeReport::Who, id),
         readers,
+        Report::Node(NodeReport::Who, Node::Identifier(id)),
         target,
         limits,
     )
@@ -258,13 +282,13 @@ pub fn why_to<R: Source, W: Target>(
 ) -> Result<(), ToolFault>
     requires readers { All (λ reader. R.health reader ≡ Well) readers.old }
     requires writer { W.health target.old ≡ Well }
-    ensures { Makes R.left R.health R.pulls W.written W.health limits (report_making (Report.Node NodeReport.Why id))
+    ensures { Makes R.left R.health R.pulls W.written W.health limits (report_making (Report.Node NodeReport.Why (Node.Identifier id)))
         readers.old readers.new target.old target.new (fault_of result) }
 {
-    write_to(
+    report_to(
         alloc,
-        &Report::Node(NodeReport::Why, id),
         readers,
+        Report::Node(NodeReport::Why, Node::Identifier(id)),
         target,
         limits,
     )
@@ -282,7 +306,7 @@ pub fn refs_to<R: Source, W: Target>(
 ) -> Result<(), ToolFault>
     requires readers { All (λ reader. R.health reader ≡ Well) readers.old }
     requires writer { W.health target.old ≡ Well }
-    ensures { Makes R.left R.health R.pulls W.written W.health limits (report_making (Report.Node NodeReport.Refs id))
+    ensures { Makes R.left R.health R.pulls W.written W.health limits (report_making (Report.Node NodeReport.Refs (Node.Identifier id)))
         readers.old readers.new target.old target.new (fault_of result) }
 {
     let live = LiveHeap::watching(alloc, id);

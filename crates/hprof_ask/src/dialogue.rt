@@ -31,6 +31,7 @@ pub(crate) enum Course {
 /// A type that answers questions.
 pub trait Answers {
     ghost use Rattle.hprof_ask.specs.declared.question.Question.{Question};
+    ghost use Rattle.hprof_ask.specs.Same.{IsSame};
     ghost use Rattle.hprof_devices.specs.declared.health.Health.TheVariants.{Well};
 
     // The text is the answer to that question.
@@ -47,12 +48,12 @@ pub trait Answers {
         &self,
         alloc: Global,
         kept: &mut Self::Kept,
-        question: Question,
+        question: Question<'_>,
         target: &mut W,
     ) -> Result<(), DialogueStop>
         requires well { W.health target.old ≡ Well }
         requires kept { keeps self.now kept.old }
-        ensures bytes { (text : List ℕ) × is_answer self.now question text
+        ensures bytes { (text : List ℕ) × is_answer self.now question.entry text
             × WritesAnswer (W.written target.old) (W.written target.new) result text }
         ensures health { LeavesWriter result (W.health target.new) }
         ensures kept { keeps self.now kept.new };
@@ -60,9 +61,9 @@ pub trait Answers {
     // A question has an answer.
     ghost some_answer: { (answers : Self) (question : Question) → (text : List ℕ) × is_answer answers question text };
 
-    // And no other.
-    ghost one_answer: { (answers : Self) (question : Question) (one other : List ℕ)
-        → is_answer answers question one → is_answer answers question other → one ≡ other };
+    // And no other, wherever the bytes of a name lie.
+    ghost one_answer: { (answers : Self) (question same : Question) (one other : List ℕ) → IsSame question same
+        → is_answer answers question one → is_answer answers same other → one ≡ other };
 }
 
 /// Keeps one more byte of a line, if there is room for it.
@@ -81,12 +82,12 @@ fn take_question<A: Answers, W: Target>(
     alloc: Global,
     answers: &A,
     kept: &mut A::Kept,
-    question: Question,
+    question: Question<'_>,
     target: &mut W,
 ) -> Result<Course, DialogueStop>
     requires well { W.health target.old ≡ Well }
     requires kept { A.keeps answers.now kept.old }
-    ensures takes { TakesQuestion (A.is_answer answers.now) question (W.written target.old) (W.written target.new) result }
+    ensures takes { TakesQuestion (A.is_answer answers.now) question.entry (W.written target.old) (W.written target.new) result }
     ensures health { LeavesWriter result (W.health target.new) }
     ensures kept { A.keeps answers.now kept.new }
 {

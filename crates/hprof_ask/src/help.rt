@@ -64,17 +64,20 @@ Columns: bytes of the object, its identifier. The largest come first, then by
 identifier. Objects of subclasses are not listed. If there are none, nothing is
 printed.
 
-    $ hprof objects 7400003a0 friday.hprof | sed -n 1,2p
+    $ hprof objects shop.Session friday.hprof | sed -n 1,2p
     32 7400005e0
     32 740000738
     $ hprof objects 'byte[]' friday.hprof | sed -n 1p
     45 7400005a0
 
-KIND is a class, as its hexadecimal identifier without 0x or @, or boolean[],
-char[], float[], double[], byte[], short[], int[] or long[]: arrays of numbers
-are under no class. Bytes are the field and element data in the dump, without
-object headers and padding. Two dumps of one process are two heaps: ask each
-alone. A reader that closes early, as head does, is a failed write.
+KIND is a type of arrays, as byte[] or [B: boolean, char, float, double, byte,
+short, int or long; or else a class, as its hexadecimal identifier without 0x or
+@; or else a name, with dots or slashes, that of arrays as shop.Session[]. All
+classes with the name count. LFace; is the class Face, which is an identifier.
+
+Bytes are the field and element data in the dump, without object headers and
+padding. Two dumps of one process are two heaps: ask each alone. A reader that
+closes early, as head does, is a failed write.
 
 Exit status: 0 done, 1 refused (one line on standard error), 2 not understood.";
 
@@ -181,8 +184,10 @@ Four or more steps of one kind through objects of one class are folded: `.. N
 more`.
 
 If no GC root leads to ID, the line is `not reached`; if the dump has no such
-class or object, it is `nothing at ID`. ID is hexadecimal, without 0x or @. Two
-dumps of one process are two heaps: ask each alone.
+class or object, it is `nothing at ID`. ID is hexadecimal, without 0x or @, or
+else the name of a class, as shop.Session or shop.Session[]; if several classes
+have it, they are listed. Two dumps of one process are two heaps: ask each
+alone.
 
 Exit status: 0 done, 1 refused (one line on standard error), 2 not understood.";
 
@@ -226,7 +231,9 @@ References have the class of what they lead to, strings their text, threads
 their name. Numbers are decimal; of float and double they are as
 Float.toHexString and Double.toHexString print them, which is exact. If the dump
 has no such class or object, the line is `nothing at ID`. ID is hexadecimal,
-without 0x or @. Two dumps of one process are two heaps: ask each alone.
+without 0x or @, or else the name of a class, as shop.Session or shop.Session[];
+if several classes have it, they are listed. Two dumps of one process are two
+heaps: ask each alone.
 
 Exit status: 0 done, 1 refused (one line on standard error), 2 not understood.";
 
@@ -246,6 +253,8 @@ have `weak` before the kind. Of more than 20 references, sums come first.
 
 If there are none, the line is `nothing refers to ID`; if the dump has no such
 class or object either, it is `nothing at ID`. ID is hexadecimal, without 0x or
-@. Two dumps of one process are two heaps: ask each alone.
+@, or else the name of a class, as shop.Session or shop.Session[]; if several
+classes have it, they are listed. Two dumps of one process are two heaps: ask
+each alone.
 
 Exit status: 0 done, 1 refused (one line on standard error), 2 not understood.";

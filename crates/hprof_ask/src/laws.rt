@@ -9,18 +9,22 @@ ghost use Rattle.hprof_engine.specs.Joining.{Agree};
 ghost use Rattle.hprof_ask.specs.Answering.{AreAnswers};
 ghost use Rattle.hprof_ask.specs.HeapAnswers.{IsHeapAnswer};
 ghost use Rattle.hprof_ask.specs.PartsAnswers.{AreAnswersOfParts};
-ghost use Rattle.hprof_ask.specs.Report.{IsReport};
+ghost use Rattle.hprof_ask.specs.Report.{IsReport, LacksClass};
 ghost use Rattle.hprof_ask.specs.declared.report.Report.{Report};
 ghost use Rattle.hprof_ask.specs.declared.question.Question.{Question};
 ghost use Rattle.hprof_ask.specs.Asked.{Asks, NoneQuits, Quits};
 ghost use Rattle.hprof_ask.specs.Lines.{AreFirstLines, AreLines};
+ghost use Rattle.hprof_ask.specs.Same.{IsSame};
 
 use crate::dialogue::Answers;
 
-/// A report on parts and a heap is one text, and there is one if the facts of the heap agree.
+/// A report on parts and a heap is one text. If the facts of the heap agree, there is one unless the report is on a name that no class has;
+/// then there is none.
 pub fn a_report_is_one_text()
     ensures some { (summaries : List PartSummary) (ids : IdSize) (facts : List FactValue) (report : Report) → IsConsistent facts
-        → (text : List ℕ) × IsReport summaries ids facts report text }
+        → (LacksClass facts report → ⊥) → (text : List ℕ) × IsReport summaries ids facts report text }
+    ensures none { (summaries : List PartSummary) (ids : IdSize) (facts : List FactValue) (report : Report) (text : List ℕ)
+        → LacksClass facts report → IsReport summaries ids facts report text → ⊥ }
     ensures one { (summaries : List PartSummary) (ids : IdSize) (facts : List FactValue) (report : Report) (one other : List ℕ)
         → IsReport summaries ids facts report one → IsReport summaries ids facts report other → one ≡ other }
 {}
@@ -60,10 +64,10 @@ pub fn bytes_have_one_list_of_lines()
         → AreLines (bytes ++ more) (lines ++ others) }
 {}
 
-/// A line asks one thing.
+/// A line asks one thing, wherever the bytes of a name lie.
 pub fn a_line_asks_one_thing()
     ensures some { (line : List ℕ) → (question : Question) × Asks line question }
-    ensures one { (line : List ℕ) (one other : Question) → Asks line one → Asks line other → one ≡ other }
+    ensures one { (line : List ℕ) (one other : Question) → Asks line one → Asks line other → IsSame one other }
 {}
 
 /// The answers to lines are one text, and there is one. To ask two lists of lines one after the other is to ask them together, unless one

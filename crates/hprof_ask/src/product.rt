@@ -12,7 +12,7 @@ use hprof_stream::PartSummary;
 use std::alloc::{AllocError, Global};
 
 /// The report `check` wants the summaries of all parts, and the others want none.
-impl Summaries for Report {
+impl<'a> Summaries for Report<'a> {
     ghost use Rattle.hprof_ask.specs.Report.{TakesRoom};
     ghost use Rattle.hprof_ask.specs.Summarised.{HasRoom, Holds, no_room_for_none};
 
@@ -41,13 +41,13 @@ impl Summaries for Report {
 }
 
 /// A command asks once, as a dialogue asks many times.
-impl Product for Report {
+impl<'a> Product for Report<'a> {
     ghost use Rattle.hprof_ask.specs.OneReport.{one_report};
-    ghost use Rattle.hprof_ask.specs.Report.{IsReportText, TakesMemory};
+    ghost use Rattle.hprof_ask.specs.Report.{IsReportText, RefusesReport, TakesMemory};
 
     ghost is_text = { IsReportText };
 
-    ghost is_too_long = { λ report heap. ⊥ };
+    ghost refuses = { λ report refusal heap. RefusesReport heap.facts report refusal };
 
     ghost takes_memory = { TakesMemory };
 

@@ -15,7 +15,7 @@ pub(crate) const LONGEST_LINE: usize = 4096;
 
 /// The question of a line.
 #[derive(Clone, Copy, Debug, PartialEq, Eq)]
-pub enum Question {
+pub enum Question<'a> {
     /// The line is empty.
     Nothing,
     /// `help`: the questions that can be asked.
@@ -23,7 +23,7 @@ pub enum Question {
     /// `quit` or `exit`: the end of the dialogue.
     Quit,
     /// A report.
-    Report(Report),
+    Report(Report<'a>),
     /// The word of a report, and behind it another word that is none of those that follow it.
     Misnamed(Misnamed),
     /// None of these.
@@ -60,7 +60,10 @@ fn text_behind(line: &[u8], word: ReportWord) -> Option<&[u8]>
     match row.follows {
         Follows::Nothing if line == row.word.as_bytes() => Some(&[]),
         Follows::Nothing => None,
-        Follows::Identifier | Follows::ClassOrType => word_behind(line, row.word.as_bytes()),
+        Follows::Identifier | Follows::ClassOrObject | Follows::ClassOrType => word_behind(
+            line,
+            row.word.as_bytes(),
+        ),
     }
 }
 
@@ -78,7 +81,7 @@ fn words_of(line: &[u8]) -> Option<(ReportWord, &[u8])>
 }
 
 /// Returns the question that a word asks with that text behind it.
-fn named(word: ReportWord, text: &[u8]) -> Question
+fn named(word: ReportWord, text: &[u8]) -> Question<'_>
     ensures { IsNamed word text.now result }
 {
     match word.report(text) {
@@ -88,7 +91,7 @@ fn named(word: ReportWord, text: &[u8]) -> Question
 }
 
 /// Returns the question that the words of a line ask.
-fn asked(line: &[u8]) -> Question
+fn asked(line: &[u8]) -> Question<'_>
     ensures { IsQuestion line.now result }
 {
     if line.is_empty() {
@@ -107,7 +110,7 @@ fn asked(line: &[u8]) -> Question
 }
 
 /// Returns the question of a line. A line of more than 4,096 bytes is not understood.
-pub fn question_of(line: &[u8]) -> Question
+pub fn question_of(line: &[u8]) -> Question<'_>
     ensures { Asks line.now result }
 {
     if line.len() > LONGEST_LINE {
@@ -124,7 +127,7 @@ fn before_return(bytes: &[u8]) -> Option<&[u8]>
 }
 
 /// Returns the question of a line that ended with a line feed, of which these bytes before the feed were kept.
-pub(crate) fn ended_question(kept: &[u8]) -> Question
+pub(crate) fn ended_question(kept: &[u8]) -> Question<'_>
     ensures { (before line : List ℕ) → kept.now ≡ take 4098 before → IsBeforeFeed before line → Asks line result }
 {
     match before_return(kept) {
@@ -134,7 +137,7 @@ pub(crate) fn ended_question(kept: &[u8]) -> Question
 }
 
 /// Returns the question of a line that did not end, of which these bytes were kept.
-pub(crate) fn last_question(kept: &[u8]) -> Question
+pub(crate) fn last_question(kept: &[u8]) -> Question<'_>
     ensures { (line : List ℕ) → kept.now ≡ take 4098 line → Asks line result }
 {
     question_of(kept)

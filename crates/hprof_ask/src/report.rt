@@ -15,7 +15,7 @@ pub enum HeapReport {
     Threads,
 }
 
-/// A report on a node: a class or an object, by its identifier.
+/// A report on a node: a class or an object.
 #[derive(Clone, Copy, Debug, PartialEq, Eq)]
 pub enum NodeReport {
     /// `show`: the contents of a class, an instance or an array, decoded.
@@ -34,13 +34,31 @@ pub enum NodeReport {
     Path,
 }
 
+/// The objects that the report `objects` is on.
+#[derive(Clone, Copy, Debug, PartialEq, Eq)]
+pub enum Kinds<'a> {
+    /// The objects of a class with this identifier, or the arrays of a primitive type.
+    Of(Kind),
+    /// The objects of all classes that this name means.
+    Named(&'a [u8]),
+}
+
+/// The class or the object that a report is on.
+#[derive(Clone, Copy, Debug, PartialEq, Eq)]
+pub enum Node<'a> {
+    /// The class or the object with this identifier.
+    Identifier(u64),
+    /// The class that this name means.
+    Named(&'a [u8]),
+}
+
 /// A report on a heap and its parts.
 #[derive(Clone, Copy, Debug, PartialEq, Eq)]
-pub enum Report {
+pub enum Report<'a> {
     /// A report on the parts, or on the whole heap.
     Heap(HeapReport),
     /// `objects`: the objects of a class or a type, the largest first.
-    Objects(Kind),
-    /// A report on the class or the object with this identifier.
-    Node(NodeReport, u64),
+    Objects(Kinds<'a>),
+    /// A report on a class or an object.
+    Node(NodeReport, Node<'a>),
 }

@@ -3,7 +3,7 @@
 ghost use Rattle.std.specs.Prelude.{◌≡◌, ◌≢◌, MatchOption};
 ghost use Rattle.hprof_ask.specs.declared.report_word.Follows.{Follows};
 ghost use Rattle.hprof_ask.specs.declared.report_word.ReportWord.{ReportWord};
-ghost use Rattle.hprof_ask.specs.Words.{follows_of, heap_word, node_word, word_of};
+ghost use Rattle.hprof_ask.specs.Words.{follows_of, heap_word, node_follows, node_word, word_of};
 
 use crate::help;
 use crate::report::{HeapReport, NodeReport};
@@ -15,7 +15,9 @@ pub enum Follows {
     Nothing,
     /// The identifier of a class or an object.
     Identifier,
-    /// The identifier of a class, or a type of arrays, as `byte[]`.
+    /// The identifier of a class or an object, or the name of a class.
+    ClassOrObject,
+    /// A type of arrays, as `byte[]`, the identifier of a class, or the name of a class.
     ClassOrType,
 }
 
@@ -95,24 +97,24 @@ fn heap_row(report: HeapReport) -> ReportRow
 /// Returns the row of a report on a class or an object.
 fn node_row(report: NodeReport) -> ReportRow
     ensures word { result.word.now ≡ node_word report }
-    ensures follows { result.follows ≡ Follows.Identifier }
+    ensures follows { result.follows ≡ node_follows report }
 {
     match report {
         NodeReport::Show => ReportRow {
             word: "show",
-            follows: Follows::Identifier,
+            follows: Follows::ClassOrObject,
             about: "Prints the contents of a class, an instance or an array, decoded",
             help: help::SHOW,
         },
         NodeReport::Why => ReportRow {
             word: "why",
-            follows: Follows::Identifier,
+            follows: Follows::ClassOrObject,
             about: "Prints the shortest path of strong references from a GC root, with names",
             help: help::WHY,
         },
         NodeReport::Who => ReportRow {
             word: "who",
-            follows: Follows::Identifier,
+            follows: Follows::ClassOrObject,
             about: "Prints each reference to a class or an object, and its roots, with names",
             help: help::WHO,
         },

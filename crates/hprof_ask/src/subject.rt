@@ -1,26 +1,23 @@
 //! What a report is about, as the words behind its own say it.
 
-ghost use Rattle.std.specs.Prelude.{◌≡◌, MatchOption, MatchResult};
+ghost use Rattle.std.specs.Prelude.{◌≡◌, MatchResult};
 ghost use Rattle.std.specs.Option.{SomeIff};
 ghost use Rattle.hprof_text.specs.Identifier.{IsIdText, id_value};
-ghost use Rattle.hprof_histogram.specs.declared.row.Kind.{Kind};
-ghost use Rattle.hprof_values.specs.declared.basic.Basic.{Basic};
-ghost use Rattle.hprof_histogram.specs.declared.row.Kind.TheVariants as kinds;
-ghost use Rattle.hprof_ask.specs.Asked.{AsksReport, IsMisnamed, NamesId, NamesKind};
+ghost use Rattle.hprof_ask.specs.declared.report_word.Follows.TheVariants.{ClassOrObject};
+ghost use Rattle.hprof_ask.specs.Asked.{AsksReport, IsMisnamed, NamesId, SaysKinds, SaysNode};
+ghost use Rattle.hprof_ask.specs.Words.{node_follows};
 
-use crate::report::Report;
+use crate::report::{Kinds, Node, NodeReport, Report};
 use crate::report_word::ReportWord;
 use hprof_histogram::Kind;
+use hprof_naming::arrays_named;
 use hprof_text::parse_id;
-use hprof_values::Basic;
 
 /// The reason why a text behind the word of a report asks for nothing.
 #[derive(Clone, Copy, Debug, PartialEq, Eq)]
 pub enum Misnamed {
-    /// The text is no identifier, and the report is on one.
+    /// The text is no identifier, and the report takes nothing else.
     NoIdentifier,
-    /// The text names neither a class nor a type, and the report is on one of these.
-    NoKind,
 }
 
 /// Returns the identifier that bytes write, if they write one.
@@ -30,47 +27,6 @@ fn parse_identifier(text: &[u8]) -> Option<u64>
     match str::from_utf8(text) {
         Ok(text) => parse_id(text),
         Err(_) => None,
-    }
-}
-
-/// Returns the type whose arrays bytes name, if they do.
-fn parse_type(text: &[u8]) -> Option<Basic>
-    ensures { MatchOption result ((elem : Basic) → NamesKind text.now (kinds.Prim elem) → ⊥) (λ elem. NamesKind text.now (kinds.Prim elem)) }
-{
-    if text == b"boolean[]".as_slice() {
-        return Some(Basic::Boolean);
-    }
-    if text == b"char[]".as_slice() {
-        return Some(Basic::Char);
-    }
-    if text == b"float[]".as_slice() {
-        return Some(Basic::Float);
-    }
-    if text == b"double[]".as_slice() {
-        return Some(Basic::Double);
-    }
-    if text == b"byte[]".as_slice() {
-        return Some(Basic::Byte);
-    }
-    if text == b"short[]".as_slice() {
-        return Some(Basic::Short);
-    }
-    if text == b"int[]".as_slice() {
-        return Some(Basic::Int);
-    }
-    if text == b"long[]".as_slice() {
-        return Some(Basic::Long);
-    }
-    None
-}
-
-/// Returns the class or the type that bytes name: a class by its identifier, arrays of a type by the name of the type and `[]`.
-fn parse_kind(text: &[u8]) -> Option<Kind>
-    ensures { MatchOption result ((kind : Kind) → NamesKind text.now kind → ⊥) (NamesKind text.now) }
-{
-    match parse_identifier(text) {
-        Some(id) => Some(Kind::Class(id)),
-        None => Some(Kind::Prim(parse_type(text)?)),
     }
 }
 
@@ -84,26 +40,51 @@ fn identifier_of(text: &[u8]) -> Result<u64, Misnamed>
     }
 }
 
-/// Returns the class or the type that bytes name, or that they name none.
-fn kind_of(text: &[u8]) -> Result<Kind, Misnamed>
-    ensures { MatchResult result (NamesKind text.now)
-        (λ fault. (fault ≡ Misnamed.NoKind) × ((kind : Kind) → NamesKind text.now kind → ⊥)) }
+/// Returns the objects that bytes name: the arrays of a type by its word, as `byte[]` or `[B`, else the objects of a class by its
+/// identifier, else those of all classes with the name.
+fn kinds_of(text: &[u8]) -> Kinds<'_>
+    ensures { SaysKinds text.now result }
 {
-    match parse_kind(text) {
-        Some(kind) => Ok(kind),
-        None => Err(Misnamed::NoKind),
+    if let Some(elem) = arrays_named(text) {
+        return Kinds::Of(Kind::Prim(elem));
+    }
+    match parse_identifier(text) {
+        Some(id) => Kinds::Of(Kind::Class(id)),
+        None => Kinds::Named(text),
+    }
+}
+
+/// Returns the class or the object that bytes name: by its identifier, or else a class by its name.
+fn node_of(text: &[u8]) -> Node<'_>
+    ensures { SaysNode ClassOrObject text.now result }
+{
+    match parse_identifier(text) {
+        Some(id) => Node::Identifier(id),
+        None => Node::Named(text),
+    }
+}
+
+/// Returns what a report on a class or an object is on, with that text behind its word.
+fn subject_of(report: NodeReport, text: &[u8]) -> Result<Node<'_>, Misnamed>
+    ensures { MatchResult result (SaysNode (node_follows report) text.now) (IsMisnamed (ReportWord.Node report) text.now) }
+{
+    match report {
+        NodeReport::Show | NodeReport::Why | NodeReport::Who => Ok(node_of(text)),
+        NodeReport::Text | NodeReport::Object | NodeReport::Refs | NodeReport::Path => {
+            Ok(Node::Identifier(identifier_of(text)?))
+        }
     }
 }
 
 impl ReportWord {
     /// Returns the report that the word asks for with that text behind it. If nothing follows the word, the text does not matter.
-    pub fn report(self, text: &[u8]) -> Result<Report, Misnamed>
+    pub fn report(self, text: &[u8]) -> Result<Report<'_>, Misnamed>
         ensures { MatchResult result (AsksReport self text.now) (IsMisnamed self text.now) }
     {
         Ok(match self {
             ReportWord::Heap(report) => Report::Heap(report),
-            ReportWord::Objects => Report::Objects(kind_of(text)?),
-            ReportWord::Node(report) => Report::Node(report, identifier_of(text)?),
+            ReportWord::Objects => Report::Objects(kinds_of(text)),
+            ReportWord::Node(report) => Report::Node(report, subject_of(report, text)?),
         })
     }
 }

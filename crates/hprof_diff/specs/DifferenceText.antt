@@ -43,7 +43,7 @@ IsGrowthReport old summaries heap text = IsGrowthText old heap.ids heap.facts te
 
 -- that report, which takes memory while it is made
 abbrev pub growth_making : Totals → Making
-growth_making old = making_of (IsGrowthReport old) (λ heap. ⊥) (λ parts. ⊥) ⊤
+growth_making old = making_of (IsGrowthReport old) (λ refusal heap. ⊥) (λ parts. ⊥) ⊤
 
 -- the parts agree, and these are the totals of the heap that they state
 pub record AreTotalsOf (parts : List (List ℕ)) (totals : Totals) : Type 0 where

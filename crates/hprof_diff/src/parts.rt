@@ -32,7 +32,7 @@ impl<'a> HeapProduct for GrowthReport<'a> {
 
     ghost is_text = { λ report heap. IsGrowthText (totals_in report.old.now) heap.ids heap.facts };
 
-    ghost is_too_long = { λ report heap. ⊥ };
+    ghost refuses = { λ report refusal heap. ⊥ };
 
     ghost takes_memory = { λ report. ⊤ };
 

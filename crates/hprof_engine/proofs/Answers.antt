@@ -279,7 +279,7 @@ module _ {R : Type 0} (left : R → Option (List ℕ)) (health : R → Health) (
   stopped limits old new tool.NoParts from to reads = absurd reads
   stopped limits old new tool.IdSizes from to reads = absurd reads
   stopped limits old new (tool.Conflict key) from to reads = absurd reads
-  stopped limits old new tool.DumpTooLong from to reads = absurd reads
+  stopped limits old new (tool.Refused refusal) from to reads = absurd reads
   stopped limits old new (tool.Write fault) from to reads = absurd reads
   stopped limits old new tool.OutOfMemory from to reads = absurd reads
 
@@ -358,7 +358,7 @@ module _ {R : Type 0} (left : R → Option (List ℕ)) (health : R → Health) (
       λ parts ids millis facts told state. tt,
     )
     answered (Err (tool.Part index fault)) tells = absurd tells
-    answered (Err tool.DumpTooLong) tells = absurd tells
+    answered (Err (tool.Refused refusal)) tells = absurd tells
     answered (Err (tool.Write fault)) tells = absurd tells
     answered (Err tool.OutOfMemory) tells = absurd tells
 
@@ -372,7 +372,7 @@ module _ {F : Type 0} (given : List Given) (heap_in : F → HeapValue) where
   reads_alone (Err tool.IdSizes) tells = (tt, λ all. refl)
   reads_alone (Err (tool.Conflict key)) tells = (tt, λ all. refl)
   reads_alone (Err (tool.Part index fault)) tells = absurd tells
-  reads_alone (Err tool.DumpTooLong) tells = absurd tells
+  reads_alone (Err (tool.Refused refusal)) tells = absurd tells
   reads_alone (Err (tool.Write fault)) tells = absurd tells
   reads_alone (Err tool.OutOfMemory) tells = absurd tells
 

@@ -131,6 +131,6 @@ module _ {R : Type 0} (left : R → Option (List ℕ)) (health : R → Health) (
       ends_at tool.NoParts unlisted = absurd unlisted
       ends_at tool.IdSizes unlisted = absurd unlisted
       ends_at (tool.Conflict key) unlisted = absurd unlisted
-      ends_at tool.DumpTooLong unlisted = absurd unlisted
+      ends_at (tool.Refused refusal) unlisted = absurd unlisted
       ends_at (tool.Write write) unlisted = absurd unlisted
       ends_at tool.OutOfMemory unlisted = wants_to_list unlisted

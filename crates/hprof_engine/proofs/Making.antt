@@ -1,5 +1,5 @@
 -- Making something of parts.
-use Rattle.std.proofs.Common.{◌≡◌, inr, ℕ, List, Option, Some, None, Result, Ok, Err, refl, subst, arith}
+use Rattle.std.proofs.Common.{◌≡◌, inl, inr, ℕ, List, Option, Some, None, Result, Ok, Err, refl, subst, arith}
 use Rattle.std.specs.Prelude.{All}
 use Rattle.hprof_devices.specs.declared.health.Health.{Health}
 use Rattle.hprof_devices.specs.declared.health.Health.TheVariants as healths
@@ -13,6 +13,7 @@ use Rattle.hprof_stream.specs.declared.summary.PartSummary.{PartSummary}
 use Rattle.hprof_rows.specs.HeapValue.{HeapValue}
 use Rattle.hprof_heap.specs.State.{IsState}
 use Rattle.hprof_engine.specs.declared.tool_fault.ToolFault.{ToolFault}
+use Rattle.hprof_engine.specs.declared.product_refusal.ProductRefusal.{ProductRefusal}
 use Rattle.hprof_engine.specs.declared.product.WriteStop.{WriteStop}
 use Rattle.hprof_engine.specs.declared.product.WriteStop.TheVariants as stops
 use Rattle.hprof_engine.specs.Summaries.{AreSummaries}
@@ -32,7 +33,7 @@ module _ {R W : Type 0} (left : R → Option (List ℕ)) (health : R → Health)
     reads = reads;
     ok = λ e. absurd cc;
     unwritten = λ _. refl;
-    too_long = λ e. absurd (subst IsOfReading e kind);
+    refused = λ why e. absurd (subst IsOfReading e kind);
     write = λ why e. absurd (subst IsOfReading e kind);
     memory = λ e. absurd (subst IsOfReading e kind);
     no_other = λ parts ids millis facts told state are_well _ unhindered. no_other parts ids millis facts told state are_well unhindered;
@@ -61,7 +62,7 @@ module _ {R : Type 0} (left : R → Option (List ℕ)) (health : R → Health) (
     accepted = reads.accepted;
     read_out = reads.read_out;
   }
-  stopped stops.TooLong reads = record {
+  stopped (stops.Refused refusal) reads = record {
     no_parts = (λ e. absurd cc, λ none. let no = reads.no_parts.1 none in absurd cc);
     id_sizes = λ e. absurd cc;
     conflict = λ key e. absurd cc;
@@ -79,7 +80,7 @@ module _ {R : Type 0} (left : R → Option (List ℕ)) (health : R → Health) (
   }
 
   module _ {W : Type 0} (written : W → Option (List ℕ)) (well : W → Health)
-      (IsText : List PartSummary → HeapValue → List ℕ → Type 0) (TooLong : HeapValue → Type 0) (TakesRoom : ℕ → Type 0) (TakesMemory : Type 0)
+      (IsText : List PartSummary → HeapValue → List ℕ → Type 0) (Refuses : ProductRefusal → HeapValue → Type 0) (TakesRoom : ℕ → Type 0) (TakesMemory : Type 0)
       (before after : W) (heap : HeapValue) (summaries : List PartSummary)
       (agree : (parts : List (List ℕ)) → Tell left old parts → Agree parts heap.ids heap.millis heap.facts)
       (of_parts : (parts : List (List ℕ)) → Tell left old parts → AreSummaries parts summaries) where
@@ -93,14 +94,14 @@ module _ {R : Type 0} (left : R → Option (List ℕ)) (health : R → Health) (
     }
 
     pub ended : Reads left health pulls limits old new None → (result : Result (Unit {0}) WriteStop)
-        → EndsWriting written well (IsText summaries heap) (TooLong heap) TakesMemory before after result
-        → Makes left health pulls written well limits (making_of IsText TooLong TakesRoom TakesMemory) old new before after
+        → EndsWriting written well (IsText summaries heap) (λ refusal. Refuses refusal heap) TakesMemory before after result
+        → Makes left health pulls written well limits (making_of IsText Refuses TakesRoom TakesMemory) old new before after
         (fault_of_end result)
     ended reads (Ok done) ends = record {
       reads = reads;
       ok = λ e. (ends.0, λ parts told. (ends.1.0, made parts told ends.1.0 ends.1.1, ends.1.2));
       unwritten = λ none. absurd none;
-      too_long = λ e. absurd cc;
+      refused = λ refusal e. absurd cc;
       write = λ fault e. absurd cc;
       memory = λ e. absurd cc;
       no_other = λ parts ids millis facts told state are_well is_well unhindered. tt;
@@ -109,7 +110,7 @@ module _ {R : Type 0} (left : R → Option (List ℕ)) (health : R → Health) (
       reads = stopped (stops.Write fault) reads;
       ok = λ e. absurd cc;
       unwritten = λ none. absurd none;
-      too_long = λ e. absurd cc;
+      refused = λ refusal e. absurd cc;
       write = λ why e.
           let one : fault ≡ why = cc in (
             subst (λ (f : WriteFault). well after ≡ health_after f) one ends.0,
@@ -122,21 +123,25 @@ module _ {R : Type 0} (left : R → Option (List ℕ)) (health : R → Health) (
       reads = stopped stops.OutOfMemory reads;
       ok = λ e. absurd cc;
       unwritten = λ none. absurd none;
-      too_long = λ e. absurd cc;
+      refused = λ refusal e. absurd cc;
       write = λ fault e. absurd cc;
       memory = λ e. inr (
         ends.0,
         reads.read_out,
         ends.1,
-        λ parts told. (ends.2.0, ends.2.1, made parts told ends.2.0 ends.2.2, ends.2.3),
+        elim ends.2 [
+          | inl front ↦ inl (λ parts told. (front.0, front.1, made parts told front.0 front.2, front.3))
+          | inr refused ↦ inr ((refused.0.0, (heap, refused.0.1, agree)), refused.1)
+        ],
       );
       no_other = λ parts ids millis facts told state are_well is_well unhindered. absurd (unhindered tt);
     }
-    ended reads (Err stops.TooLong) ends = record {
-      reads = stopped stops.TooLong reads;
+    ended reads (Err (stops.Refused refusal)) ends = record {
+      reads = stopped (stops.Refused refusal) reads;
       ok = λ e. absurd cc;
       unwritten = λ _. ends.1;
-      too_long = λ e. (heap, ends.0, agree);
+      refused = λ other e.
+          let same : refusal ≡ other = cc in (heap, subst (λ (r : ProductRefusal). Refuses r heap) same ends.0, agree);
       write = λ fault e. absurd cc;
       memory = λ e. absurd cc;
       no_other = λ parts ids millis facts told state are_well is_well unhindered. absurd (unhindered tt);

@@ -120,7 +120,7 @@ module _ {R : Type 0} (left : R → Option (List ℕ)) (health : R → Health) (
   reading_ended tool.NoParts wants = absurd wants
   reading_ended tool.IdSizes wants = absurd wants
   reading_ended (tool.Conflict key) wants = absurd wants
-  reading_ended tool.DumpTooLong wants = absurd wants
+  reading_ended (tool.Refused refusal) wants = absurd wants
   reading_ended (tool.Write fault) wants = absurd wants
 
   -- and where what was saved comes to no heap
@@ -139,7 +139,7 @@ module _ {R : Type 0} (left : R → Option (List ℕ)) (health : R → Health) (
     no_heap (tool.Conflict key) tells = refusal_told (refusals.Conflict key) tells
     no_heap (tool.Part index fault) tells = absurd tells
     no_heap tool.OutOfMemory tells = absurd tells
-    no_heap tool.DumpTooLong tells = absurd tells
+    no_heap (tool.Refused refusal) tells = absurd tells
     no_heap (tool.Write fault) tells = absurd tells
 
 module _ {R : Type 0} (left : R → Option (List ℕ)) (health : R → Health) (pulls : R → ℕ) (limits : Limits) where
@@ -309,9 +309,9 @@ module _ {R : Type 0} (left : R → Option (List ℕ)) (health : R → Health) (
                   (its.state.of_parts ∙ told_once parts others (sym have.told ∙ told)) some.1,
             )
 
-        writes : (end : Result (Unit {0}) WriteStop) → EndsWriting written well (IsDumpText summarised.0 heap) ⊥ ⊥ before after end
+        writes : (end : Result (Unit {0}) WriteStop) → EndsWriting written well (IsDumpText summarised.0 heap) (λ refusal. ⊥) ⊥ before after end
             → Makes left health pulls written well limits dump_making old new before after (fault_of_end end)
-        writes end ends = ended left health pulls limits old new written well IsDumpText (λ other. ⊥) (λ count. ⊥) ⊥ before after heap
+        writes end ends = ended left health pulls limits old new written well IsDumpText (λ refusal other. ⊥) (λ count. ⊥) ⊥ before after heap
             summarised.0 agrees summarised.1 (all_read parts have.told reads (Ok heap) through sound).0 end ends
 
       -- where no part has a fault, the answer is that of a join
@@ -352,4 +352,4 @@ module _ {R : Type 0} (left : R → Option (List ℕ)) (health : R → Health) (
           let its = wants.0 in
           let none = sound_last its.before its.last (none_of parts (its.before ++ its.last ∷ []) have its.each) in
           absurd (let no : IsSome {T = PartFault} None = subst IsSome none its.faulty in cc)
-      as_join (Err tool.DumpTooLong) none = absurd none
+      as_join (Err (tool.Refused refusal)) none = absurd none

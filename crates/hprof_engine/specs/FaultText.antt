@@ -3,6 +3,8 @@ use Rattle.std.specs.Prelude.{◌≡◌, ℕ, List, ◌++◌, codes, decimal}
 use Rattle.hprof_text.specs.Identifier.{id_digits}
 use Rattle.hprof_rows.specs.declared.key.Key.{Key}
 use Rattle.hprof_rows.specs.declared.key.Key.TheVariants as keys
+use Rattle.hprof_engine.specs.declared.product_refusal.ProductRefusal.{ProductRefusal}
+use Rattle.hprof_engine.specs.declared.product_refusal.ProductRefusal.TheVariants as products
 use Rattle.hprof_engine.specs.declared.tool_fault.ToolFault.{ToolFault}
 use Rattle.hprof_engine.specs.declared.tool_fault.ToolFault.TheVariants as tool
 
@@ -16,6 +18,11 @@ conflict_text (keys.Thread serial) = codes "conflict at thread " ++ decimal seri
 conflict_text (keys.Class id) = codes "conflict at class " ++ id_digits id
 conflict_text (keys.Object id) = codes "conflict at object " ++ id_digits id
 
+-- why a heap was refused
+abbrev pub refusal_text : ProductRefusal → List ℕ
+refusal_text products.DumpTooLong = codes "dump too long"
+refusal_text products.NoClass = codes "no class has this name"
+
 -- the text says which part it is, counted from 0, and then why it was refused
 abbrev pub IsPartText : ℕ → List ℕ → Type 0
 IsPartText index text = (why : List ℕ) × (text ≡ codes "part " ++ (decimal index ++ (codes ": " ++ why)))
@@ -26,6 +33,6 @@ IsFaultText (tool.Part index fault) text = IsPartText index text
 IsFaultText tool.NoParts text = text ≡ codes "no parts"
 IsFaultText tool.IdSizes text = text ≡ codes "identifier sizes differ"
 IsFaultText (tool.Conflict key) text = text ≡ conflict_text key
-IsFaultText tool.DumpTooLong text = text ≡ codes "dump too long"
+IsFaultText (tool.Refused refusal) text = text ≡ refusal_text refusal
 IsFaultText (tool.Write fault) text = text ≡ codes "write failed"
 IsFaultText tool.OutOfMemory text = text ≡ codes "out of memory"

@@ -190,7 +190,7 @@ is_want faults.Read = false
 abbrev pub IsHindered : Option ToolFault → Type 0
 IsHindered (Some (tool.Part index fault)) = is_want fault ≡ true
 IsHindered (Some tool.OutOfMemory) = ⊤
-IsHindered (Some tool.DumpTooLong) = ⊤
+IsHindered (Some (tool.Refused refusal)) = ⊤
 IsHindered other = ⊥
 
 abbrev pub IsOkOrConflict : Option ToolFault → Type 0
@@ -209,5 +209,5 @@ IsBeforeWriting (Some other) = ⊤
 abbrev pub IsOfReading : Option ToolFault → Type 0
 IsOfReading (Some (tool.Write fault)) = ⊥
 IsOfReading (Some tool.OutOfMemory) = ⊥
-IsOfReading (Some tool.DumpTooLong) = ⊥
+IsOfReading (Some (tool.Refused refusal)) = ⊥
 IsOfReading other = ⊤

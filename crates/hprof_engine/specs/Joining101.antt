@@ -3,6 +3,8 @@ use Rattle.std.specs.Prelude.{◌≡◌, ℕ, ◌≤◌, List}
 use Rattle.hprof_items.specs.Spelling.{longest_body}
 use Rattle.hprof_stream.specs.declared.summary.PartSummary.{PartSummary}
 use Rattle.hprof_rows.specs.HeapValue.{HeapValue}
+use Rattle.hprof_engine.specs.declared.product_refusal.ProductRefusal.{ProductRefusal}
+use Rattle.hprof_engine.specs.declared.product_refusal.ProductRefusal.TheVariants as products
 use Rattle.hprof_engine.specs.Makes.{Making, making_of}
 use Rattle.hprof_dump.specs.Dump101.{dump101, sub_len, IsTooLong}
 
@@ -12,9 +14,10 @@ IsDump101Text summaries heap text =
     (sub_len heap.ids heap.facts ≤ longest_body) × (text ≡ dump101 heap.ids heap.millis heap.facts)
 
 -- the heap's sub-records are longer than that
-abbrev pub IsTooLong101 : HeapValue → Type 0
-IsTooLong101 heap = IsTooLong longest_body heap.ids heap.facts
+abbrev pub Refuses101 : ProductRefusal → HeapValue → Type 0
+Refuses101 products.DumpTooLong heap = IsTooLong longest_body heap.ids heap.facts
+Refuses101 products.NoClass heap = ⊥
 
 -- the 1.0.1 dump, which is refused where it is too long, and takes no memory beside that for reading
 abbrev pub dump101_making : Making
-dump101_making = making_of IsDump101Text IsTooLong101 (λ parts. ⊥) ⊥
+dump101_making = making_of IsDump101Text Refuses101 (λ parts. ⊥) ⊥

@@ -17,6 +17,7 @@ use Rattle.hprof_rows.specs.HeapValue.{HeapValue}
 use Rattle.hprof_heap.specs.State.{IsState, HaveTwoSizes}
 use Rattle.hprof_engine.specs.declared.tool_fault.ToolFault.{ToolFault}
 use Rattle.hprof_engine.specs.declared.tool_fault.ToolFault.TheVariants as tool
+use Rattle.hprof_engine.specs.declared.product_refusal.ProductRefusal.{ProductRefusal}
 use Rattle.hprof_engine.specs.declared.product.WriteStop.{WriteStop}
 use Rattle.hprof_engine.specs.declared.product.WriteStop.TheVariants as stops
 use Rattle.hprof_engine.specs.Joining.{Tell, Agree, Disagree, IsAccepted, RefusesPart, AreReadOut, read_count, AreRead, IsHindered}
@@ -54,12 +55,17 @@ WritesFront IsMade parts old new = (text : List ℕ) × (count : ℕ) × IsMade 
 pub record Making : Type 1 where
   -- the text is made of the parts
   pub IsMade : List (List ℕ) → List ℕ → Type 0
-  -- what would be made of the heap is refused before the first byte
-  pub IsTooLong : HeapValue → Type 0
+  -- the heap is refused for that reason, before the first byte
+  pub Refuses : ProductRefusal → HeapValue → Type 0
   -- memory is taken before any of so many parts is read, beside that for reading
   pub TakesRoom : ℕ → Type 0
   -- memory is taken while it is written
   pub TakesMemory : Type 0
+
+-- the heap that the parts state is one that is refused
+abbrev pub RefusesHeap : {R : Type 0} → (left : R → Option (List ℕ)) → (old : List R) → (Refuses : HeapValue → Type 0) → Type 0
+RefusesHeap left old Refuses = (heap : HeapValue) × Refuses heap
+    × ((parts : List (List ℕ)) → Tell left old parts → Agree parts heap.ids heap.millis heap.facts)
 
 -- what a call answers that reads all parts, and then writes something that is made of them
 --   written, well: what a writer holds, where it tells, and how it is doing
@@ -72,16 +78,16 @@ pub record Makes {R W : Type 0} (left : R → Option (List ℕ)) (health : R →
       × ((parts : List (List ℕ)) → Tell left old parts → WritesAll making.IsMade parts (written before) (written after))
   -- a refusal before writing leaves the writer as it was
   pub unwritten : IsBeforeWriting ended → after ≡ before
-  -- what would be made of the heap that the parts state is too long
-  pub too_long : ended ≡ Some tool.DumpTooLong → (heap : HeapValue) × making.IsTooLong heap
-      × ((parts : List (List ℕ)) → Tell left old parts → Agree parts heap.ids heap.millis heap.facts)
+  -- the heap that the parts state is refused for that reason
+  pub refused : (refusal : ProductRefusal) → ended ≡ Some (tool.Refused refusal) → RefusesHeap left old (making.Refuses refusal)
   -- the writer failed or stuck, and a front was written
   pub write : (fault : WriteFault) → ended ≡ Some (tool.Write fault) → (well after ≡ health_after fault)
       × ((parts : List (List ℕ)) → Tell left old parts → WritesFront making.IsMade parts (written before) (written after))
-  -- memory was wanted before anything was read or written, or when all was read, and a front was written
+  -- memory was wanted before anything was read or written, or when all was read, and a front was written; of a heap that is refused, nothing
   pub memory : ended ≡ Some tool.OutOfMemory → (making.TakesRoom (length old) × (new ≡ old) × (after ≡ before))
       ⊎ (making.TakesMemory × AreReadOut left health pulls limits old new (length old) × (well after ≡ healths.Well)
-      × ((parts : List (List ℕ)) → Tell left old parts → WritesFront making.IsMade parts (written before) (written after)))
+      × (((parts : List (List ℕ)) → Tell left old parts → WritesFront making.IsMade parts (written before) (written after))
+      ⊎ (((refusal : ProductRefusal) × RefusesHeap left old (making.Refuses refusal)) × (after ≡ before))))
   -- no other answer where the parts state something together, readers and writer stay well, and nothing hindered it
   pub no_other : (parts : List (List ℕ)) (ids : IdSize) (millis : ℕ) (facts : List FactValue) → Tell left old parts
       → IsState parts ids millis facts → All (λ reader. health reader ≡ healths.Well) new → well after ≡ healths.Well
@@ -90,16 +96,18 @@ pub record Makes {R W : Type 0} (left : R → Option (List ℕ)) (health : R →
 -- ---- products
 
 -- how the writing of a product of one heap ends
---   IsText: this is its text;  TooLong: it is refused before the first byte;  TakesMemory: writing it takes memory
-abbrev pub EndsWriting : {W : Type 0} → (W → Option (List ℕ)) → (W → Health) → (IsText : List ℕ → Type 0) → (TooLong TakesMemory : Type 0)
-    → (before after : W) → Result (Unit {0}) WriteStop → Type 0
-EndsWriting written well IsText TooLong TakesMemory before after (Ok done) =
+--   IsText: this is its text;  Refuses: it is refused for that reason, before the first byte;  TakesMemory: writing it takes memory
+abbrev pub EndsWriting : {W : Type 0} → (W → Option (List ℕ)) → (W → Health) → (IsText : List ℕ → Type 0)
+    → (Refuses : ProductRefusal → Type 0) → (TakesMemory : Type 0) → (before after : W) → Result (Unit {0}) WriteStop → Type 0
+EndsWriting written well IsText Refuses TakesMemory before after (Ok done) =
     (well after ≡ healths.Well) × ((text : List ℕ) × IsText text × Appends (written before) (written after) text)
-EndsWriting written well IsText TooLong TakesMemory before after (Err (stops.Write fault)) =
+EndsWriting written well IsText Refuses TakesMemory before after (Err (stops.Write fault)) =
     (well after ≡ health_after fault) × ((text : List ℕ) × (count : ℕ) × IsText text × Appends (written before) (written after) (take count text))
-EndsWriting written well IsText TooLong TakesMemory before after (Err stops.OutOfMemory) = TakesMemory
-    × (well after ≡ healths.Well) × ((text : List ℕ) × (count : ℕ) × IsText text × Appends (written before) (written after) (take count text))
-EndsWriting written well IsText TooLong TakesMemory before after (Err stops.TooLong) = TooLong × (after ≡ before)
+EndsWriting written well IsText Refuses TakesMemory before after (Err stops.OutOfMemory) = TakesMemory
+    × (well after ≡ healths.Well)
+    × (((text : List ℕ) × (count : ℕ) × IsText text × Appends (written before) (written after) (take count text))
+    ⊎ (((refusal : ProductRefusal) × Refuses refusal) × (after ≡ before)))
+EndsWriting written well IsText Refuses TakesMemory before after (Err (stops.Refused refusal)) = Refuses refusal × (after ≡ before)
 
 -- the parts agree, and this is made of their summaries and of the heap that they state
 pub record IsMadeOf (IsText : List PartSummary → HeapValue → List ℕ → Type 0) (parts : List (List ℕ)) (text : List ℕ) : Type 0 where
@@ -110,11 +118,11 @@ pub record IsMadeOf (IsText : List PartSummary → HeapValue → List ℕ → Ty
   pub is : IsText summaries heap text
 
 -- what is made of parts, by what a product says of one heap
-abbrev pub making_of : (IsText : List PartSummary → HeapValue → List ℕ → Type 0) (TooLong : HeapValue → Type 0)
+abbrev pub making_of : (IsText : List PartSummary → HeapValue → List ℕ → Type 0) (Refuses : ProductRefusal → HeapValue → Type 0)
     (TakesRoom : ℕ → Type 0) (TakesMemory : Type 0) → Making
-making_of IsText TooLong TakesRoom TakesMemory = record {
+making_of IsText Refuses TakesRoom TakesMemory = record {
   IsMade = IsMadeOf IsText;
-  IsTooLong = TooLong;
+  Refuses = Refuses;
   TakesRoom = TakesRoom;
   TakesMemory = TakesMemory;
 }
@@ -123,7 +131,7 @@ making_of IsText TooLong TakesRoom TakesMemory = record {
 abbrev pub fault_of_stop : WriteStop → ToolFault
 fault_of_stop (stops.Write fault) = tool.Write fault
 fault_of_stop stops.OutOfMemory = tool.OutOfMemory
-fault_of_stop stops.TooLong = tool.DumpTooLong
+fault_of_stop (stops.Refused refusal) = tool.Refused refusal
 
 -- the canonical dump of a heap
 abbrev pub IsDumpText : List PartSummary → HeapValue → List ℕ → Type 0
@@ -133,6 +141,6 @@ IsDumpText summaries heap text = text ≡ canonical_dump heap.ids heap.millis he
 abbrev pub IsDump : List (List ℕ) → List ℕ → Type 0
 IsDump = IsMadeOf IsDumpText
 
--- the canonical dump, which is never too long, and takes no memory beside that for reading
+-- the canonical dump, which no heap is refused, and takes no memory beside that for reading
 abbrev pub dump_making : Making
-dump_making = making_of IsDumpText (λ heap. ⊥) (λ parts. ⊥) ⊥
+dump_making = making_of IsDumpText (λ refusal heap. ⊥) (λ parts. ⊥) ⊥

@@ -155,4 +155,4 @@ module _ {R : Type 0} (left : R → Option (List ℕ)) (health : R → Health) (
     Salvages (Err (tool.Write fault)) = StopsWriting fault
     Salvages (Err (tool.Part index fault)) = WantsAt index fault × (after ≡ before)
     Salvages (Err tool.OutOfMemory) = WantsToList × (after ≡ before)
-    Salvages (Err tool.DumpTooLong) = ⊥
+    Salvages (Err (tool.Refused refusal)) = ⊥

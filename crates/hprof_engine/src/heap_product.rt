@@ -14,13 +14,14 @@ pub trait HeapProduct {
     ghost use Rattle.hprof_devices.specs.declared.health.Health.TheVariants.{Well};
     ghost use Rattle.hprof_rows.specs.HeapValue.{HeapValue};
     ghost use Rattle.hprof_heap.specs.Heap.{heap_of};
+    ghost use Rattle.hprof_engine.specs.declared.product_refusal.ProductRefusal.{ProductRefusal};
     ghost use Rattle.hprof_engine.specs.Makes.{EndsWriting};
 
     // The text is made of that heap.
     ghost is_text: { Self → HeapValue → List ℕ → Type 0 };
 
-    // The heap is refused before the first byte.
-    ghost is_too_long: { Self → HeapValue → Type 0 };
+    // The heap is refused for that reason, before the first byte.
+    ghost refuses: { Self → ProductRefusal → HeapValue → Type 0 };
 
     // Writing it takes memory.
     ghost takes_memory: { Self → Type 0 };
@@ -33,8 +34,8 @@ pub trait HeapProduct {
         target: &mut W,
     ) -> Result<(), WriteStop>
         requires { W.health target.old ≡ Well }
-        ensures { EndsWriting W.written W.health (is_text self.now (heap_of heap.now)) (is_too_long self.now (heap_of heap.now))
-            (takes_memory self.now) target.old target.new result };
+        ensures { EndsWriting W.written W.health (is_text self.now (heap_of heap.now))
+            (λ refusal. refuses self.now refusal (heap_of heap.now)) (takes_memory self.now) target.old target.new result };
 
     // It is one text.
     ghost one_text: { (product : Self) (heap : HeapValue) (one other : List ℕ) → is_text product heap one
@@ -62,7 +63,7 @@ impl<P: HeapProduct> Summaries for P {
 impl<P: HeapProduct> Product for P {
     ghost is_text = { λ product summaries. P.is_text product };
 
-    ghost is_too_long = { P.is_too_long };
+    ghost refuses = { P.refuses };
 
     ghost takes_memory = { P.takes_memory };
 

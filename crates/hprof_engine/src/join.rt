@@ -27,7 +27,7 @@ impl HeapProduct for Dump {
 
     ghost is_text = { λ dump heap text. text ≡ canonical_dump heap.ids heap.millis heap.facts };
 
-    ghost is_too_long = { λ dump heap. ⊥ };
+    ghost refuses = { λ dump refusal heap. ⊥ };
 
     ghost takes_memory = { λ dump. ⊥ };
 

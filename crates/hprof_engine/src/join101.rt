@@ -8,11 +8,12 @@ ghost use Rattle.hprof_items.specs.Spelling.{longest_body};
 ghost use Rattle.hprof_engine.specs.Joining.{Tell, Agree, AreJoined, fault_of};
 ghost use Rattle.hprof_engine.specs.Makes.{Makes};
 ghost use Rattle.hprof_dump.specs.Dump101.{dump101, sub_len};
-ghost use Rattle.hprof_engine.specs.Joining101.{IsTooLong101, dump101_making};
+ghost use Rattle.hprof_engine.specs.Joining101.{Refuses101, dump101_making};
 
 use crate::heap_product::HeapProduct;
 use crate::joined::{Joined, JoinedHeap, join_with};
 use crate::product::WriteStop;
+use crate::product_refusal::ProductRefusal;
 use crate::tool_fault::ToolFault;
 use hprof_devices::{Source, Target};
 use hprof_dump::{DumpFault, write_v101};
@@ -29,7 +30,7 @@ impl HeapProduct for Dump101 {
 
     ghost is_text = { λ dump heap text. (sub_len heap.ids heap.facts ≤ longest_body) × (text ≡ dump101 heap.ids heap.millis heap.facts) };
 
-    ghost is_too_long = { λ dump. IsTooLong101 };
+    ghost refuses = { λ dump. Refuses101 };
 
     ghost takes_memory = { λ dump. ⊥ };
 
@@ -41,7 +42,7 @@ impl HeapProduct for Dump101 {
     ) -> Result<(), WriteStop> {
         match write_v101(heap, u32::MAX, target) {
             Ok(()) => Ok(()),
-            Err(DumpFault::TooLong) => Err(WriteStop::TooLong),
+            Err(DumpFault::TooLong) => Err(WriteStop::Refused(ProductRefusal::DumpTooLong)),
             Err(DumpFault::Write(fault)) => Err(WriteStop::Write(fault)),
         }
     }

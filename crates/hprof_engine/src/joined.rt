@@ -45,7 +45,7 @@ pub fn join_with<P: HeapProduct, R: Source, W: Target>(
     requires readers { All (λ reader. R.health reader ≡ Well) readers.old }
     requires writer { W.health target.old ≡ Well }
     ensures makes { Makes R.left R.health R.pulls W.written W.health limits
-        (making_of (λ summaries. P.is_text product.now) (P.is_too_long product.now) (λ parts. ⊥) (P.takes_memory product.now))
+        (making_of (λ summaries. P.is_text product.now) (P.refuses product.now) (λ parts. ⊥) (P.takes_memory product.now))
         readers.old readers.new target.old target.new (fault_of result) }
     ensures joined { IfOk result (λ kept. (parts : List (List ℕ)) → Tell R.left readers.old parts → AreJoined parts kept.joined) }
 

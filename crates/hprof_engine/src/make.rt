@@ -24,7 +24,7 @@ impl From<WriteStop> for ToolFault {
     fn from(stop: WriteStop) -> ToolFault {
         match stop {
             WriteStop::Write(fault) => ToolFault::Write(fault),
-            WriteStop::TooLong => ToolFault::DumpTooLong,
+            WriteStop::Refused(refusal) => ToolFault::Refused(refusal),
             WriteStop::OutOfMemory => ToolFault::OutOfMemory,
         }
     }
@@ -41,7 +41,7 @@ pub fn make_to<P: Product, R: Source, W: Target>(
     requires readers { All (λ reader. R.health reader ≡ Well) readers.old }
     requires writer { W.health target.old ≡ Well }
     ensures makes { Makes R.left R.health R.pulls W.written W.health limits
-        (making_of (P.is_text product.now) (P.is_too_long product.now) (P.takes_room product.now) (P.takes_memory product.now))
+        (making_of (P.is_text product.now) (P.refuses product.now) (P.takes_room product.now) (P.takes_memory product.now))
         readers.old readers.new target.old target.new (fault_of result) }
 
     // What is handed back is of the parts, and its text was written.
@@ -76,7 +76,7 @@ pub fn write_to<P: Product, R: Source, W: Target>(
     requires readers { All (λ reader. R.health reader ≡ Well) readers.old }
     requires writer { W.health target.old ≡ Well }
     ensures { Makes R.left R.health R.pulls W.written W.health limits
-        (making_of (P.is_text product.now) (P.is_too_long product.now) (P.takes_room product.now) (P.takes_memory product.now))
+        (making_of (P.is_text product.now) (P.refuses product.now) (P.takes_room product.now) (P.takes_memory product.now))
         readers.old readers.new target.old target.new (fault_of result) }
 {
     match make_to(alloc, product, readers, target, limits) {

@@ -2,6 +2,7 @@
 
 ghost use Rattle.std.specs.Prelude.{◌≡◌, ℕ, List};
 
+use crate::product_refusal::ProductRefusal;
 use crate::summaries::Summaries;
 use hprof_devices::{Target, WriteFault};
 use hprof_heap::Heap;
@@ -12,8 +13,8 @@ use std::alloc::{AllocError, Global};
 pub enum WriteStop {
     /// The writer failed or stuck.
     Write(WriteFault),
-    /// The product is longer than it may be. Nothing was written.
-    TooLong,
+    /// The heap was refused. Nothing was written.
+    Refused(ProductRefusal),
     /// Memory ran out.
     OutOfMemory,
 }
@@ -35,13 +36,14 @@ pub trait Product: Summaries {
     ghost use Rattle.hprof_stream.specs.declared.summary.PartSummary.{PartSummary};
     ghost use Rattle.hprof_rows.specs.HeapValue.{HeapValue};
     ghost use Rattle.hprof_heap.specs.Heap.{heap_of};
+    ghost use Rattle.hprof_engine.specs.declared.product_refusal.ProductRefusal.{ProductRefusal};
     ghost use Rattle.hprof_engine.specs.Makes.{EndsWriting};
 
     // The text is made of parts with these summaries, which state that heap.
     ghost is_text: { Self → List PartSummary → HeapValue → List ℕ → Type 0 };
 
-    // The heap is refused before the first byte.
-    ghost is_too_long: { Self → HeapValue → Type 0 };
+    // The heap is refused for that reason, before the first byte.
+    ghost refuses: { Self → ProductRefusal → HeapValue → Type 0 };
 
     // Writing it takes memory.
     ghost takes_memory: { Self → Type 0 };
@@ -57,7 +59,7 @@ pub trait Product: Summaries {
         requires well { W.health target.old ≡ Well }
         ensures { (summaries : List PartSummary) → Self.holds self.now kept.now summaries
             → EndsWriting W.written W.health (is_text self.now summaries (heap_of heap.now))
-            (is_too_long self.now (heap_of heap.now)) (takes_memory self.now) target.old target.new result };
+            (λ refusal. refuses self.now refusal (heap_of heap.now)) (takes_memory self.now) target.old target.new result };
 
     // It is one text.
     ghost one_text: { (product : Self) (summaries : List PartSummary) (heap : HeapValue) (one other : List ℕ)

@@ -4,6 +4,7 @@ ghost use Rattle.std.specs.Prelude.{◌≡◌, ◌++◌, IfOk, codes, decimal, s
 ghost use Rattle.hprof_text.specs.Identifier.{id_digits};
 ghost use Rattle.hprof_engine.specs.FaultText.{IsFaultText, IsPartText, conflict_text};
 
+use crate::product_refusal::ProductRefusal;
 use hprof_devices::WriteFault;
 use hprof_heap::Key;
 use hprof_stream::PartFault;
@@ -11,7 +12,7 @@ use hprof_text::push_id;
 use std::alloc::{AllocError, Global};
 
 /// The reason why no product was made of parts. The first part with a fault comes first, then no parts, two sizes of identifiers, a
-/// conflict, and the writer last.
+/// conflict, a heap that is refused, and the writer last.
 #[derive(Clone, Copy, Debug, PartialEq, Eq)]
 pub enum ToolFault {
     /// A part was refused.
@@ -27,8 +28,8 @@ pub enum ToolFault {
     IdSizes,
     /// Two facts have one key and different contents. This is the least such key.
     Conflict(Key),
-    /// The dump is longer than it may be.
-    DumpTooLong,
+    /// The heap was refused before anything was written.
+    Refused(ProductRefusal),
     /// The writer failed or stuck.
     Write(WriteFault),
     /// Memory ran out, but not while a part was read.
@@ -45,7 +46,7 @@ impl ToolFault {
             ToolFault::NoParts => String::from_str(alloc, "no parts"),
             ToolFault::IdSizes => String::from_str(alloc, "identifier sizes differ"),
             ToolFault::Conflict(key) => text_of_conflict(alloc, key),
-            ToolFault::DumpTooLong => String::from_str(alloc, "dump too long"),
+            ToolFault::Refused(refusal) => String::from_str(alloc, refusal.text()),
             ToolFault::Write(_) => String::from_str(alloc, "write failed"),
             ToolFault::OutOfMemory => String::from_str(alloc, "out of memory"),
         }

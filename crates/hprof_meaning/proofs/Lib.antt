@@ -1,8 +1,8 @@
 pub mod LabelTexts
 mod JudgedNames
-mod MeantLists
+pub mod MeantLists
 mod ClassLists
-mod SomeLists
+pub mod SomeLists
 mod ObjectLists
 pub mod ObjectsInOrder
-mod OneTexts
+pub mod OneTexts

@@ -2,7 +2,7 @@
 
 use crate::expecting::{equal, equal_at};
 use hprof_devices::WriteFault;
-use hprof_engine::{FaultedPart, Joined, ToolFault};
+use hprof_engine::{FaultedPart, Joined, ProductRefusal, ToolFault};
 use hprof_heap::Key;
 use hprof_items::Reason;
 use hprof_stream::{PartFault, SinkFault};
@@ -59,7 +59,7 @@ fn texts_of_faults_of_parts(rt: HostRuntime) -> Result<(), Fail> {
 }
 
 /// Faults, no two of them equal, with the texts of those that are not faults of parts.
-const FAULTS: [(ToolFault, &str); 12] = [
+const FAULTS: [(ToolFault, &str); 13] = [
     (
         ToolFault::Part {
             index: 0,
@@ -89,7 +89,14 @@ const FAULTS: [(ToolFault, &str); 12] = [
     (ToolFault::Write(WriteFault::Failed), "write failed"),
     (ToolFault::Write(WriteFault::Stuck), "write failed"),
     (ToolFault::OutOfMemory, "out of memory"),
-    (ToolFault::DumpTooLong, "dump too long"),
+    (
+        ToolFault::Refused(ProductRefusal::DumpTooLong),
+        "dump too long",
+    ),
+    (
+        ToolFault::Refused(ProductRefusal::NoClass),
+        "no class has this name",
+    ),
 ];
 
 #[test]

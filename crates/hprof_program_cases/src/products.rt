@@ -5,7 +5,7 @@ ghost use Rattle.std.specs.Prelude.{⊤};
 use crate::expecting::equal;
 use crate::samples::readers_of;
 use hprof_devices::{Device, Target};
-use hprof_engine::{Product, Summaries, ToolFault, WriteStop, make_to};
+use hprof_engine::{Product, ProductRefusal, Summaries, ToolFault, WriteStop, make_to};
 use hprof_fixtures::HEADER;
 use hprof_heap::Heap;
 use hprof_stream::{Limits, PartSummary};
@@ -43,7 +43,7 @@ impl Product for Stopped {
 
     ghost is_text = { λ product summaries heap text. text ≡ [] };
 
-    ghost is_too_long = { λ product heap. ⊤ };
+    ghost refuses = { λ product refusal heap. ⊤ };
 
     ghost takes_memory = { λ product. ⊤ };
 
@@ -55,7 +55,7 @@ impl Product for Stopped {
         target: &mut W,
     ) -> Result<(), WriteStop> {
         match self.stop {
-            WriteStop::TooLong => Err(WriteStop::TooLong),
+            WriteStop::Refused(refusal) => Err(WriteStop::Refused(refusal)),
             WriteStop::OutOfMemory => match target.push(&[]) {
                 Ok(_) => Err(WriteStop::OutOfMemory),
                 Err(fault) => Err(WriteStop::Write(fault)),
@@ -91,7 +91,14 @@ fn check_stopped(
 #[test]
 fn products_that_stop(rt: HostRuntime) -> Result<(), Fail> {
     let cases = [
-        (WriteStop::TooLong, ToolFault::DumpTooLong),
+        (
+            WriteStop::Refused(ProductRefusal::DumpTooLong),
+            ToolFault::Refused(ProductRefusal::DumpTooLong),
+        ),
+        (
+            WriteStop::Refused(ProductRefusal::NoClass),
+            ToolFault::Refused(ProductRefusal::NoClass),
+        ),
         (WriteStop::OutOfMemory, ToolFault::OutOfMemory),
     ];
     for (stop, fault) in cases {

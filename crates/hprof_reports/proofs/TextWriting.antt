@@ -1,5 +1,5 @@
 -- What several texts come to that are written one after the other, and may stop for want of memory.
-use Rattle.std.proofs.Common.{◌≡◌, ℕ, ◌+◌, List, [], ◌∷◌, ◌++◌, length, Option, Result, Ok, Err, refl, sym, ap, subst, ◌∙◌, arith}
+use Rattle.std.proofs.Common.{◌≡◌, inl, ℕ, ◌+◌, List, [], ◌∷◌, ◌++◌, length, Option, Result, Ok, Err, refl, sym, ap, subst, ◌∙◌, arith}
 use Rattle.std.proofs.Common.{◌==◌, false, codes}
 use Rattle.std.specs.Io.KnownBytes.{Appends}
 use Rattle.std.proofs.KnownBytes.{Appends-nil, Appends-trans}
@@ -89,17 +89,17 @@ no_digits bytes e = rw e refl
 pub text_ends : {W : Type 0} (written : W → Option (List ℕ)) (well : W → Health) (IsText : List ℕ → Type 0) (before after : W)
     (r : Result (Unit {0}) WriteStop) (text : List ℕ)
     → IsText text → WritesText (written before) (written after) r text → LeavesTarget r (well after)
-    → EndsWriting written well IsText ⊥ ⊤ before after r
+    → EndsWriting written well IsText (λ refusal. ⊥) ⊤ before after r
 text_ends written well IsText before after (Ok done) text is writes health = (health, (text, is, writes))
 text_ends written well IsText before after (Err (stops.Write fault)) text is front health = (health, (text, front.0, is, front.2))
-text_ends written well IsText before after (Err stops.OutOfMemory) text is front health = (tt, health, (text, front.0, is, front.2))
-text_ends written well IsText before after (Err stops.TooLong) text is front health = absurd health
+text_ends written well IsText before after (Err stops.OutOfMemory) text is front health = (tt, health, inl (text, front.0, is, front.2))
+text_ends written well IsText before after (Err (stops.Refused refusal)) text is front health = absurd health
 
 -- the same of a report that is told by the facts and the size of a heap
 pub report_ends : {W : Type 0} (written : W → Option (List ℕ)) (well : W → Health) (IsText : IdSize → List FactValue → List ℕ → Type 0)
     (heap : Heap) (before after : W) (r : Result (Unit {0}) WriteStop)
     → (text : List ℕ) × IsText (size_of heap) (facts_of heap) text × WritesText (written before) (written after) r text
-    → LeavesTarget r (well after) → EndsWriting written well (IsText (heap_of heap).ids (heap_of heap).facts) ⊥ ⊤ before after r
+    → LeavesTarget r (well after) → EndsWriting written well (IsText (heap_of heap).ids (heap_of heap).facts) (λ refusal. ⊥) ⊤ before after r
 unfolding facts_of size_of
 report_ends written well IsText heap before after r wrote health =
     text_ends written well (IsText (heap_of heap).ids (heap_of heap).facts) before after r wrote.0 wrote.1 wrote.2 health

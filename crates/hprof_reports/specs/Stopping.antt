@@ -12,9 +12,9 @@ abbrev pub WritesText : {A : Type 0} → Option (List ℕ) → Option (List ℕ)
 WritesText old new (Ok done) text = Appends old new text
 WritesText old new (Err stop) text = (n : ℕ) × (n ≤ length text) × Appends old new (take n text)
 
--- the health in which the writer is left: want of memory leaves it well, and no text is too long
+-- the health in which the writer is left: want of memory leaves it well, and no heap is refused
 abbrev pub LeavesTarget : {A : Type 0} → Result A WriteStop → Health → Type 0
 LeavesTarget (Ok done) health = health ≡ Well
 LeavesTarget (Err (stops.Write fault)) health = health ≡ health_after fault
 LeavesTarget (Err stops.OutOfMemory) health = health ≡ Well
-LeavesTarget (Err stops.TooLong) health = ⊥
+LeavesTarget (Err (stops.Refused refusal)) health = ⊥

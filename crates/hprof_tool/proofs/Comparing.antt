@@ -26,7 +26,7 @@ old_kind tool.NoParts = tt
 old_kind tool.IdSizes = tt
 old_kind (tool.Conflict key) = tt
 old_kind (tool.Write fault) = tt
-old_kind tool.DumpTooLong = tt
+old_kind (tool.Refused refusal) = tt
 old_kind tool.OutOfMemory = tt
 
 pub new_kind : (why : Refused) → IsOfMaking why → IsOfComparing (of_dump 1 why)
@@ -35,7 +35,7 @@ new_kind (refusals.Engine tool.NoParts) kind = tt
 new_kind (refusals.Engine tool.IdSizes) kind = tt
 new_kind (refusals.Engine (tool.Conflict key)) kind = tt
 new_kind (refusals.Engine (tool.Write fault)) kind = tt
-new_kind (refusals.Engine tool.DumpTooLong) kind = tt
+new_kind (refusals.Engine (tool.Refused refusal)) kind = tt
 new_kind (refusals.Engine tool.OutOfMemory) kind = absurd kind
 new_kind (refusals.Dump place fault) kind = absurd kind
 new_kind (refusals.Open index) kind = absurd kind
@@ -67,7 +67,7 @@ module _ {R : Type 0} (left : R → Option (List ℕ)) (health : R → Health) (
   old_says others tool.IdSizes counts olds news told = inl (refl, refl, counts.reads.id_sizes refl olds told)
   old_says others (tool.Conflict key) counts olds news told = inl (refl, refl, counts.reads.conflict key refl olds told)
   old_says others (tool.Write fault) counts olds news told = absurd (never counts.kind (λ k. k) (λ same. cc))
-  old_says others tool.DumpTooLong counts olds news told = absurd (never counts.kind (λ k. k) (λ same. cc))
+  old_says others (tool.Refused refusal) counts olds news told = absurd (never counts.kind (λ k. k) (λ same. cc))
   old_says others tool.OutOfMemory counts olds news told = tt
 
   -- the stream is as it was
@@ -79,7 +79,7 @@ module _ {R : Type 0} (left : R → Option (List ℕ)) (health : R → Health) (
   old_leaves contents IsFront before (tool.Conflict key) counts = refl
   old_leaves contents IsFront before (tool.Write fault) counts =
       absurd (never counts.kind (λ k. k) (λ same. cc))
-  old_leaves contents IsFront before tool.DumpTooLong counts = refl
+  old_leaves contents IsFront before (tool.Refused refusal) counts = refl
   old_leaves contents IsFront before tool.OutOfMemory counts = ([], inl (none_added (contents before)))
 
 -- ---- the newer parts were
@@ -120,7 +120,7 @@ module _ (totals : Totals) (olds : List (List ℕ)) (are : AreTotalsOf olds tota
   )
   new_says left health pulls others others_then old new (refusals.Engine (tool.Write fault)) kind news says =
       (says.0, difference_made news says.0 says.1)
-  new_says left health pulls others others_then old new (refusals.Engine tool.DumpTooLong) kind news says = absurd says.1
+  new_says left health pulls others others_then old new (refusals.Engine (tool.Refused refusal)) kind news says = absurd says.1
   new_says left health pulls others others_then old new (refusals.Engine tool.OutOfMemory) kind news says = absurd kind
   new_says left health pulls others others_then old new (refusals.Dump place fault) kind news says = absurd kind
   new_says left health pulls others others_then old new (refusals.Open index) kind news says = absurd kind
@@ -137,7 +137,7 @@ dump_leaves contents IsFront before (refusals.Engine tool.IdSizes) after leaves 
 dump_leaves contents IsFront before (refusals.Engine (tool.Conflict key)) after leaves = leaves
 dump_leaves contents IsFront before (refusals.Engine (tool.Write fault)) (Some after) leaves = leaves
 dump_leaves contents IsFront before (refusals.Engine (tool.Write fault)) None leaves = leaves
-dump_leaves contents IsFront before (refusals.Engine tool.DumpTooLong) after leaves = leaves
+dump_leaves contents IsFront before (refusals.Engine (tool.Refused refusal)) after leaves = leaves
 dump_leaves contents IsFront before (refusals.Engine tool.OutOfMemory) after leaves = leaves
 dump_leaves contents IsFront before (refusals.Dump place fault) after leaves = leaves
 dump_leaves contents IsFront before (refusals.Open index) after leaves = leaves
@@ -198,7 +198,7 @@ module _ {P W O : Type 0} (answered : Answered P W) (tells : P → Option (List 
     dumps_left (refusals.Engine tool.NoParts) after kind leaves = absurd kind
     dumps_left (refusals.Engine tool.IdSizes) after kind leaves = absurd kind
     dumps_left (refusals.Engine (tool.Conflict key)) after kind leaves = absurd kind
-    dumps_left (refusals.Engine tool.DumpTooLong) after kind leaves = absurd kind
+    dumps_left (refusals.Engine (tool.Refused refusal)) after kind leaves = absurd kind
     dumps_left (refusals.Engine tool.OutOfMemory) after kind leaves = absurd kind
     dumps_left (refusals.Dump place fault) after kind leaves = leaves
     dumps_left (refusals.Open index) after kind leaves = absurd kind
@@ -221,7 +221,7 @@ module _ {P W O : Type 0} (answered : Answered P W) (tells : P → Option (List 
     dumps_refused olds_then news_then (refusals.Engine tool.NoParts) after stops = absurd stops.0
     dumps_refused olds_then news_then (refusals.Engine tool.IdSizes) after stops = absurd stops.0
     dumps_refused olds_then news_then (refusals.Engine (tool.Conflict key)) after stops = absurd stops.0
-    dumps_refused olds_then news_then (refusals.Engine tool.DumpTooLong) after stops = absurd stops.0
+    dumps_refused olds_then news_then (refusals.Engine (tool.Refused refusal)) after stops = absurd stops.0
     dumps_refused olds_then news_then (refusals.Engine tool.OutOfMemory) after stops = absurd stops.0
     dumps_refused olds_then news_then (refusals.Dump place fault) after stops = (
       record {

@@ -13,6 +13,7 @@ use Rattle.hprof_devices.specs.Device.{health_after}
 use Rattle.hprof_stream.specs.declared.limits.Limits.{Limits}
 use Rattle.hprof_stream.specs.declared.summary.PartSummary.{PartSummary}
 use Rattle.hprof_rows.specs.HeapValue.{HeapValue}
+use Rattle.hprof_engine.specs.declared.product_refusal.ProductRefusal.{ProductRefusal}
 use Rattle.hprof_engine.specs.declared.tool_fault.ToolFault.{ToolFault}
 use Rattle.hprof_engine.specs.declared.tool_fault.ToolFault.TheVariants as tool
 use Rattle.hprof_engine.specs.Joining.{Tell, IsBeforeWriting, fault_of}
@@ -47,30 +48,30 @@ module _ {R : Type 0} (left : R → Option (List ℕ)) (health : R → Health) (
   -- ---- what a refusal says
 
   module _ {W : Type 0} (written : W → Option (List ℕ)) (well : W → Health) (IsText : List PartSummary → HeapValue → List ℕ → Type 0)
-      (TooLong : HeapValue → Type 0) (TakesRoom : ℕ → Type 0) (TakesMemory : Type 0) (before after : W) where
+      (Refuses : ProductRefusal → HeapValue → Type 0) (TakesRoom : ℕ → Type 0) (TakesMemory : Type 0) (before after : W) where
     pub refusal : (fault : ToolFault)
-        → Makes left health pulls written well usual_limits (making_of IsText TooLong TakesRoom TakesMemory) old new before after
+        → Makes left health pulls written well usual_limits (making_of IsText Refuses TakesRoom TakesMemory) old new before after
         (Some fault) → (parts : List (List ℕ)) → Tell left old parts
-        → IsRefusal left health pulls old new (making_of IsText TooLong TakesRoom TakesMemory) (refused_of fault) parts
+        → IsRefusal left health pulls old new (making_of IsText Refuses TakesRoom TakesMemory) (refused_of fault) parts
     refusal (tool.Part index fault) m parts told = m.reads.part index fault refl parts told
     refusal tool.NoParts m parts told = no_parts_told left old parts (m.reads.no_parts.0 refl) told
     refusal tool.IdSizes m parts told = m.reads.id_sizes refl parts told
     refusal (tool.Conflict key) m parts told = m.reads.conflict key refl parts told
     refusal (tool.Write fault) m parts told =
         let is = (m.write fault refl).1 parts told in (is.0, is.2)
-    refusal tool.DumpTooLong m parts told = let is = m.too_long refl in (is.0, is.1, is.2 parts told)
+    refusal (tool.Refused why) m parts told = let is = m.refused why refl in (is.0, is.1, is.2 parts told)
     refusal tool.OutOfMemory m parts told = tt
 
   -- the same of what a stream tells
-  pub refused_by : (IsText : List PartSummary → HeapValue → List ℕ → Type 0) (TooLong : HeapValue → Type 0) (TakesRoom : ℕ → Type 0)
+  pub refused_by : (IsText : List PartSummary → HeapValue → List ℕ → Type 0) (Refuses : ProductRefusal → HeapValue → Type 0) (TakesRoom : ℕ → Type 0)
       (TakesMemory : Type 0)
       (held holds : Option (List ℕ)) (end : Health) (fault : ToolFault)
       → Makes {W = Option (List ℕ) × Health} left health pulls (λ s. s.0) (λ s. s.1) usual_limits
-      (making_of IsText TooLong TakesRoom TakesMemory) old new (held, healths.Well) (holds, end) (Some fault)
+      (making_of IsText Refuses TakesRoom TakesMemory) old new (held, healths.Well) (holds, end) (Some fault)
       → (parts : List (List ℕ)) → Tell left old parts
-      → IsRefusal left health pulls old new (making_of IsText TooLong TakesRoom TakesMemory) (refused_of fault) parts
-  refused_by IsText TooLong TakesRoom TakesMemory held holds end fault m parts told =
-      refusal {W = Option (List ℕ) × Health} (λ s. s.0) (λ s. s.1) IsText TooLong TakesRoom TakesMemory (held, healths.Well) (holds, end)
+      → IsRefusal left health pulls old new (making_of IsText Refuses TakesRoom TakesMemory) (refused_of fault) parts
+  refused_by IsText Refuses TakesRoom TakesMemory held holds end fault m parts told =
+      refusal {W = Option (List ℕ) × Health} (λ s. s.0) (λ s. s.1) IsText Refuses TakesRoom TakesMemory (held, healths.Well) (holds, end)
       fault m parts told
 
   -- ---- a device that is taken apart
@@ -84,11 +85,19 @@ module _ {R : Type 0} (left : R → Option (List ℕ)) (health : R → Health) (
       reads = m.reads;
       ok = m.ok;
       unwritten = λ none. let same = m.unwritten none in ap (λ (w : W). (written w, well w)) same;
-      too_long = m.too_long;
+      refused = m.refused;
       write = m.write;
       memory = λ e. elim (m.memory e) [
         | inl none ↦ inl (none.0, none.1, ap (λ (w : W). (written w, well w)) none.2)
-        | inr all ↦ inr all
+        | inr all ↦ inr (
+          all.0,
+          all.1,
+          all.2,
+          elim all.3 [
+            | inl front ↦ inl front
+            | inr refused ↦ inr (refused.0, ap (λ (w : W). (written w, well w)) refused.1)
+          ],
+        )
       ];
       no_other = m.no_other;
     }
@@ -103,7 +112,7 @@ module _ {R : Type 0} (left : R → Option (List ℕ)) (health : R → Health) (
       reads = m.reads;
       ok = λ e. (refl, λ parts told. let all = (m.ok e).1 parts told in (all.0, all.1, Appends-kept held holds end all.0 all.2 keeps));
       unwritten = λ none. absurd none;
-      too_long = λ e. absurd cc;
+      refused = λ why e. absurd cc;
       write = λ fault e. absurd cc;
       memory = λ e. absurd cc;
       no_other = λ parts ids millis facts told state are_well is_well unhindered. tt;
@@ -125,7 +134,7 @@ module _ {R : Type 0} (left : R → Option (List ℕ)) (health : R → Health) (
       };
       ok = λ e. absurd cc;
       unwritten = λ none. absurd none;
-      too_long = λ e. absurd cc;
+      refused = λ why e. absurd cc;
       write = λ fault e.
           let one : write_faults.Failed ≡ fault = cc in (
             subst (λ (f : WriteFault). healths.Failed ≡ health_after f) one refl,

@@ -58,7 +58,7 @@ module _ {R : Type 0} (left : R → Option (List ℕ)) (health : R → Health) (
     shown_saving (Err tool.NoParts) is = untouched _ is
     shown_saving (Err tool.IdSizes) is = untouched _ is
     shown_saving (Err (tool.Conflict key)) is = untouched _ is
-    shown_saving (Err tool.DumpTooLong) is = absurd is
+    shown_saving (Err (tool.Refused refusal)) is = absurd is
     shown_saving (Err (tool.Write fault)) is = record {
       reads = is.reads;
       heap = is.heap;
@@ -166,6 +166,6 @@ module _ {P W : Type 0} (answered : Answered P W) (left : P → Option (List ℕ
     engine_saves tool.NoParts saves created none = (was, is, unwritten, created, files_saved _ _ saves, none)
     engine_saves tool.IdSizes saves created none = (was, is, unwritten, created, files_saved _ _ saves, none)
     engine_saves (tool.Conflict key) saves created none = (was, is, unwritten, created, files_saved _ _ saves, none)
-    engine_saves tool.DumpTooLong saves created none = (was, is, unwritten, created, files_saved _ _ saves, none)
+    engine_saves (tool.Refused refusal) saves created none = (was, is, unwritten, created, files_saved _ _ saves, none)
     engine_saves (tool.Write fault) saves created none = (was, is, unwritten, created, files_saved _ _ saves, none)
     engine_saves tool.OutOfMemory saves created none = none

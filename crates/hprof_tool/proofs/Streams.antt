@@ -5,6 +5,7 @@ use Rattle.std.specs.Io.KnownBytes.{append_known}
 use Rattle.hprof_devices.specs.declared.health.Health.{Health}
 use Rattle.hprof_stream.specs.declared.summary.PartSummary.{PartSummary}
 use Rattle.hprof_rows.specs.HeapValue.{HeapValue}
+use Rattle.hprof_engine.specs.declared.product_refusal.ProductRefusal.{ProductRefusal}
 use Rattle.hprof_engine.specs.declared.tool_fault.ToolFault.{ToolFault}
 use Rattle.hprof_engine.specs.declared.tool_fault.ToolFault.TheVariants as tool
 use Rattle.hprof_engine.specs.Joining.{Tell, IsBeforeWriting}
@@ -22,7 +23,7 @@ kind_of (tool.Part index fault) = tt
 kind_of tool.NoParts = tt
 kind_of tool.IdSizes = tt
 kind_of (tool.Conflict key) = tt
-kind_of tool.DumpTooLong = tt
+kind_of (tool.Refused refusal) = tt
 kind_of (tool.Write fault) = tt
 kind_of tool.OutOfMemory = tt
 
@@ -32,7 +33,7 @@ no_parts_of (tool.Part index fault) same = absurd cc
 no_parts_of tool.NoParts same = cc
 no_parts_of tool.IdSizes same = absurd cc
 no_parts_of (tool.Conflict key) same = absurd cc
-no_parts_of tool.DumpTooLong same = absurd cc
+no_parts_of (tool.Refused refusal) same = absurd cc
 no_parts_of (tool.Write fault) same = absurd cc
 no_parts_of tool.OutOfMemory same = absurd cc
 
@@ -48,22 +49,22 @@ kept_at_opening contents IsFront answered names refusals.Questions old is = absu
 kept_at_opening contents IsFront answered names refusals.OutOfMemory old is = ([], inl (none_added (contents old)))
 
 module _ {R W : Type 0} (left : R → Option (List ℕ)) (health : R → Health) (pulls : R → ℕ) (old new : List R)
-    (IsText : List PartSummary → HeapValue → List ℕ → Type 0) (TooLong : HeapValue → Type 0) (TakesRoom : ℕ → Type 0) (TakesMemory : Type 0)
+    (IsText : List PartSummary → HeapValue → List ℕ → Type 0) (Refuses : ProductRefusal → HeapValue → Type 0) (TakesRoom : ℕ → Type 0) (TakesMemory : Type 0)
     (contents : W → Option (List ℕ)) (before : W) where
   -- how it stopped
   abbrev pub Stops : Refused → Option W → Type 0
-  Stops refused after = StopsStream left health pulls (making_of IsText TooLong TakesRoom TakesMemory) old new contents before refused after
+  Stops refused after = StopsStream left health pulls (making_of IsText Refuses TakesRoom TakesMemory) old new contents before refused after
 
   -- what that says of the parts
   pub stream_refusal : (refused : Refused) (after : Option W) → Stops refused after → (parts : List (List ℕ)) → Tell left old parts
-      → IsRefusal left health pulls old new (making_of IsText TooLong TakesRoom TakesMemory) refused parts
+      → IsRefusal left health pulls old new (making_of IsText Refuses TakesRoom TakesMemory) refused parts
   stream_refusal refused (Some after) stops parts told =
-      subst (λ (r : Refused). IsRefusal left health pulls old new (making_of IsText TooLong TakesRoom TakesMemory) r parts) (sym stops.is)
-      (refused_by left health pulls old new IsText TooLong TakesRoom TakesMemory (contents before) (append_known
+      subst (λ (r : Refused). IsRefusal left health pulls old new (making_of IsText Refuses TakesRoom TakesMemory) r parts) (sym stops.is)
+      (refused_by left health pulls old new IsText Refuses TakesRoom TakesMemory (contents before) (append_known
       (contents after) stops.unwritten)
       stops.makes.0 stops.fault stops.makes.1 parts told)
   stream_refusal refused None stops parts told =
-      subst (λ (r : Refused). IsRefusal left health pulls old new (making_of IsText TooLong TakesRoom TakesMemory) r parts) (sym stops.0) tt
+      subst (λ (r : Refused). IsRefusal left health pulls old new (making_of IsText Refuses TakesRoom TakesMemory) r parts) (sym stops.0) tt
 
   pub stream_kind : (refused : Refused) (after : Option W) → Stops refused after → IsOfMaking refused
   stream_kind refused (Some after) stops = subst IsOfMaking (sym stops.is) (kind_of stops.fault)
@@ -83,21 +84,24 @@ module _ {R W : Type 0} (left : R → Option (List ℕ)) (health : R → Health)
       (IsMadeOf IsText) parts held holds)
       → IsFront held holds) where
     left_by : (fault : ToolFault) (after : W) (unwritten : List ℕ)
-        → MakesStream left health pulls (making_of IsText TooLong TakesRoom TakesMemory) old new (contents before)
+        → MakesStream left health pulls (making_of IsText Refuses TakesRoom TakesMemory) old new (contents before)
         (append_known (contents after) unwritten) (Some fault) → (IsBeforeWriting (Some fault) → after ≡ before)
         → Leaves contents IsFront (refused_of fault) before (Some after)
     left_by (tool.Part index fault) after unwritten makes untouched = ap Some (untouched tt)
     left_by tool.NoParts after unwritten makes untouched = ap Some (untouched tt)
     left_by tool.IdSizes after unwritten makes untouched = ap Some (untouched tt)
     left_by (tool.Conflict key) after unwritten makes untouched = ap Some (untouched tt)
-    left_by tool.DumpTooLong after unwritten makes untouched = ap Some (untouched tt)
+    left_by (tool.Refused refusal) after unwritten makes untouched = ap Some (untouched tt)
     left_by (tool.Write fault) after unwritten makes untouched =
         (unwritten, front (contents before) (append_known (contents after) unwritten) (makes.1.write fault refl).1)
     left_by tool.OutOfMemory after unwritten makes untouched = (
       unwritten,
       elim (makes.1.memory refl) [
         | inl none ↦ inl (ap (λ (s : Option (List ℕ) × Health). s.0) none.2)
-        | inr all ↦ inr (front (contents before) (append_known (contents after) unwritten) all.3)
+        | inr all ↦ elim all.3 [
+          | inl written ↦ inr (front (contents before) (append_known (contents after) unwritten) written)
+          | inr refused ↦ inl (ap (λ (s : Option (List ℕ) × Health). s.0) refused.1)
+        ]
       ],
     )
 

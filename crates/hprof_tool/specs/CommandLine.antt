@@ -37,6 +37,7 @@ parts_rule = record (new_rule (codes "part")) {
 abbrev pub arguments_of : Follows → List (List ℕ)
 arguments_of follow.Nothing = []
 arguments_of follow.Identifier = codes "id" ∷ []
+arguments_of follow.ClassOrObject = codes "id" ∷ []
 arguments_of follow.ClassOrType = codes "kind" ∷ []
 
 -- the arguments that a command must be given, in order

@@ -35,6 +35,7 @@ ArePartsIn rows parts = map (λ part. part.now) parts ≡ unwrap_or (all_of (cod
 abbrev pub subject_in : Follows → List Row → List ℕ
 subject_in follow.Nothing rows = []
 subject_in follow.Identifier rows = text_in (codes "id") rows
+subject_in follow.ClassOrObject rows = text_in (codes "id") rows
 subject_in follow.ClassOrType rows = text_in (codes "kind") rows
 
 -- the word and what clap found behind it ask for the task: each task has one word

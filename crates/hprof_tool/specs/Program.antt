@@ -33,8 +33,8 @@ module _ {R : Type 0} (left : R → Option (List ℕ)) (health : R → Health) (
   IsRefusal making (refusals.Engine tool.IdSizes) parts = HaveTwoSizes parts
   IsRefusal making (refusals.Engine (tool.Conflict key)) parts = Disagree parts key
   IsRefusal making (refusals.Engine (tool.Write fault)) parts = (text : List ℕ) × making.IsMade parts text
-  IsRefusal making (refusals.Engine tool.DumpTooLong) parts =
-      (heap : HeapValue) × making.IsTooLong heap × Agree parts heap.ids heap.millis heap.facts
+  IsRefusal making (refusals.Engine (tool.Refused refusal)) parts =
+      (heap : HeapValue) × making.Refuses refusal heap × Agree parts heap.ids heap.millis heap.facts
   IsRefusal making (refusals.Engine tool.OutOfMemory) parts = ⊥
   IsRefusal making (refusals.Dump place fault) parts = ⊥
   IsRefusal making (refusals.Open index) parts = ⊥

@@ -227,7 +227,7 @@ fn subject_of<'a>(words: &ArgMatches<'a>, report: ReportWord) -> &'a str
 {
     match report.row().follows {
         Follows::Nothing => "",
-        Follows::Identifier => value_of(words, "id"),
+        Follows::Identifier | Follows::ClassOrObject => value_of(words, "id"),
         Follows::ClassOrType => value_of(words, "kind"),
     }
 }

@@ -92,7 +92,7 @@ fn write_new_file<P: Product, F: Folder, E: Write>(
         × IsMadeInFile (IsMadeOf (P.is_text product.now)) (F.answered files.now) F.Part.left F.Out.contents names.now
         out.entry.name.now written }
     ensures refused { result.status ≡ Status.Refused → (result.file ≡ None) × ((why : Refused) × IsFilesRefusal
-        (making_of (P.is_text product.now) (P.is_too_long product.now) (P.takes_room product.now) (P.takes_memory product.now))
+        (making_of (P.is_text product.now) (P.refuses product.now) (P.takes_room product.now) (P.takes_memory product.now))
         (F.answered files.now) F.Part.left F.Part.health F.Part.pulls names.now out.entry.name.now why
         × TellsRefusal why (E.contents errors.old) (E.contents errors.new)) }
     ensures silent { result.status ≡ Status.Done → errors.new ≡ errors.old }

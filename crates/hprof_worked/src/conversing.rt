@@ -8,7 +8,7 @@ use crate::engine::{Answer, Call, Given, Ways, made, plain, text_of_fault};
 use crate::outcome::Outcome;
 use crate::streams::{Reader, Writer};
 use crate::trouble::Trouble;
-use hprof_ask::{AskFault, DialogueStop, Report, ReportWord, ask_to};
+use hprof_ask::{AskFault, DialogueStop, Kinds, Node, Report, ReportWord, ask_to};
 use hprof_devices::Device;
 use hprof_engine::ToolFault;
 use hprof_histogram::Kind;
@@ -28,21 +28,37 @@ fn text_of_asking(alloc: Global, fault: AskFault) -> Result<String, AllocError> 
     }
 }
 
+/// Returns the text of a name, which the table gave as text.
+fn text_of_name(name: &[u8]) -> &str {
+    str::from_utf8(name).unwrap_or("")
+}
+
 /// Returns the line that asks for a report.
-fn question_of(alloc: Global, report: Report) -> Result<String, AllocError> {
+fn question_of(alloc: Global, report: Report<'_>) -> Result<String, AllocError> {
     match report {
         Report::Heap(report) => {
             let word = ReportWord::Heap(report).row().word;
             format!(in alloc; "{word}\n")
         }
-        Report::Objects(Kind::Class(class)) => format!(in alloc; "objects {class:x}\n"),
-        Report::Objects(Kind::Prim(elem)) => {
+        Report::Objects(Kinds::Of(Kind::Class(class))) => {
+            format!(in alloc; "objects {class:x}\n")
+        }
+        Report::Objects(Kinds::Of(Kind::Prim(elem))) => {
             let word = type_word(elem);
             format!(in alloc; "objects {word}[]\n")
         }
-        Report::Node(report, id) => {
+        Report::Objects(Kinds::Named(name)) => {
+            let name = text_of_name(name);
+            format!(in alloc; "objects {name}\n")
+        }
+        Report::Node(report, Node::Identifier(id)) => {
             let word = ReportWord::Node(report).row().word;
             format!(in alloc; "{word} {id:x}\n")
+        }
+        Report::Node(report, Node::Named(name)) => {
+            let word = ReportWord::Node(report).row().word;
+            let name = text_of_name(name);
+            format!(in alloc; "{word} {name}\n")
         }
     }
 }
@@ -60,7 +76,7 @@ fn joined(alloc: Global, pieces: &[&[u8]]) -> Result<Vec<u8>, AllocError> {
 /// the parts are refused as before.
 pub(crate) fn check_asked(
     alloc: Global,
-    call: Call,
+    call: Call<'_>,
     parts: &[&[u8]],
     ways: Ways,
     whole: &Outcome,
@@ -79,15 +95,14 @@ pub(crate) fn check_asked(
         input: &input,
     };
     let asked = made(alloc, Call::Ask, given, ways)?;
-    let answers = if whole.is_done() {
-        joined(
-            alloc,
-            &[&whole.output, b"\nnot understood\n\n", &whole.output, b"\n"],
-        )?
+    let answer = whole.answer_asked();
+    let answers = if answer == "done" {
+        let reply = whole.reply_asked();
+        joined(alloc, &[reply, b"\nnot understood\n\n", reply, b"\n"])?
     } else {
         Vec::new(alloc)
     };
-    asked.check_says(alloc, whole, &answers)
+    asked.check_says(alloc, answer, &answers)
 }
 
 /// Asks the questions of the input, and returns the result of the call.

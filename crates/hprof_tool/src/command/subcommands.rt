@@ -31,10 +31,16 @@ const ID: Argument = Argument {
     help: "The identifier of a class or an object, in hexadecimal",
 };
 
+const ID_OR_NAME: Argument = Argument {
+    name: "id",
+    value_name: "ID",
+    help: "An identifier, in hexadecimal, or the name of a class",
+};
+
 const KIND: Argument = Argument {
     name: "kind",
     value_name: "KIND",
-    help: "The identifier of a class, or a type of arrays, as byte[]",
+    help: "A class, by identifier or name, or a type of arrays, as byte[]",
 };
 
 const OLDER: Argument = Argument {
@@ -107,6 +113,7 @@ fn arguments_of(follows: Follows) -> &'static [Argument]
     match follows {
         Follows::Nothing => &[],
         Follows::Identifier => &[ID],
+        Follows::ClassOrObject => &[ID_OR_NAME],
         Follows::ClassOrType => &[KIND],
     }
 }

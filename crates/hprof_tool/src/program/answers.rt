@@ -123,7 +123,6 @@ pub(crate) fn answer_misnamed<E: Write>(fault: Misnamed, errors: &mut E) -> Stat
 {
     match fault {
         Misnamed::NoIdentifier => tell_line("not an identifier", errors),
-        Misnamed::NoKind => tell_line("not a class or a type", errors),
     }
     Status::NotUnderstood
 }

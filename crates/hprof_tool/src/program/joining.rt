@@ -53,7 +53,7 @@ pub(crate) fn write_file<P: Product, F: Folder>(
         names.now out.entry.name.now) }
     ensures no_parts { result ≡ Err (Refused.Engine ToolFault.NoParts) → length names.now ≡ 0 }
     ensures refused { IfErr result (IsFilesRefusal
-        (making_of (P.is_text product.now) (P.is_too_long product.now) (P.takes_room product.now) (P.takes_memory product.now))
+        (making_of (P.is_text product.now) (P.refuses product.now) (P.takes_room product.now) (P.takes_memory product.now))
         (F.answered files.now) F.Part.left F.Part.health F.Part.pulls names.now out.entry.name.now) }
 {
     let name = out.as_str();
@@ -82,7 +82,7 @@ pub(crate) fn report_files<P: Product, F: Folder, O: Write + Drop>(
         names.now output) }
     ensures no_parts { IfErr result (λ stopped. stopped.why ≡ Refused.Engine ToolFault.NoParts → length names.now ≡ 0) }
     ensures refused { IfErr result (λ stopped. RefusesReport
-        (making_of (P.is_text report.now) (P.is_too_long report.now) (P.takes_room report.now) (P.takes_memory report.now))
+        (making_of (P.is_text report.now) (P.refuses report.now) (P.takes_room report.now) (P.takes_memory report.now))
         (F.answered files.now) F.Part.left F.Part.health F.Part.pulls O.contents names.now output stopped.why stopped.writer) }
 {
     let mut parts = match open_parts(alloc, files, names) {

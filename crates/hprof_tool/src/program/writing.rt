@@ -90,7 +90,7 @@ fn write_product<P: Product, R: Source, W: Write + Drop>(
     requires readers { All (λ reader. R.health reader ≡ Well) readers.old }
     requires writer { health_of target.old ≡ Well }
     ensures { Makes R.left R.health R.pulls (λ device. writer_contents W.contents (inner_of device)) health_of usual_limits
-        (making_of (P.is_text product.now) (P.is_too_long product.now) (P.takes_room product.now) (P.takes_memory product.now))
+        (making_of (P.is_text product.now) (P.refuses product.now) (P.takes_room product.now) (P.takes_memory product.now))
         readers.old readers.new target.old target.new (fault_of result) }
 {
     match make_to(alloc, product, readers, target, Limits::usual()) {
@@ -111,7 +111,7 @@ fn write_and_flush<P: Product, R: Source, W: Write + Drop>(
 ) -> Writing<(), W>
     requires { All (λ reader. R.health reader ≡ Well) readers.old }
     ensures makes { MakesStream R.left R.health R.pulls
-        (making_of (P.is_text product.now) (P.is_too_long product.now) (P.takes_room product.now) (P.takes_memory product.now))
+        (making_of (P.is_text product.now) (P.refuses product.now) (P.takes_room product.now) (P.takes_memory product.now))
         readers.old readers.new (writer_contents W.contents buffered)
         (append_known (W.contents result.writer) result.unwritten.items) (fault_of result.outcome) }
     ensures flushed { OnOk result.outcome (result.unwritten.items ≡ []) }
@@ -132,10 +132,10 @@ pub(crate) fn write_buffered<P: Product, R: Source, W: Write + Drop>(
     requires readers { All (λ reader. R.health reader ≡ Well) readers.old }
     requires empty { writer_buffer buffered ≡ [] }
     ensures ok { IfOk result (λ written. MakesStream R.left R.health R.pulls
-        (making_of (P.is_text product.now) (P.is_too_long product.now) (P.takes_room product.now) (P.takes_memory product.now))
+        (making_of (P.is_text product.now) (P.refuses product.now) (P.takes_room product.now) (P.takes_memory product.now))
         readers.old readers.new (W.contents (writer_inner buffered)) (W.contents written) None) }
     ensures stops { IfErr result (λ left. LeavesStream R.left R.health R.pulls
-        (making_of (P.is_text product.now) (P.is_too_long product.now) (P.takes_room product.now) (P.takes_memory product.now))
+        (making_of (P.is_text product.now) (P.refuses product.now) (P.takes_room product.now) (P.takes_memory product.now))
         readers.old readers.new W.contents (writer_inner buffered) left.why left.writer) }
 {
     let Writing {
@@ -163,10 +163,10 @@ pub(crate) fn write_through_buffer<P: Product, R: Source, W: Write + Drop>(
 ) -> Result<W, Stopped<W>>
     requires { All (λ reader. R.health reader ≡ Well) readers.old }
     ensures ok { IfOk result (λ written. MakesStream R.left R.health R.pulls
-        (making_of (P.is_text product.now) (P.is_too_long product.now) (P.takes_room product.now) (P.takes_memory product.now))
+        (making_of (P.is_text product.now) (P.refuses product.now) (P.takes_room product.now) (P.takes_memory product.now))
         readers.old readers.new (W.contents writer) (W.contents written) None) }
     ensures stops { IfErr result (λ stopped. StopsStream R.left R.health R.pulls
-        (making_of (P.is_text product.now) (P.is_too_long product.now) (P.takes_room product.now) (P.takes_memory product.now))
+        (making_of (P.is_text product.now) (P.refuses product.now) (P.takes_room product.now) (P.takes_memory product.now))
         readers.old readers.new W.contents writer stopped.why stopped.writer) }
 {
     let Ok(buffered) = BufWriter::with_capacity(alloc, BUFFER_LEN, writer) else {

@@ -10,8 +10,9 @@ use Rattle.hprof_graph.specs.Indexed.{indexed_heap}
 use Rattle.hprof_reports.specs.Line.{text_of_lines}
 use Rattle.hprof_reports.specs.RefsText.{edge_line}
 use Rattle.hprof_ask.specs.declared.report.NodeReport.TheVariants as nodes
+use Rattle.hprof_ask.specs.declared.report.Node.TheVariants as that
 use Rattle.hprof_ask.specs.declared.report.Report.TheVariants as reports
-use Rattle.hprof_ask.specs.Report.{IsReportText, TakesRoom, report_making}
+use Rattle.hprof_ask.specs.Report.{IsReportText, RefusesReport, TakesRoom, report_making}
 use Rattle.hprof_ask.proofs.Ends.{text_ends}
 use Rattle.hprof_ask.proofs.calls.refs_to.Goals as goal
 
@@ -25,14 +26,14 @@ pub returns-in-Ok-write_refs : goal.returns-in-Ok-write_refs
 unfolding facts_of size_of
 returns-in-Ok-write_refs g c =
     let e = c.in-Ok.ensures in
-    let report = reports.Node nodes.Refs c.args.id in
+    let report = reports.Node nodes.Refs (that.Identifier c.args.id) in
     let heap = indexed_heap c.in-Ok.found in
     let edges = c.referrers.result.now in
     let r : Result (Unit {0}) WriteStop = Ok c.in-Ok-write_refs.field-0 in
     ended g.R.Source.left g.R.Source.health g.R.Source.pulls c.args.limits c.args.readers.now c.read_heap.new.readers
-    g.W.Target.written g.W.Target.health (IsReportText report) (λ heap. ⊥) (TakesRoom report) ⊤ c.args.target.now c.write_refs.new.target
+    g.W.Target.written g.W.Target.health (IsReportText report) (λ refusal other. RefusesReport other.facts report refusal) (TakesRoom report) ⊤ c.args.target.now c.write_refs.new.target
     heap e.told.summaries e.ok (summaries_held g.R.Source.left _ c.args.readers.now _ e.told) e.reads r
-    (text_ends g.W.Target.written g.W.Target.health (IsReportText report e.told.summaries heap) ⊤ c.args.target.now c.write_refs.new.target
+    (text_ends g.W.Target.written g.W.Target.health (IsReportText report e.told.summaries heap) (RefusesReport heap.facts report) ⊤ c.args.target.now c.write_refs.new.target
     r (text_of_lines (map edge_line edges))
     (record {
       edges = edges;
@@ -44,7 +45,7 @@ pub returns : goal.returns
 unfolding facts_of size_of
 returns g c =
     let e = c.in-Ok.ensures in
-    let report = reports.Node nodes.Refs c.args.id in
+    let report = reports.Node nodes.Refs (that.Identifier c.args.id) in
     let heap = indexed_heap c.in-Ok.found in
     let edges = c.referrers.result.now in
     let r : Result (Unit {0}) WriteStop = Err c.in-Err-write_refs.stop in
@@ -52,9 +53,9 @@ returns g c =
     (report_making report) c.args.readers.now c.read_heap.new.readers c.args.target.now c.write_refs.new.target (Some fault))
     (sym c.from.ensures)
     (ended g.R.Source.left g.R.Source.health g.R.Source.pulls c.args.limits c.args.readers.now c.read_heap.new.readers
-    g.W.Target.written g.W.Target.health (IsReportText report) (λ heap. ⊥) (TakesRoom report) ⊤ c.args.target.now c.write_refs.new.target
+    g.W.Target.written g.W.Target.health (IsReportText report) (λ refusal other. RefusesReport other.facts report refusal) (TakesRoom report) ⊤ c.args.target.now c.write_refs.new.target
     heap e.told.summaries e.ok (summaries_held g.R.Source.left _ c.args.readers.now _ e.told) e.reads r
-    (text_ends g.W.Target.written g.W.Target.health (IsReportText report e.told.summaries heap) ⊤ c.args.target.now c.write_refs.new.target
+    (text_ends g.W.Target.written g.W.Target.health (IsReportText report e.told.summaries heap) (RefusesReport heap.facts report) ⊤ c.args.target.now c.write_refs.new.target
     r (text_of_lines (map edge_line edges))
     (record {
       edges = edges;

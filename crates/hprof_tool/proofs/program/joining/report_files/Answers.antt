@@ -24,7 +24,7 @@ returns-clause-no_parts g c = if_err_more _ _ c.write_through_buffer.result
 pub returns-clause-refused : goal.returns-clause-refused
 returns-clause-refused g c =
     let is_text = g.P.Product.is_text c.args.report.now in
-    let too_long = g.P.Product.is_too_long c.args.report.now in
+    let refuses = g.P.Product.refuses c.args.report.now in
     let room = g.P.Summaries.takes_room c.args.report.now in
     let memory = g.P.Product.takes_memory c.args.report.now in
     let answered = g.F.Folder.answered c.args.files.now in
@@ -33,19 +33,19 @@ returns-clause-refused g c =
     let opened = subst (λ (parts : List _). AreOpened answered c.args.names.now parts) (sym c.deref_mut.ensures.value)
     c.in-Ok.ensures.opened in
     if_err_more _ _ c.write_through_buffer.result (λ stopped stops. (
-      of_reporting (making_of is_text too_long room memory) answered left g.F.Part.Source.health g.F.Part.Source.pulls c.args.names.now
+      of_reporting (making_of is_text refuses room memory) answered left g.F.Part.Source.health g.F.Part.Source.pulls c.args.names.now
           parts
           c.write_through_buffer.new.readers opened stopped.why
-          (stream_kind _ _ _ _ _ is_text too_long room memory _ _ stopped.why stopped.writer stops)
-          (stream_refusal _ _ _ _ _ is_text too_long room memory _ _ stopped.why stopped.writer stops),
-      stream_left _ _ _ _ _ is_text too_long room memory _ _ (IsFrontOfFiles (IsMadeOf is_text) answered left c.args.names.now)
+          (stream_kind _ _ _ _ _ is_text refuses room memory _ _ stopped.why stopped.writer stops)
+          (stream_refusal _ _ _ _ _ is_text refuses room memory _ _ stopped.why stopped.writer stops),
+      stream_left _ _ _ _ _ is_text refuses room memory _ _ (IsFrontOfFiles (IsMadeOf is_text) answered left c.args.names.now)
           (λ held holds writes. record { parts = parts; opened = opened; holds = writes }) stopped.why stopped.writer stops,
     )) c.write_through_buffer.ensures.stops
 
 pub returns-in-Err-clause-refused : goal.returns-in-Err-clause-refused
 returns-in-Err-clause-refused g c =
     let is_text = g.P.Product.is_text c.args.report.now in
-    let making = making_of is_text (g.P.Product.is_too_long c.args.report.now) (g.P.Summaries.takes_room c.args.report.now)
+    let making = making_of is_text (g.P.Product.refuses c.args.report.now) (g.P.Summaries.takes_room c.args.report.now)
     (g.P.Product.takes_memory c.args.report.now) in
     let answered = g.F.Folder.answered c.args.files.now in (
       opening_reports making answered g.F.Part.Source.left g.F.Part.Source.health g.F.Part.Source.pulls c.args.names.now c.in-Err.why

@@ -16,7 +16,7 @@ returns-in_err-parts-clause-no_parts g c = λ same.
 
 pub returns-in_err-parts-clause-refused : goal.returns-in_err-parts-clause-refused
 returns-in_err-parts-clause-refused g c =
-    let making = making_of (g.P.Product.is_text c.args.product.now) (g.P.Product.is_too_long c.args.product.now)
+    let making = making_of (g.P.Product.is_text c.args.product.now) (g.P.Product.refuses c.args.product.now)
     (g.P.Summaries.takes_room c.args.product.now)
     (g.P.Product.takes_memory c.args.product.now) in
     if_the_error _ c.from_residual.result c.in_err-parts.field-0.0 (of_starting making
@@ -46,19 +46,19 @@ remove_out-requires g c = (
 pub returns-clause-refused : goal.returns-clause-refused
 returns-clause-refused g c =
     let is_text = g.P.Product.is_text c.args.product.now in
-    let too_long = g.P.Product.is_too_long c.args.product.now in
+    let refuses = g.P.Product.refuses c.args.product.now in
     let room = g.P.Summaries.takes_room c.args.product.now in
     let memory = g.P.Product.takes_memory c.args.product.now in
     let answered = g.F.Folder.answered c.args.files.now in
     let left = c.in-Err.left in
     let opened = subst (λ (parts : List _). AreOpened answered c.args.names.now parts) (sym c.deref_mut.ensures.value)
     c.in_ok-parts.ensures.opened in
-    of_making (making_of is_text too_long room memory) answered g.F.Part.Source.left g.F.Part.Source.health g.F.Part.Source.pulls
+    of_making (making_of is_text refuses room memory) answered g.F.Part.Source.left g.F.Part.Source.health g.F.Part.Source.pulls
     c.args.names.now
     c.deref_mut.result.now c.write_buffered.new.readers opened
     c.args.out.name.now left.why
-    (stream_kind _ _ _ _ _ is_text too_long room memory _ _ left.why (Some left.writer) c.in-Err.ensures.stops)
-    (stream_refusal _ _ _ _ _ is_text too_long room memory _ _ left.why (Some left.writer) c.in-Err.ensures.stops)
+    (stream_kind _ _ _ _ _ is_text refuses room memory _ _ left.why (Some left.writer) c.in-Err.ensures.stops)
+    (stream_refusal _ _ _ _ _ is_text refuses room memory _ _ left.why (Some left.writer) c.in-Err.ensures.stops)
     (subst answered.HasNone c.as_str-name.ensures c.remove_out.ensures)
 
 pub returns-clause-no_parts : goal.returns-clause-no_parts

@@ -10,7 +10,7 @@ use Rattle.hprof_tool.proofs.program.writing.write_and_flush.Goals as goal
 pub returns-clause-makes : goal.returns-clause-makes
 returns-clause-makes g c =
     let contents = writer_contents g.W.Write.contents in
-    let making = making_of (g.P.Product.is_text c.args.product.now) (g.P.Product.is_too_long c.args.product.now)
+    let making = making_of (g.P.Product.is_text c.args.product.now) (g.P.Product.refuses c.args.product.now)
     (g.P.Summaries.takes_room c.args.product.now) (g.P.Product.takes_memory c.args.product.now) in
     let before = c.new-target.result in
     let after = c.write_product-made.new.target in

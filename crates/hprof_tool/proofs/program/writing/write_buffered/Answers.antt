@@ -11,7 +11,7 @@ pub returns-in-Ok-clause-ok : goal.returns-in-Ok-clause-ok
 returns-in-Ok-clause-ok g c =
     let contents = g.W.Write.contents in
     let made = c.write_and_flush-outcome in
-    let making = making_of (g.P.Product.is_text c.args.product.now) (g.P.Product.is_too_long c.args.product.now)
+    let making = making_of (g.P.Product.is_text c.args.product.now) (g.P.Product.refuses c.args.product.now)
     (g.P.Summaries.takes_room c.args.product.now) (g.P.Product.takes_memory c.args.product.now) in
     let empty : writer_contents contents c.args.buffered ≡ contents (writer_inner c.args.buffered) =
     ap (append_known (contents (writer_inner c.args.buffered))) c.requires.empty ∙ none_added (contents (writer_inner c.args.buffered)) in
@@ -25,7 +25,7 @@ pub returns-in-Err-clause-stops : goal.returns-in-Err-clause-stops
 returns-in-Err-clause-stops g c =
     let contents = g.W.Write.contents in
     let made = c.write_and_flush-outcome in
-    let making = making_of (g.P.Product.is_text c.args.product.now) (g.P.Product.is_too_long c.args.product.now)
+    let making = making_of (g.P.Product.is_text c.args.product.now) (g.P.Product.refuses c.args.product.now)
     (g.P.Summaries.takes_room c.args.product.now) (g.P.Product.takes_memory c.args.product.now) in
     let empty : writer_contents contents c.args.buffered ≡ contents (writer_inner c.args.buffered) =
     ap (append_known (contents (writer_inner c.args.buffered))) c.requires.empty ∙ none_added (contents (writer_inner c.args.buffered)) in

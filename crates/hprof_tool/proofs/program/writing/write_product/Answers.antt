@@ -11,7 +11,7 @@ returns-in-Ok g c =
     let usual = c.usual.ensures in
     subst (λ (limits : Limits). Makes g.R.Source.left g.R.Source.health g.R.Source.pulls
     (λ device. writer_contents g.W.Write.contents (inner_of device)) health_of limits
-    (making_of (g.P.Product.is_text c.args.product.now) (g.P.Product.is_too_long c.args.product.now)
+    (making_of (g.P.Product.is_text c.args.product.now) (g.P.Product.refuses c.args.product.now)
     (g.P.Summaries.takes_room c.args.product.now) (g.P.Product.takes_memory c.args.product.now)) c.args.readers.now c.make_to.new.readers c.args.target.now c.make_to.new.target
     None) (are_usual c.usual.result usual.item usual.reads usual.bytes) c.in-Ok.ensures.makes
 
@@ -20,6 +20,6 @@ returns-in-Err g c =
     let usual = c.usual.ensures in
     subst (λ (limits : Limits). Makes g.R.Source.left g.R.Source.health g.R.Source.pulls
     (λ device. writer_contents g.W.Write.contents (inner_of device)) health_of limits
-    (making_of (g.P.Product.is_text c.args.product.now) (g.P.Product.is_too_long c.args.product.now)
+    (making_of (g.P.Product.is_text c.args.product.now) (g.P.Product.refuses c.args.product.now)
     (g.P.Summaries.takes_room c.args.product.now) (g.P.Product.takes_memory c.args.product.now)) c.args.readers.now c.make_to.new.readers c.args.target.now c.make_to.new.target
     (Some c.in-Err.fault)) (are_usual c.usual.result usual.item usual.reads usual.bytes) c.in-Err.ensures.makes

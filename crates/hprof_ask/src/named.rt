@@ -1,0 +1,145 @@
+//! Reports on the classes that a name means.
+
+ghost use Rattle.std.specs.Prelude.{◌≡◌, ◌↔◌, ℕ, List, ⊤, IfOk, IsTrue};
+ghost use Rattle.hprof_devices.specs.declared.health.Health.TheVariants.{Well};
+ghost use Rattle.hprof_engine.specs.Makes.{EndsWriting};
+ghost use Rattle.hprof_heap.specs.HeapFacts.{facts_of, size_of};
+ghost use Rattle.hprof_meaning.specs.MeantClasses.{AreMeantClasses, AreMeantDumps};
+ghost use Rattle.hprof_meaning.specs.NamedText.{IsNamedText};
+ghost use Rattle.hprof_reports.specs.Stopping.{LeavesTarget, WritesText};
+ghost use Rattle.hprof_ask.specs.Kept.{IsKept};
+ghost use Rattle.hprof_ask.specs.Report.{IsNamedObjects, IsNamedReport, NamesClasses, RefusesReport};
+ghost use Rattle.hprof_ask.specs.declared.report.Kinds.TheVariants as these;
+ghost use Rattle.hprof_ask.specs.declared.report.Node.TheVariants as that;
+
+use crate::answerer::Answerer;
+use crate::kept::{Kept, kept_or_made};
+use crate::report::{NodeReport, Report};
+use hprof_devices::Target;
+use hprof_engine::{ProductRefusal, WriteStop};
+use hprof_heap::holds_of_heap;
+use hprof_meaning::{
+    class_dumps_meant, classes_meant, write_classes_of_name, write_objects_of_classes,
+};
+use hprof_naming::MeantLabel;
+use std::alloc::{AllocError, Global};
+
+/// Returns whether a name is that of the class of all classes, which every heap has.
+fn names_classes(name: &[u8]) -> bool
+    ensures { IsTrue result ↔ NamesClasses name.now }
+{
+    MeantLabel::of(name).matches(b"java/lang/Class")
+}
+
+impl<'a> Answerer<'a> {
+    /// Returns the classes that a name means, ascending.
+    fn classes_named(
+        &self,
+        alloc: Global,
+        kept: &mut Kept,
+        name: &[u8],
+    ) -> Result<Vec<u64>, AllocError>
+        requires { IsKept (size_of self.now.heap.now) (facts_of self.now.heap.now) kept.old }
+        ensures classes { IfOk result (λ classes. AreMeantClasses (facts_of self.now.heap.now) name.now classes.items) }
+        ensures kept { IsKept (size_of self.now.heap.now) (facts_of self.now.heap.now) kept.new }
+    {
+        let survey = kept_or_made(alloc, self.heap, kept.survey.take())?;
+        let classes = classes_meant(alloc, self.heap, &survey.classes, &MeantLabel::of(name));
+        kept.survey = Some(survey);
+        classes
+    }
+
+    /// Returns the class dumps that a name means, ascending.
+    fn dumps_named(
+        &self,
+        alloc: Global,
+        kept: &mut Kept,
+        name: &[u8],
+    ) -> Result<Vec<u64>, AllocError>
+        requires { IsKept (size_of self.now.heap.now) (facts_of self.now.heap.now) kept.old }
+        ensures dumps { IfOk result (λ dumps. AreMeantDumps (facts_of self.now.heap.now) name.now dumps.items) }
+        ensures kept { IsKept (size_of self.now.heap.now) (facts_of self.now.heap.now) kept.new }
+    {
+        let survey = kept_or_made(alloc, self.heap, kept.survey.take())?;
+        let dumps = class_dumps_meant(alloc, self.heap, &survey.classes, &MeantLabel::of(name));
+        kept.survey = Some(survey);
+        dumps
+    }
+
+    /// Writes the report `objects` on the classes that a name means. If there are none, and it is not the name of the class of all classes,
+    /// nothing is written.
+    pub(crate) fn write_objects_named<W: Target>(
+        &self,
+        alloc: Global,
+        kept: &mut Kept,
+        name: &[u8],
+        target: &mut W,
+    ) -> Result<(), WriteStop>
+        requires well { W.health target.old ≡ Well }
+        requires kept { IsKept (size_of self.now.heap.now) (facts_of self.now.heap.now) kept.old }
+        ensures ends { EndsWriting W.written W.health (IsNamedObjects (size_of self.now.heap.now) (facts_of self.now.heap.now) name.now)
+            (RefusesReport (facts_of self.now.heap.now) (Report.Objects (these.Named name.entry))) ⊤ target.old target.new result }
+        ensures kept { IsKept (size_of self.now.heap.now) (facts_of self.now.heap.now) kept.new }
+    {
+        holds_of_heap(self.heap);
+        let Ok(classes) = self.classes_named(alloc, kept, name) else {
+            return Err(WriteStop::OutOfMemory);
+        };
+        if classes.is_empty() && !names_classes(name) {
+            return Err(WriteStop::Refused(ProductRefusal::NoClass));
+        }
+        write_objects_of_classes(alloc, self.heap, &classes, target)
+    }
+
+    /// Writes which classes have the name that was asked for.
+    fn write_which<W: Target>(
+        &self,
+        alloc: Global,
+        kept: &mut Kept,
+        dumps: &[u64],
+        target: &mut W,
+    ) -> Result<(), WriteStop>
+        requires well { W.health target.old ≡ Well }
+        requires kept { IsKept (size_of self.now.heap.now) (facts_of self.now.heap.now) kept.old }
+        ensures bytes { (text : List ℕ) × IsNamedText (size_of self.now.heap.now) (facts_of self.now.heap.now) dumps.now text
+            × WritesText (W.written target.old) (W.written target.new) result text }
+        ensures health { LeavesTarget result (W.health target.new) }
+        ensures kept { IsKept (size_of self.now.heap.now) (facts_of self.now.heap.now) kept.new }
+    {
+        holds_of_heap(self.heap);
+        let survey = kept_or_made(alloc, self.heap, kept.survey.take())?;
+        let outcome = write_classes_of_name(alloc, self.heap, &survey.classes, dumps, target);
+        kept.survey = Some(survey);
+        outcome
+    }
+
+    /// Writes a report on the class dump that a name means. If there are several it writes which they are, and if there is none, nothing.
+    pub(crate) fn write_node_named<W: Target>(
+        &self,
+        alloc: Global,
+        kept: &mut Kept,
+        report: NodeReport,
+        name: &[u8],
+        target: &mut W,
+    ) -> Result<(), WriteStop>
+        requires well { W.health target.old ≡ Well }
+        requires kept { IsKept (size_of self.now.heap.now) (facts_of self.now.heap.now) kept.old }
+        ensures ends { EndsWriting W.written W.health
+            (IsNamedReport (size_of self.now.heap.now) (facts_of self.now.heap.now) report name.now)
+            (RefusesReport (facts_of self.now.heap.now) (Report.Node report (that.Named name.entry))) ⊤ target.old target.new result }
+        ensures kept { IsKept (size_of self.now.heap.now) (facts_of self.now.heap.now) kept.new }
+    {
+        holds_of_heap(self.heap);
+        let Ok(dumps) = self.dumps_named(alloc, kept, name) else {
+            return Err(WriteStop::OutOfMemory);
+        };
+        let Some((first, others)) = dumps.split_first() else {
+            return Err(WriteStop::Refused(ProductRefusal::NoClass));
+        };
+        if others.is_empty() {
+            self.write_node_report(alloc, kept, report, *first, target)
+        } else {
+            self.write_which(alloc, kept, &dumps, target)
+        }
+    }
+}

@@ -1,0 +1,25 @@
+//! Reasons why a heap is refused before anything is written of it.
+
+ghost use Rattle.std.specs.Prelude.{◌≡◌};
+ghost use Rattle.hprof_engine.specs.FaultText.{refusal_text};
+
+/// The reason why a product is not made of a heap. It is found before the first byte is written.
+#[derive(Clone, Copy, Debug, PartialEq, Eq)]
+pub enum ProductRefusal {
+    /// The dump is longer than it may be.
+    DumpTooLong,
+    /// No class has the name that was asked for.
+    NoClass,
+}
+
+impl ProductRefusal {
+    /// Returns its text, in one line.
+    pub fn text(self) -> &'static str
+        ensures { result.now ≡ refusal_text self }
+    {
+        match self {
+            ProductRefusal::DumpTooLong => "dump too long",
+            ProductRefusal::NoClass => "no class has this name",
+        }
+    }
+}
