@@ -13,8 +13,8 @@ use Rattle.hprof_edges.specs.Edges.{IsEdge}
 use Rattle.hprof_edges.specs.LeftOut.{IsKept}
 use Rattle.hprof_edges.proofs.LeftOutEdges.{all_from}
 use Rattle.hprof_edges.proofs.PutTogether as together
-use Rattle.hprof_search.specs.declared.sources.Sources.{Sources}
-use Rattle.hprof_search.specs.Sources.{end_of, nodes_of, number_at}
+use Rattle.hprof_numbers.specs.declared.sources.Sources.{Sources}
+use Rattle.hprof_numbers.specs.Sources.{end_of, nodes_of, number_at}
 use Rattle.hprof_reach.specs.Referring.{PutSoFar, StandsAt}
 
 earlier : (before place : ℕ) → before < place + 1 → (before < place) ⊎ (before ≡ place)

@@ -2,7 +2,7 @@
 use Rattle.std.specs.Prelude.{◌↔◌, ℕ, List, Contains}
 use Rattle.hprof_heap.specs.HeapFacts.{facts_of, size_of}
 use Rattle.hprof_layouts.specs.Known.{Knows}
-use Rattle.hprof_search.specs.Numbered.{nodes_in}
+use Rattle.hprof_numbers.specs.Numbered.{nodes_in}
 use Rattle.hprof_reach.specs.declared.heap_graph.HeapGraph.{HeapGraph}
 use Rattle.hprof_reach.specs.Nodes.{IsClassNode}
 

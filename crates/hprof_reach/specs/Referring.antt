@@ -4,8 +4,8 @@ use Rattle.hprof_values.specs.declared.ids.IdSize.{IdSize}
 use Rattle.hprof_items.specs.FactValue.{FactValue}
 use Rattle.hprof_edges.specs.declared.edge.Edge.{Edge}
 use Rattle.hprof_edges.specs.Edges.{IsEdge}
-use Rattle.hprof_search.specs.declared.sources.Sources.{Sources}
-use Rattle.hprof_search.specs.Sources.{nodes_of, number_at}
+use Rattle.hprof_numbers.specs.declared.sources.Sources.{Sources}
+use Rattle.hprof_numbers.specs.Sources.{nodes_of, number_at}
 
 -- the node stands at that place
 abbrev pub StandsAt : Sources → ℕ → ℕ → Type 0

@@ -8,7 +8,7 @@ use crate::targets::Targets;
 use hprof_edges::{LeftOut, Near, known_edges, known_object_edges};
 use hprof_heap::Heap;
 use hprof_layouts::{KnownLayouts, Reference, known_layouts};
-use hprof_search::{Graph, Numbered};
+use hprof_numbers::{Graph, Numbered};
 use std::alloc::{AllocError, Global};
 use std::mem::swap;
 

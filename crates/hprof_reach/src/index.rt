@@ -10,7 +10,7 @@ use crate::nodes::nodes_of;
 use hprof_edges::{Edge, EdgeSet, LeftOut, Near, known_edges, sort_edges};
 use hprof_heap::Heap;
 use hprof_layouts::{KnownLayouts, Wanted, known_layouts};
-use hprof_search::{Numbered, Sources, sources_of};
+use hprof_numbers::{Numbered, Sources, sources_of};
 use std::alloc::{AllocError, Global};
 
 /// For each class and object of a heap its possible referrers, with the layouts of the classes.

@@ -1,6 +1,7 @@
 //! Graphs that are lists of edges.
 
-use hprof_search::{Graph, WalksOf};
+use hprof_numbers::Graph;
+use hprof_search::WalksOf;
 use std::alloc::AllocError;
 
 /// Edges, each from a node to a node.

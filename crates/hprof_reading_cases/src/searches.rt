@@ -5,7 +5,8 @@ ghost use Rattle.std.specs.List.Sorted.{IsStrictlyIncreasing};
 
 use crate::expecting::{equal, equal_at, holds};
 use crate::graphs::{AlongEdges, Edges};
-use hprof_search::{Numbered, Search, search};
+use hprof_numbers::Numbered;
+use hprof_search::{Search, search};
 use std::alloc::Global;
 use std::process::Abort;
 use std::test::*;

@@ -3,7 +3,7 @@ use Rattle.std.proofs.Common.{◌≡◌, ◌↔◌, ◌<◌, ◌≤◌, ◌+◌,
 use Rattle.std.proofs.lemmas.List.{get_or-replicate, get_or_past, length-replicate}
 use Rattle.std.proofs.lemmas.List.Sums.{count_by-le-length}
 use Rattle.hprof_search.specs.Finds.{Finds, Follows, is_found}
-use Rattle.hprof_search.proofs.Followed.{splits}
+use Rattle.hprof_numbers.proofs.Places.{splits}
 
 pub none_there : (items : List ℕ) → length items ≡ 0 → items ≡ []
 none_there [] none = refl

@@ -2,7 +2,7 @@
 use Rattle.std.proofs.Common.{◌≡◌, ◌↔◌, ◌<◌, ◌≤◌, ℕ, zero, suc, true, false, List, Contains, length, slice_index, None, refl, ◌∙◌, arith}
 use Rattle.hprof_search.specs.Finds.{Finds, Follows, LeadsTo, is_found}
 use Rattle.hprof_search.specs.Walks.{Reaches, IsDistance}
-use Rattle.hprof_search.proofs.Ascending.{has_number}
+use Rattle.hprof_numbers.proofs.Ascending.{has_number}
 use Rattle.hprof_search.proofs.Followed.{found_within}
 use Rattle.hprof_search.proofs.Levels.{StartsIn, StepsIn, IsSearched}
 

@@ -1,19 +1,12 @@
 -- What is found where steps are followed, and then more steps.
 use Rattle.std.proofs.Common.{◌≡◌, ◌⊎◌, ◌↔◌, ◌<◌, ◌≤◌, ◌++◌, ℕ, Bool, true, false, List, [], Contains, length, slice_index, inl, inr, refl, sym, ap, subst, ◌∙◌, arith, append_assoc, append-nil}
-use Rattle.std.proofs.lemmas.Bool.{cases_order}
 use Rattle.std.proofs.lemmas.List.{get_or_past}
+use Rattle.hprof_numbers.proofs.Places.{splits}
 use Rattle.hprof_search.specs.Finds.{Finds, Follows, IsLeastLed, is_found}
 
 pub true_or_false : (b : Bool) → (b ≡ true) ⊎ (b ≡ false)
 true_or_false true = inl refl
 true_or_false false = inr refl
-
--- a place lies below another, or not
-pub splits : (place middle : ℕ) → (place < middle) ⊎ (middle ≤ place)
-splits place middle = elim (cases_order place middle) [
-  | inl same ↦ inr (omega arith)
-  | inr apart ↦ elim apart [ inl lt ↦ inl lt | inr gt ↦ inr (omega arith) ]
-]
 
 pub found_within : (finds : Finds) (number : ℕ) → is_found finds number ≡ true → number < length finds.found
 found_within finds number found = elim (splits number (length finds.found)) [

@@ -3,8 +3,9 @@ use Rattle.std.proofs.Common.{◌≡◌, ◌⊎◌, ◌↔◌, ◌<◌, ◌≤�
 use Rattle.std.specs.List.Sorted.{IsStrictlyIncreasing}
 use Rattle.hprof_search.specs.Finds.{Finds, Follows, LeadsOn, is_found}
 use Rattle.hprof_search.specs.Walks.{Reaches, IsDistance, IsLeastBefore}
-use Rattle.hprof_search.proofs.Ascending.{not_less_far, number_of, has_number}
-use Rattle.hprof_search.proofs.Followed.{found_within, splits, true_or_false}
+use Rattle.hprof_numbers.proofs.Ascending.{not_less_far, number_of, has_number}
+use Rattle.hprof_numbers.proofs.Places.{splits}
+use Rattle.hprof_search.proofs.Followed.{found_within, true_or_false}
 use Rattle.hprof_search.proofs.OneWalk.{same_distance}
 
 -- starts and steps among nodes

@@ -13,9 +13,10 @@ use Rattle.std.proofs.Math.Seq.{get_or-append_right}
 use Rattle.hprof_search.specs.Finds.{Finds, Follows, LeadsOn, LeadsTo, is_found}
 use Rattle.hprof_search.specs.Kept.{OrdersFound}
 use Rattle.hprof_search.specs.Walks.{IsDistance, IsOrder}
-use Rattle.hprof_search.proofs.Ascending.{has_number, number_of, one_place}
+use Rattle.hprof_numbers.proofs.Ascending.{has_number, number_of, one_place}
 use Rattle.hprof_search.proofs.FirstLevel.{start_distance}
-use Rattle.hprof_search.proofs.Followed.{found_within, splits}
+use Rattle.hprof_numbers.proofs.Places.{splits}
+use Rattle.hprof_search.proofs.Followed.{found_within}
 use Rattle.hprof_search.proofs.Levels.{StartsIn, StepsIn, IsSearched, came_distance}
 use Rattle.hprof_search.proofs.OneWalk.{same_distance}
 use Rattle.hprof_search.proofs.Ways.{found_all}

@@ -4,10 +4,10 @@ use Rattle.std.specs.List.Sorted.{IsStrictlyIncreasing, IsNonDecreasing}
 use Rattle.std.proofs.lemmas.List.{take_more}
 use Rattle.std.proofs.lemmas.List.Elements.{Contains-push, Contains-push_cases, Contains-append_left}
 use Rattle.hprof_search.specs.Finds.{Finds, Follows, Arrives, LeadsOn, LeadsTo}
-use Rattle.hprof_search.specs.Kept.{number_in}
-use Rattle.hprof_search.proofs.Ascending.{number_of, one_place}
+use Rattle.hprof_numbers.specs.Places.{number_in}
+use Rattle.hprof_numbers.proofs.Ascending.{number_of, one_place}
 use Rattle.hprof_search.proofs.Followed.{follows_both, follows_same}
-use Rattle.hprof_search.proofs.Placed.{nowhere, stands}
+use Rattle.hprof_numbers.proofs.Placed.{nowhere, stands}
 
 -- one more was taken
 module _ (items : List ℕ) (index : ℕ) (below : index < length items) where

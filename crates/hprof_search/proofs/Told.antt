@@ -6,16 +6,17 @@ use Rattle.std.proofs.lemmas.List.{get_or-map, length-map, reverse-reverse}
 use Rattle.std.proofs.lemmas.List.Elements.{Contains-get_or}
 use Rattle.hprof_search.specs.declared.kept_search.Search.{Search}
 use Rattle.hprof_search.specs.Finds.{Finds, is_found}
-use Rattle.hprof_search.specs.Kept.{number_in}
-use Rattle.hprof_search.specs.Numbers.{items_in}
+use Rattle.hprof_numbers.specs.Places.{number_in}
+use Rattle.hprof_numbers.specs.Numbers.{items_in}
 use Rattle.hprof_search.specs.Search.{IsSearch, node_at, nodes_found}
 use Rattle.hprof_search.specs.WayBack.{found_in, way_back, way_in}
 use Rattle.hprof_search.specs.Walks.{Reaches, IsDistance, HasDistance, IsWayBack, IsPath}
-use Rattle.hprof_search.proofs.Ascending.{has_number, number_of, one_place}
-use Rattle.hprof_search.proofs.Followed.{found_within, splits}
+use Rattle.hprof_numbers.proofs.Ascending.{has_number, number_of, one_place}
+use Rattle.hprof_numbers.proofs.Places.{splits}
+use Rattle.hprof_search.proofs.Followed.{found_within}
 use Rattle.hprof_search.proofs.OneWalk.{same_distance}
 use Rattle.hprof_search.proofs.Ordered.{in_order}
-use Rattle.hprof_search.proofs.Placed.{nowhere, stands}
+use Rattle.hprof_numbers.proofs.Placed.{nowhere, stands}
 use Rattle.hprof_search.proofs.Ways.{left_none, left_on, way_on}
 
 abbrev pub kept_finds : Search → Finds

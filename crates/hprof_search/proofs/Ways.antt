@@ -3,7 +3,7 @@ use Rattle.std.proofs.Common.{◌≡◌, ◌<◌, ◌==◌, ℕ, zero, suc, Bool
 use Rattle.hprof_search.specs.Finds.{Finds, is_found}
 use Rattle.hprof_search.specs.WayBack.{way_back}
 use Rattle.hprof_search.specs.Walks.{Reaches}
-use Rattle.hprof_search.proofs.Ascending.{number_of}
+use Rattle.hprof_numbers.proofs.Ascending.{number_of}
 use Rattle.hprof_search.proofs.Levels.{StartsIn, StepsIn, IsSearched, reached_is_node, stepped}
 
 -- what is left of the way behind a number

@@ -1,7 +1,7 @@
 -- What is found where steps are followed, by numbers.
 use Rattle.std.specs.Prelude.{◌≡◌, ◌<◌, ◌≤◌, ◌+◌, ◌++◌, ◌↔◌, ◌⊎◌, ℕ, Bool, true, false, not, List, Option, Contains, drop, length, count_by, get_or, slice_index, unwrap_or}
 use Rattle.hprof_search.specs.declared.trail.Trail.{Trail}
-use Rattle.hprof_search.specs.Numbers.{items_in}
+use Rattle.hprof_numbers.specs.Numbers.{items_in}
 
 -- of each number whether it was found, and from which; the numbers that were found, in their order; and of these the next level
 pub record Finds : Type 0 where

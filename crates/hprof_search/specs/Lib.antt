@@ -1,12 +1,6 @@
 pub mod Walks
 pub mod Kept
-pub mod Numbers
 pub mod NodeHash
 pub mod Finds
 pub mod Search
 pub mod WayBack
-pub mod Numbered
-pub mod Counts
-pub mod Lists
-pub mod Pairs
-pub mod Sources

@@ -1,7 +1,7 @@
 -- What a search by levels keeps.
 use Rattle.std.specs.Prelude.{◌≤◌, ℕ, List, Contains, map, slice_index}
 use Rattle.hprof_search.specs.declared.kept_search.Search.{Search}
-use Rattle.hprof_search.specs.Numbers.{items_in}
+use Rattle.hprof_numbers.specs.Numbers.{items_in}
 use Rattle.hprof_search.specs.Walks.{IsDistance, IsFoundFrom, IsOrder}
 
 -- the node that has a number

@@ -2,8 +2,8 @@
 use Rattle.std.specs.Prelude.{◌==◌, ℕ, zero, suc, false, List, [], ◌∷◌, Option, if◌then◌else◌, get_or, option_and_then, slice_index}
 use Rattle.std.specs.Bool.{then_some}
 use Rattle.hprof_search.specs.declared.kept_search.Search.{Search}
-use Rattle.hprof_search.specs.Kept.{number_in}
-use Rattle.hprof_search.specs.Numbers.{items_in}
+use Rattle.hprof_numbers.specs.Places.{number_in}
+use Rattle.hprof_numbers.specs.Numbers.{items_in}
 
 -- the number of a node that was found
 unfoldable pub found_in : Search → ℕ → Option ℕ

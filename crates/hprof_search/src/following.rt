@@ -1,9 +1,10 @@
 //! Following edges to nodes that were not found before.
 
 ghost use Rattle.std.specs.Prelude.{◌≡◌, ◌<◌, OnOk, IfSome, length};
+ghost use Rattle.hprof_numbers.specs.Numbered.{nodes_in};
 ghost use Rattle.hprof_search.specs.Finds.{Follows, LeadsTo, finds_of};
 
-use crate::numbered::Numbered;
+use hprof_numbers::Numbered;
 use crate::trail::Trail;
 use std::alloc::AllocError;
 
@@ -16,9 +17,9 @@ pub(crate) fn follow(
     targets: &[u64],
     trail: &mut Trail,
 ) -> Result<(), AllocError>
-    requires from { IfSome from (λ number. number < length numbered.now.nodes.items) }
-    requires as_many { length trail.old.found.items ≡ length numbered.now.nodes.items }
-    ensures { OnOk result (Follows (LeadsTo numbered.now.nodes.items from targets.now) (finds_of trail.old) (finds_of trail.new)) }
+    requires from { IfSome from (λ number. number < length (nodes_in numbered.now)) }
+    requires as_many { length trail.old.found.items ≡ length (nodes_in numbered.now) }
+    ensures { OnOk result (Follows (LeadsTo (nodes_in numbered.now) from targets.now) (finds_of trail.old) (finds_of trail.new)) }
 {
     for target in targets {
         if let Some(number) = numbered.number_of(*target) {

@@ -1,8 +1,8 @@
 //! The result of a search.
 
 use crate::node_hasher::NodeHasher;
-use crate::numbered::find;
-use crate::numbers::Numbers;
+use hprof_numbers::find;
+use hprof_numbers::Numbers;
 use crate::walks::WalksOf;
 use indexmap::IndexSet;
 use std::alloc::{AllocError, Global};
@@ -25,7 +25,7 @@ pub struct Search {
 }
 
 ghost use Rattle.hprof_search.specs.Kept.{IsKept};
-ghost use Rattle.hprof_search.specs.Numbers.{items_in};
+ghost use Rattle.hprof_numbers.specs.Numbers.{items_in};
 
 impl Search {
     ghost use Rattle.std.specs.Prelude.{◌≡◌, ◌<◌, IfOk, IfSome, length, map};

@@ -2,11 +2,12 @@
 
 ghost use Rattle.std.specs.Prelude.{◌≡◌, ◌↔◌, ◌<◌, ℕ, OnOk, All, length};
 ghost use Rattle.std.specs.List.Sorted.{IsNonDecreasing};
+ghost use Rattle.hprof_numbers.specs.Numbered.{nodes_in};
 ghost use Rattle.hprof_search.specs.Finds.{Follows, LeadsOn, finds_of};
 
 use crate::following::follow;
-use crate::graph::Graph;
-use crate::numbered::Numbered;
+use hprof_numbers::Graph;
+use hprof_numbers::Numbered;
 use crate::trail::Trail;
 use std::alloc::AllocError;
 
@@ -21,16 +22,16 @@ pub(crate) fn lead_on<G: Graph>(
 ) -> Result<(), AllocError>
     requires stands { G.stands graph.old }
     requires ascend { IsNonDecreasing level.now }
-    requires within { All (λ number. number < length numbered.now.nodes.items) level.now }
-    requires as_many { length trail.old.found.items ≡ length numbered.now.nodes.items }
-    ensures ok { OnOk result (Follows (LeadsOn (G.leads graph.old) numbered.now.nodes.items level.now) (finds_of trail.old)
+    requires within { All (λ number. number < length (nodes_in numbered.now)) level.now }
+    requires as_many { length trail.old.found.items ≡ length (nodes_in numbered.now) }
+    ensures ok { OnOk result (Follows (LeadsOn (G.leads graph.old) (nodes_in numbered.now) level.now) (finds_of trail.old)
         (finds_of trail.new)) }
     ensures stays { (node to : ℕ) → G.leads graph.new node to ↔ G.leads graph.old node to }
     ensures stands { G.stands graph.new }
 {
     for number in level {
         let from = *number as usize;
-        graph.targets_of(numbered.nodes[from], targets)?;
+        graph.targets_of(numbered.node(from), targets)?;
         follow(numbered, Some(from), targets, trail)?;
     }
     Ok(())

@@ -5,10 +5,10 @@ ghost use Rattle.std.specs.List.Sorted.{IsStrictlyIncreasing};
 ghost use Rattle.hprof_search.specs.Search.{IsSearch};
 
 use crate::following::follow;
-use crate::graph::Graph;
+use hprof_numbers::Graph;
 use crate::kept_search::Search;
 use crate::leading::lead_on;
-use crate::numbered::Numbered;
+use hprof_numbers::Numbered;
 use crate::trail::Trail;
 use std::alloc::{AllocError, Global};
 
@@ -41,7 +41,7 @@ pub fn search<G: Graph>(
         levels += 1;
     }
     Ok(Search {
-        nodes: numbered.nodes,
+        nodes: numbered.into_nodes(),
         found: trail.found,
         before: trail.before,
         order: trail.order,

@@ -1,11 +1,11 @@
 //! The nodes that were found, by number.
 
 ghost use Rattle.std.specs.Prelude.{◌≡◌, ◌≤◌, length};
-ghost use Rattle.hprof_search.specs.Numbers.{items_in, bound_of};
+ghost use Rattle.hprof_numbers.specs.Numbers.{items_in, bound_of};
 ghost use Rattle.hprof_search.specs.Kept.{LeadsBack, OrdersFound};
 
 use crate::node_hasher::NodeHasher;
-use crate::numbers::Numbers;
+use hprof_numbers::Numbers;
 use indexmap::IndexSet;
 use std::alloc::{AllocError, Global};
 use std::hash::BuildHasherDefault;

@@ -3,7 +3,7 @@ use Rattle.std.specs.Prelude.{if◌then◌else◌}
 use Rattle.std.proofs.Common.{◌≡◌, ◌≤◌, ◌<◌, ◌-◌, ℕ, ◌+◌, zero, suc, Bool, true, false, List, [], ◌∷◌, ◌++◌, length, refl, sym, ap, subst}
 use Rattle.std.proofs.Common.{◌∙◌, arith, inl, inr}
 use Rattle.std.proofs.lemmas.List.{length-append}
-use Rattle.hprof_search.proofs.Followed.{splits}
+use Rattle.hprof_numbers.proofs.Places.{splits}
 use Rattle.hprof_why.specs.Folding.{AreParts, IsFront, Link, NoPart, One, OnePart, Part, Stretch, alike_at_front, is_alike, kind_behind}
 use Rattle.hprof_why.specs.Folding.{links_of, run_at_front}
 use Rattle.hprof_why.proofs.Fronting.{first_part, no_parts, same_split}

@@ -1,7 +1,7 @@
 use Rattle.std.proofs.Common.{◌≡◌, ◌+◌, ◌∙◌, ℕ, Some, None, slice_index, refl, sym, subst, take}
 use Rattle.hprof_search.specs.declared.trail.Trail.{Trail}
 use Rattle.hprof_search.specs.Finds.{Follows, LeadsTo, Arrives, finds_of}
-use Rattle.hprof_search.specs.Kept.{number_in}
+use Rattle.hprof_numbers.specs.Places.{number_in}
 use Rattle.hprof_search.proofs.Targets.{to_none, to_number}
 use Rattle.hprof_search.proofs.following.follow.Goals as goal
 use Rattle.hprof_search.proofs.following.follow.Goals.{in-Some+in_ok-arrive, in_default}

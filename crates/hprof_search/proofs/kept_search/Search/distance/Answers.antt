@@ -1,6 +1,6 @@
 use Rattle.std.proofs.Common.{◌≡◌, ◌+◌, ◌-◌, ◌∙◌, ℕ, suc, Some, length, sym, ap, subst, arith}
 use Rattle.std.specs.Option.{option_map}
-use Rattle.hprof_search.specs.Numbers.{items_in}
+use Rattle.hprof_numbers.specs.Numbers.{items_in}
 use Rattle.hprof_search.specs.WayBack.{way_back, way_in}
 use Rattle.hprof_search.specs.Walks.{HasDistance}
 use Rattle.hprof_search.proofs.Told.{distance_in, tells_distance}

@@ -1,6 +1,6 @@
 use Rattle.std.proofs.Common.{◌≡◌, ◌+◌, ◌-◌, ◌<◌, ℕ, List, length}
 use Rattle.hprof_search.specs.WayBack.{way_back}
-use Rattle.hprof_search.specs.Numbers.{items_in}
+use Rattle.hprof_numbers.specs.Numbers.{items_in}
 use Rattle.hprof_search.proofs.kept_search.Search.distance.Given as goal
 
 pub record Counted (before : List ℕ) (levels found steps number : ℕ) : Type 0 where

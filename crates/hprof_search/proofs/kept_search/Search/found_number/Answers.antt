@@ -1,9 +1,9 @@
 use Rattle.std.proofs.Common.{◌≡◌, ◌∙◌, ℕ, Bool, false, Some, None, get_or, option_and_then, sym, ap, arith}
 use Rattle.std.specs.Bool.{then_some}
 use Rattle.std.proofs.lemmas.List.{get_or_read}
-use Rattle.hprof_search.specs.Kept.{number_in}
+use Rattle.hprof_numbers.specs.Places.{number_in}
 use Rattle.hprof_search.specs.WayBack.{found_in}
-use Rattle.hprof_search.proofs.Placed.{stands}
+use Rattle.hprof_numbers.proofs.Placed.{stands}
 use Rattle.hprof_search.proofs.kept_search.Search.found_number.Goals as goal
 
 pub returns-in_err-number-clause-number : goal.returns-in_err-number-clause-number

@@ -1,7 +1,7 @@
 use Rattle.std.proofs.Common.{◌≡◌, ◌+◌, ◌-◌, ◌++◌, ◌∷◌, [], ◌∙◌, ℕ, suc, List, map, slice_index, sym, ap, subst, arith}
 use Rattle.std.proofs.lemmas.Grind.{get_or_default_zero}
 use Rattle.hprof_search.specs.WayBack.{way_back}
-use Rattle.hprof_search.specs.Numbers.{items_in}
+use Rattle.hprof_numbers.specs.Numbers.{items_in}
 use Rattle.hprof_search.proofs.Ways.{way_left, went_none, went_on, went_to_start, went_all}
 use Rattle.hprof_search.proofs.kept_search.Search.way_back.Goals as goal
 

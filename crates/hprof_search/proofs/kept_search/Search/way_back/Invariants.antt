@@ -1,6 +1,6 @@
 use Rattle.std.proofs.Common.{◌≡◌, ◌++◌, ◌-◌, ◌<◌, ℕ, List, length, map, slice_index}
 use Rattle.hprof_search.specs.WayBack.{way_back}
-use Rattle.hprof_search.specs.Numbers.{items_in}
+use Rattle.hprof_numbers.specs.Numbers.{items_in}
 use Rattle.hprof_search.proofs.Ways.{way_left}
 use Rattle.hprof_search.proofs.kept_search.Search.way_back.Given as goal
 

@@ -3,7 +3,7 @@ use Rattle.std.proofs.Common.{refl, sym, ap, subst, arith}
 use Rattle.std.specs.List.{list_any}
 use Rattle.std.proofs.lemmas.List.{drop-append-le, get_or_read}
 use Rattle.hprof_search.specs.Finds.{Finds, finds_of}
-use Rattle.hprof_search.specs.Numbers.{items_in}
+use Rattle.hprof_numbers.specs.Numbers.{items_in}
 use Rattle.hprof_search.proofs.Arrived.{arrived}
 use Rattle.hprof_search.proofs.trail.Trail.arrive.Goals as goal
 

@@ -1,0 +1,20 @@
+//! Graphs by numbers: sorted nodes whose numbers are their places, lists of numbers that take few bytes, and for each node of a graph the
+//! nodes with an edge to it.
+#![tactic(auto)]
+
+mod building;
+mod graph;
+mod hints;
+mod listing;
+mod lists;
+mod numbered;
+mod numbers;
+mod pairs;
+mod sources;
+
+pub use building::sources_of;
+pub use graph::Graph;
+pub use lists::Lists;
+pub use numbered::{Numbered, find};
+pub use numbers::Numbers;
+pub use sources::Sources;

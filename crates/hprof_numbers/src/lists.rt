@@ -1,0 +1,57 @@
+//! Lists of numbers.
+
+ghost use Rattle.std.specs.Prelude.{◌≡◌, ◌<◌, ◌≤◌, ℕ, length, slice_index};
+ghost use Rattle.hprof_numbers.specs.Numbers.{items_in};
+
+use crate::numbers::Numbers;
+
+/// A list of numbers for each number from 0 on. The lists are in one vector, one after the other.
+#[derive(Drop)]
+pub struct Lists {
+    /// The end of each list, where the next one begins.
+    pub(crate) ends: Numbers,
+    pub(crate) items: Numbers,
+    ghost within: { (number : ℕ) → number < length (items_in ends) → slice_index (items_in ends) number ≤ length (items_in items) },
+}
+
+impl Lists {
+    ghost use Rattle.hprof_numbers.specs.Lists.{count_in, end_in, start_in};
+
+    /// Returns the number of lists.
+    pub fn len(&self) -> usize
+        ensures { result ≡ count_in self.now }
+    {
+        self.ends.len()
+    }
+
+    /// Returns the place where the list of a number begins.
+    #[inline(always)]
+    pub fn start(&self, number: usize) -> usize
+        requires { number < count_in self.now }
+        ensures { result ≡ start_in self.now number }
+    {
+        match number.checked_sub(1) {
+            Some(before) => self.ends.get(before),
+            None => 0,
+        }
+    }
+
+    /// Returns the place where the list of a number ends.
+    #[inline(always)]
+    pub fn end(&self, number: usize) -> usize
+        requires { number < count_in self.now }
+        ensures is { result ≡ end_in self.now number }
+        ensures within { result ≤ length (items_in self.now.items) }
+    {
+        self.ends.get(number)
+    }
+
+    /// Returns the number at a place.
+    #[inline(always)]
+    pub fn get(&self, place: usize) -> usize
+        requires { place < length (items_in self.now.items) }
+        ensures { result ≡ slice_index (items_in self.now.items) place }
+    {
+        self.items.get(place)
+    }
+}
