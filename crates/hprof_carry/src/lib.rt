@@ -1,0 +1,4 @@
+//! Scratch.
+#![tactic(auto)]
+
+pub mod laws;
