@@ -6,3 +6,6 @@ pub mod Ends
 pub mod Lists
 pub mod Pairs
 pub mod Sources
+pub mod Renumbered
+pub mod DepthFirst
+pub mod Trail

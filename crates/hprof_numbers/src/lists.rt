@@ -28,6 +28,13 @@ impl Lists {
         self.ends.len()
     }
 
+    /// Returns the number of places: how many numbers the lists have together.
+    pub fn places(&self) -> usize
+        ensures { result ≡ length (items_in self.now.items) }
+    {
+        self.items.len()
+    }
+
     /// Returns the place where the list of a number begins.
     #[inline(always)]
     pub fn start(&self, number: usize) -> usize

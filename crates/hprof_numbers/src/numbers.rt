@@ -42,6 +42,18 @@ impl Numbers {
         }
     }
 
+    /// Returns an empty list with room for `count` numbers below `bound`. If memory runs out, the answer is `AllocError`.
+    pub fn with_capacity(alloc: Global, count: usize, bound: usize) -> Result<Numbers, AllocError>
+        ensures items { IfOk result (λ numbers. items_in numbers ≡ []) }
+        ensures bound { IfOk result (λ numbers. bound ≤ bound_of numbers) }
+    {
+        if bound <= NARROW {
+            Ok(Numbers::Narrow(Vec::with_capacity(alloc, count)?))
+        } else {
+            Ok(Numbers::Wide(Vec::with_capacity(alloc, count)?))
+        }
+    }
+
     /// Returns the number of numbers.
     pub fn len(&self) -> usize
         ensures { result ≡ length (items_in self.now) }
