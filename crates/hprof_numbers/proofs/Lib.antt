@@ -10,3 +10,5 @@ pub mod Path
 pub mod Arriving
 pub mod Stepping
 pub mod Closing
+pub mod Behind
+pub mod Anew

@@ -9,3 +9,5 @@ pub mod Sources
 pub mod Renumbered
 pub mod DepthFirst
 pub mod Trail
+pub mod Appends
+pub mod NewEdges
