@@ -6,3 +6,9 @@ pub mod Filling
 pub mod Starting
 pub mod Ending
 pub mod Pairing
+pub mod Path
+pub mod Arriving
+pub mod Stepping
+pub mod Closing
+pub mod Behind
+pub mod Anew

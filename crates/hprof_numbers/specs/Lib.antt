@@ -6,3 +6,8 @@ pub mod Ends
 pub mod Lists
 pub mod Pairs
 pub mod Sources
+pub mod Renumbered
+pub mod DepthFirst
+pub mod Trail
+pub mod Appends
+pub mod NewEdges

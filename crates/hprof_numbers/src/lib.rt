@@ -3,6 +3,7 @@
 #![tactic(auto)]
 
 mod building;
+mod depth;
 mod graph;
 mod hints;
 mod listing;
@@ -10,11 +11,17 @@ mod lists;
 mod numbered;
 mod numbers;
 mod pairs;
+mod renumbering;
+mod searching;
 mod sources;
+mod trail;
 
 pub use building::sources_of;
+pub use depth::DepthFirst;
 pub use graph::Graph;
 pub use lists::Lists;
 pub use numbered::{Numbered, find};
 pub use numbers::Numbers;
+pub use renumbering::renumbered;
+pub use searching::depth_first;
 pub use sources::Sources;

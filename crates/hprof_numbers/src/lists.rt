@@ -1,6 +1,7 @@
 //! Lists of numbers.
 
 ghost use Rattle.std.specs.Prelude.{◌≡◌, ◌<◌, ◌≤◌, ℕ, length, slice_index};
+ghost use Rattle.hprof_numbers.specs.Ends.{start_at};
 ghost use Rattle.hprof_numbers.specs.Numbers.{items_in};
 
 use crate::numbers::Numbers;
@@ -12,6 +13,9 @@ pub struct Lists {
     pub(crate) ends: Numbers,
     pub(crate) items: Numbers,
     ghost within: { (number : ℕ) → number < length (items_in ends) → slice_index (items_in ends) number ≤ length (items_in items) },
+    ghost ascend: { (number : ℕ) → number < length (items_in ends)
+        → start_at (items_in ends) number ≤ slice_index (items_in ends) number },
+    ghost whole: { start_at (items_in ends) (length (items_in ends)) ≡ length (items_in items) },
 }
 
 impl Lists {
@@ -22,6 +26,13 @@ impl Lists {
         ensures { result ≡ count_in self.now }
     {
         self.ends.len()
+    }
+
+    /// Returns the number of places: how many numbers the lists have together.
+    pub fn places(&self) -> usize
+        ensures { result ≡ length (items_in self.now.items) }
+    {
+        self.items.len()
     }
 
     /// Returns the place where the list of a number begins.

@@ -17,6 +17,17 @@ pub enum Numbers {
     Wide(Vec<u64>),
 }
 
+// The same numbers, of eight bytes each.
+fn widened(alloc: Global, items: &[u32]) -> Result<Vec<u64>, AllocError>
+    ensures { IfOk result (λ wide. wide.items ≡ items.now) }
+{
+    let mut wide = Vec::with_capacity(alloc, items.len())?;
+    for item in items {
+        wide.push(u64::from(*item))?;
+    }
+    Ok(wide)
+}
+
 impl Numbers {
     /// Returns a list of `count` zeros that can hold numbers below `bound`. If memory runs out, the answer is `AllocError`.
     pub fn zeros(alloc: Global, count: usize, bound: usize) -> Result<Numbers, AllocError>
@@ -42,6 +53,18 @@ impl Numbers {
         }
     }
 
+    /// Returns an empty list with room for `count` numbers below `bound`. If memory runs out, the answer is `AllocError`.
+    pub fn with_capacity(alloc: Global, count: usize, bound: usize) -> Result<Numbers, AllocError>
+        ensures items { IfOk result (λ numbers. items_in numbers ≡ []) }
+        ensures bound { IfOk result (λ numbers. bound ≤ bound_of numbers) }
+    {
+        if bound <= NARROW {
+            Ok(Numbers::Narrow(Vec::with_capacity(alloc, count)?))
+        } else {
+            Ok(Numbers::Wide(Vec::with_capacity(alloc, count)?))
+        }
+    }
+
     /// Returns the number of numbers.
     pub fn len(&self) -> usize
         ensures { result ≡ length (items_in self.now) }
@@ -60,6 +83,25 @@ impl Numbers {
     {
         match self {
             Numbers::Narrow(items) => items.push(number as u32)?,
+            Numbers::Wide(items) => items.push(number as u64)?,
+        }
+        Ok(())
+    }
+
+    /// Appends a number. If it does not fit four bytes, all numbers get eight first. If memory runs out, the answer is `AllocError` and the
+    /// list is unspecified.
+    pub(crate) fn push_or_widen(&mut self, alloc: Global, number: usize) -> Result<(), AllocError>
+        ensures { OnOk result (items_in self.new ≡ items_in self.old ++ number ∷ []) }
+    {
+        match self {
+            Numbers::Narrow(items) => match u32::try_from(number) {
+                Ok(narrow) => items.push(narrow)?,
+                Err(_) => {
+                    let mut wide = widened(alloc, items)?;
+                    wide.push(number as u64)?;
+                    *self = Numbers::Wide(wide);
+                }
+            },
             Numbers::Wide(items) => items.push(number as u64)?,
         }
         Ok(())
