@@ -1,4 +1,0 @@
-//! Scratch.
-#![tactic(auto)]
-
-pub mod laws;
