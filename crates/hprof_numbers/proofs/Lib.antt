@@ -12,3 +12,4 @@ pub mod Stepping
 pub mod Closing
 pub mod Behind
 pub mod Anew
+pub mod Targets

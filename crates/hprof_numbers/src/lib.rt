@@ -4,6 +4,7 @@
 
 mod building;
 mod depth;
+mod edges;
 mod graph;
 mod hints;
 mod listing;
@@ -18,6 +19,7 @@ mod trail;
 
 pub use building::sources_of;
 pub use depth::DepthFirst;
+pub use edges::edges_of;
 pub use graph::Graph;
 pub use lists::Lists;
 pub use numbered::{Numbered, find};

@@ -1,0 +1,54 @@
+//! The edges of a graph, as lists of numbers.
+
+ghost use Rattle.std.specs.Prelude.{◌≡◌, ◌↔◌, ◌<◌, ◌≤◌, ℕ, Contains, IfOk, OnOk, length, slice_index};
+ghost use Rattle.hprof_numbers.specs.Appends.{Appends};
+ghost use Rattle.hprof_numbers.specs.Lists.{IsListed, LeadsWithin, count_in};
+ghost use Rattle.hprof_numbers.specs.Numbered.{nodes_in};
+ghost use Rattle.hprof_numbers.specs.Numbers.{bound_of, items_in};
+
+use crate::graph::Graph;
+use crate::lists::Lists;
+use crate::numbered::Numbered;
+use crate::numbers::Numbers;
+use std::alloc::{AllocError, Global};
+
+/// Appends the number of each target that is a node. If memory runs out, the answer is `AllocError` and `items` is unspecified.
+fn put_targets(items: &mut Numbers, nodes: &Numbered, targets: &[u64]) -> Result<(), AllocError>
+    requires fit { length (nodes_in nodes.now) ≤ bound_of items.old }
+    ensures items { OnOk result (Appends (λ one. (one < length (nodes_in nodes.now))
+        × Contains targets.now (slice_index (nodes_in nodes.now) one)) (items_in items.old) (items_in items.new)) }
+    ensures bound { OnOk result (bound_of items.new ≡ bound_of items.old) }
+{
+    for target in targets {
+        if let Some(number) = nodes.number_of(*target) {
+            items.push(number)?;
+        }
+    }
+    Ok(())
+}
+
+/// Returns for each node of a graph, by its number, the numbers of the nodes that it leads to, in one pass over all edges. Targets that are
+/// no nodes are left out. If memory runs out, the answer is `AllocError`.
+pub fn edges_of<G: Graph>(
+    alloc: Global,
+    graph: &mut G,
+    nodes: &Numbered,
+) -> Result<Lists, AllocError>
+    requires { G.stands graph.old }
+    ensures as_many { IfOk result (λ lists. count_in lists ≡ length (nodes_in nodes.now)) }
+    ensures leads { IfOk result LeadsWithin }
+    ensures exact { IfOk result (λ lists. (from to : ℕ) → from < length (nodes_in nodes.now) → to < length (nodes_in nodes.now)
+        → IsListed lists from to ↔ G.leads graph.old (slice_index (nodes_in nodes.now) from) (slice_index (nodes_in nodes.now) to)) }
+    ensures stays { (node to : ℕ) → G.leads graph.new node to ↔ G.leads graph.old node to }
+    ensures stands { G.stands graph.new }
+{
+    let mut ends = Numbers::with_capacity(alloc, nodes.len(), 0)?;
+    let mut items = Numbers::empty(alloc, nodes.len());
+    let mut targets = Vec::new(alloc);
+    for number in 0..nodes.len() {
+        graph.targets_of(nodes.node(number), &mut targets)?;
+        put_targets(&mut items, nodes, &targets)?;
+        ends.push_or_widen(alloc, items.len())?;
+    }
+    Ok(Lists { ends, items })
+}
