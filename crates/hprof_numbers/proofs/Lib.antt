@@ -13,3 +13,6 @@ pub mod Closing
 pub mod Behind
 pub mod Anew
 pub mod Targets
+pub mod FilledRows
+pub mod Apart
+pub mod TurnedRound

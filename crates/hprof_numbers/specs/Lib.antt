@@ -11,3 +11,4 @@ pub mod DepthFirst
 pub mod Trail
 pub mod Appends
 pub mod NewEdges
+pub mod Turned

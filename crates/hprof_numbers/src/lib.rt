@@ -16,6 +16,7 @@ mod renumbering;
 mod searching;
 mod sources;
 mod trail;
+mod turning;
 
 pub use building::sources_of;
 pub use depth::DepthFirst;
@@ -27,3 +28,4 @@ pub use numbers::Numbers;
 pub use renumbering::renumbered;
 pub use searching::depth_first;
 pub use sources::Sources;
+pub use turning::turned;
