@@ -16,3 +16,4 @@ pub mod Targets
 pub mod FilledRows
 pub mod Apart
 pub mod TurnedRound
+pub mod Carried

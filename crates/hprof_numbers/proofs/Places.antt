@@ -1,5 +1,5 @@
 -- Places below and behind others.
-use Rattle.std.proofs.Common.{◌≡◌, ◌⊎◌, ◌<◌, ◌≤◌, ℕ, inl, inr, arith}
+use Rattle.std.proofs.Common.{◌⊎◌, ◌<◌, ◌≤◌, ℕ, inl, inr, arith}
 use Rattle.std.proofs.lemmas.Bool.{cases_order}
 
 -- a place lies below another, or not

@@ -1,6 +1,6 @@
 -- The edges of a node more are put in, by numbers.
 use Rattle.std.specs.Prelude.{◌↔◌, Contains, slice_index}
-use Rattle.std.proofs.Common.{◌≡◌, ◌<◌, ◌≤◌, ◌+◌, ◌⊎◌, ℕ, List, [], ◌∷◌, ◌++◌, Some, None, length, inl, inr, refl, ap, sym, subst, ◌∙◌, arith}
+use Rattle.std.proofs.Common.{◌≡◌, ◌<◌, ◌+◌, ℕ, List, [], ◌∷◌, ◌++◌, Some, None, length, inl, inr, refl, ap, sym, subst, ◌∙◌, arith}
 use Rattle.std.specs.List.Sorted.{IsStrictlyIncreasing}
 use Rattle.std.proofs.lemmas.List.{length-append}
 use Rattle.hprof_numbers.specs.Appends.{Appends}
@@ -12,7 +12,8 @@ use Rattle.hprof_numbers.proofs.Placed.{nowhere, stands}
 
 -- a number is that of one of the first so many targets
 abbrev pub IsTarget : List ℕ → List ℕ → ℕ → ℕ → Type 0
-IsTarget nodes targets count one = (one < length nodes) × ((place : ℕ) × (place < count) × (slice_index targets place ≡ slice_index nodes one))
+IsTarget nodes targets count one = (one < length nodes)
+    × ((place : ℕ) × (place < count) × (slice_index targets place ≡ slice_index nodes one))
 
 module _ (nodes targets : List ℕ) where
   pub targets_none : (items : List ℕ) → Appends (IsTarget nodes targets 0) items items
@@ -72,8 +73,8 @@ module _ (Leads : ℕ → ℕ → Type 0) (nodes : List ℕ) where
 
     now : (to : ℕ) → IsInRow ends_then then number to ↔ ((to < length nodes) × Leads (slice_index nodes number) (slice_index nodes to))
     now to =
-        let is = subst (λ (n : ℕ). IsInRow ends_then then n to ↔ ((to < length nodes) × Contains targets (slice_index nodes to))) has.as_many
-        (row_last _ ends items then has.rows appends to) in (
+        let is = subst (λ (n : ℕ). IsInRow ends_then then n to ↔ ((to < length nodes) × Contains targets (slice_index nodes to)))
+        has.as_many (row_last _ ends items then has.rows appends to) in (
           λ it. let at = is.0 it in (at.0, (exact (slice_index nodes to)).0 at.1),
           λ it. is.1 (it.0, (exact (slice_index nodes to)).1 it.1),
         )
@@ -86,7 +87,8 @@ module _ (Leads : ℕ → ℕ → Type 0) (nodes : List ℕ) where
         | inl before ↦
             let is = row_before _ ends items then has.rows appends from to (omega (arith, before, has.as_many)) in
             (λ it. (has.each from to before).0 (is.0 it), λ it. is.1 ((has.each from to before).1 it))
-        | inr is ↦ subst (λ (n : ℕ). IsInRow ends_then then n to ↔ ((to < length nodes) × Leads (slice_index nodes n) (slice_index nodes to)))
+        | inr is ↦ subst (λ (n : ℕ). IsInRow ends_then then n to
+            ↔ ((to < length nodes) × Leads (slice_index nodes n) (slice_index nodes to)))
             (sym is) (now to)
       ];
     }

@@ -12,3 +12,5 @@ pub mod Trail
 pub mod Appends
 pub mod NewEdges
 pub mod Turned
+pub mod Walks
+pub mod WalksByNumbers

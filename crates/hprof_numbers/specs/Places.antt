@@ -1,5 +1,5 @@
 -- The number of a node: its place among all nodes.
-use Rattle.std.specs.Prelude.{◌-◌, ◌<◌, ◌≡◌, ◌==◌, ℕ, List, Option, length, slice_index}
+use Rattle.std.specs.Prelude.{◌-◌, ◌<◌, ◌==◌, ℕ, List, Option, length, slice_index}
 use Rattle.std.specs.List.{position}
 
 -- the number of a node; none of what is no node

@@ -7,6 +7,7 @@ mod depth;
 mod edges;
 mod graph;
 mod hints;
+pub mod laws;
 mod listing;
 mod lists;
 mod numbered;

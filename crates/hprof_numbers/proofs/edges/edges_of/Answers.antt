@@ -1,6 +1,5 @@
 use Rattle.std.specs.Prelude.{◌↔◌, Contains, slice_index}
-use Rattle.std.proofs.Common.{◌≡◌, ◌<◌, ℕ, length, subst, arith}
-use Rattle.hprof_numbers.specs.Appends.{Appends}
+use Rattle.std.proofs.Common.{ℕ, subst, arith}
 use Rattle.hprof_numbers.specs.Numbered.{nodes_in}
 use Rattle.hprof_numbers.specs.Numbers.{items_in}
 use Rattle.hprof_numbers.proofs.Targets.{edges_more, edges_within}
@@ -20,7 +19,8 @@ loop-number-preserved g c =
     (λ has. still.0 (told.0 has), λ leads. told.1 (still.1 leads)) in
     record {
       edges = rw (c.in_ok-push_or_widen.ensures, c.len-in-loop-number.ensures)
-          (edges_more Leads nodes (items_in c.loop-number.ends) (items_in c.loop-number.items) (items_in c.put_targets.new.items) targets number
+          (edges_more Leads nodes (items_in c.loop-number.ends) (items_in c.loop-number.items)
+          (items_in c.put_targets.new.items) targets number
           i.edges exact (rw c.deref.ensures.value at c.in_ok-put_targets.ensures.items));
       stays = λ node to.
           let one = c.targets_of.ensures.stays node to in

@@ -28,4 +28,5 @@ loop-target-preserved c =
 pub returns-clause-items : goal.returns-clause-items
 returns-clause-items c =
     targets_all (nodes_in c.args.nodes.now) c.args.targets.now c.loop-target.target-index (items_in c.args.items.now)
-    (items_in c.loop-target.items) (omega (arith, c.loop-target-test.false, c.loop-target.auto.target-index-end)) c.loop-target.invariant.items
+    (items_in c.loop-target.items) (omega (arith, c.loop-target-test.false, c.loop-target.auto.target-index-end))
+    c.loop-target.invariant.items
