@@ -1,0 +1,3 @@
+pub mod StrongGraph
+pub mod HeapTree
+pub mod SizeFound

@@ -1,0 +1,10 @@
+//! What the classes and objects of a heap keep alive: the tree of dominators, and the bytes and the number of the objects that each of
+//! them retains.
+#![tactic(auto)]
+
+mod making;
+mod retained;
+mod sizes;
+
+pub use making::retained_of;
+pub use retained::Retained;
