@@ -27,6 +27,16 @@ fn put_targets(items: &mut Numbers, nodes: &Numbered, targets: &[u64]) -> Result
     Ok(())
 }
 
+/// Returns the numbers of those targets that are nodes. If memory runs out, the answer is `AllocError`.
+pub fn numbers_of(alloc: Global, nodes: &Numbered, targets: &[u64]) -> Result<Numbers, AllocError>
+    ensures { IfOk result (λ numbers. (number : ℕ) → Contains (items_in numbers) number
+        ↔ ((number < length (nodes_in nodes.now)) × Contains targets.now (slice_index (nodes_in nodes.now) number))) }
+{
+    let mut numbers = Numbers::empty(alloc, nodes.len());
+    put_targets(&mut numbers, nodes, targets)?;
+    Ok(numbers)
+}
+
 /// Returns for each node of a graph, by its number, the numbers of the nodes that it leads to, in one pass over all edges. Targets that are
 /// no nodes are left out. If memory runs out, the answer is `AllocError`.
 pub fn edges_of<G: Graph>(

@@ -1,5 +1,4 @@
-use Rattle.std.proofs.Common.{◌≡◌, ◌↔◌, ◌∙◌, ℕ, List, Some, Contains, slice_index, subst, refl}
-use Rattle.std.proofs.lemmas.Grind.{get_or_default_zero}
+use Rattle.std.proofs.Common.{◌≡◌, ◌↔◌, ℕ, List, Some, Contains, slice_index, subst, refl}
 use Rattle.hprof_search.specs.Finds.{Follows, LeadsTo, finds_of}
 use Rattle.hprof_search.proofs.Targets.{led_more}
 use Rattle.hprof_search.proofs.leading.lead_on.Goals as goal
@@ -15,8 +14,8 @@ loop-number-preserved g c =
     let stays = c.in_ok-targets_of.ensures.stays in
     let given = c.in_ok-targets_of.ensures.ok in
     let targets = c.targets_of.new.targets.items in
-    let node = c.index.result.now in
-    let is : node ≡ slice_index nodes number = c.index.ensures ∙ get_or_default_zero nodes number node (c.requires.within index 0 c.loop-number-test.true) in
+    let node = c.node.result in
+    let is : node ≡ slice_index nodes number = c.node.ensures in
     let leads = subst (λ (n : ℕ). (to : ℕ) → Contains targets to ↔ Leads n to) is
     (λ to. (λ has. (was.stays node to).0 ((given to).0 has), λ leads. (given to).1 ((was.stays node to).1 leads))) in
     let more = subst (λ (ts : List ℕ). Follows (LeadsTo nodes (Some number) ts) (finds_of c.loop-number.trail) (finds_of c.follow.new.trail))

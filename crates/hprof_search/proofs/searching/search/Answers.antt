@@ -104,5 +104,7 @@ returns g c =
     (let none = eqb-true (vec_len c.loop-graph.level) 0 (sym c.is_empty.ensures ∙ c.loop-graph-test.false) in omega (arith, c.loop-graph.level.ok.0)) in
     let last = subst (λ (ns : List ℕ). IsSearched Leads nodes starts finds ns c.loop-graph.levels) empty was in
     let searched = searched_still Leads nodes starts finds kept [] c.loop-graph.levels refl refl last in
-    rw (← c.in_ok-numbered.ensures) (searches Leads starts _ searched
-    c.loop-graph.invariant.once c.loop-graph.invariant.order)
+    let same = sym c.into_nodes.ensures in
+    rw (← (c.into_nodes.ensures ∙ c.in_ok-numbered.ensures)) (searches Leads starts _
+    (subst (λ (ns : List ℕ). IsSearched Leads ns starts kept [] c.loop-graph.levels) same searched) c.loop-graph.invariant.once
+    (subst (λ (ns : List ℕ). IsByDistance Leads ns starts finds.order) same c.loop-graph.invariant.order))
