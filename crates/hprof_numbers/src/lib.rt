@@ -1,5 +1,5 @@
-//! Graphs by numbers: sorted nodes whose numbers are their places, lists of numbers that take few bytes, and for each node of a graph the
-//! nodes with an edge to it.
+//! Graphs by numbers: sorted nodes whose numbers are their places, lists of numbers that take few bytes, for each node of a graph the nodes
+//! that it leads to and the nodes with an edge to it, and a depth-first search.
 #![tactic(auto)]
 
 mod building;

@@ -1,4 +1,4 @@
-use Rattle.std.proofs.Common.{◌≡◌, ◌<◌, ℕ, length, subst, sym, ap, arith}
+use Rattle.std.proofs.Common.{◌<◌, ℕ, length, subst, ap, arith}
 use Rattle.std.specs.Prelude.{Contains, slice_index}
 use Rattle.hprof_numbers.specs.Numbered.{nodes_in}
 use Rattle.hprof_numbers.specs.Numbers.{items_in}
