@@ -16,4 +16,3 @@ pub mod Targets
 pub mod FilledRows
 pub mod Apart
 pub mod TurnedRound
-pub mod Carried

@@ -12,5 +12,3 @@ pub mod Trail
 pub mod Appends
 pub mod NewEdges
 pub mod Turned
-pub mod Walks
-pub mod WalksByNumbers

@@ -7,7 +7,6 @@ mod depth;
 mod edges;
 mod graph;
 mod hints;
-pub mod laws;
 mod listing;
 mod lists;
 mod numbered;

@@ -1,5 +1,6 @@
-use Rattle.std.proofs.Common.{◌∙◌, ◌*◌, ℕ, ap, sym, Some}
+use Rattle.std.proofs.Common.{◌∙◌, ◌*◌, ℕ, ap, length, sym, Some}
 use Rattle.hprof_values.specs.Ids.{width_of}
+use Rattle.hprof_values.specs.Lists.{identifiers_of}
 use Rattle.hprof_values.specs.declared.ids.IdSize.{IdSize}
 use Rattle.hprof_heap.specs.HeapFacts.{facts_of, size_of}
 use Rattle.hprof_retained.proofs.SizeFound.{size_found, size_of_dump}
@@ -16,7 +17,7 @@ returns-in-Some-ObjArray c =
     let ids = size_of c.args.heap.now in
     let width = c.width.ensures ∙ ap width_of c.id_size.ensures.value in
     size_found ids (facts_of c.args.heap.now) c.args.node c.find_object_near.result _ c.find_object_near.ensures
-    (ap (λ (n : ℕ). n * c.width.result) c.len.ensures ∙ ap (λ (w : ℕ). _ * w) width
+    (ap (λ (n : ℕ). n * c.width.result) c.len.ensures ∙ ap (λ (w : ℕ). length (identifiers_of c.in-Some-ObjArray.elements) * w) width
     ∙ sym (ap (size_of_dump ids) (c.in-Some-ObjArray.is ∙ ap Some c.in-Some-ObjArray.field-0-is)))
 
 pub returns-in-Some-PrimArray : goal.returns-in-Some-PrimArray
