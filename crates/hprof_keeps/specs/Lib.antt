@@ -1,0 +1,2 @@
+pub mod Order
+pub mod KeepsText
