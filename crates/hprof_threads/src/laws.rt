@@ -9,6 +9,11 @@ ghost use Rattle.hprof_threads.specs.declared.thread_root.ThreadRoot.{ThreadRoot
 ghost use Rattle.hprof_threads.specs.Threads.{IsRootOfThread, IsThreadObject, IsThreadStack};
 ghost use Rattle.hprof_threads.specs.Frames.{IsFrameLine};
 ghost use Rattle.hprof_threads.specs.ThreadNames.{IsThreadName};
+ghost use Rattle.hprof_threads.specs.HeldOrder.{numbers_of_held};
+ghost use Rattle.std.specs.Cmp.Lexicographic.{slice_cmp};
+ghost use Rattle.std.specs.Ordering.{nat_cmp};
+
+use crate::held::Held;
 
 /// If facts agree, a thread has exactly one root, or exactly none.
 pub fn one_root_of_thread()
@@ -46,4 +51,11 @@ pub fn one_thread_name()
         → (name : Option (List ℕ)) × IsThreadName ids facts object name }
     ensures once { (ids : IdSize) (facts : List FactValue) (object : ℕ) (one other : Option (List ℕ)) → IsConsistent facts
         → IsThreadName ids facts object one → IsThreadName ids facts object other → one ≡ other }
+{}
+
+/// What threads hold is ordered by the thread, then by the place, then by the object. Of a thread the frames come first, by number, then the
+/// native stack, then the thread block.
+pub fn held_in_order()
+    ensures { (held other : Held)
+        → ⟦<Held as Ord>⟧.cmp held other ≡ slice_cmp nat_cmp (numbers_of_held held) (numbers_of_held other) }
 {}
