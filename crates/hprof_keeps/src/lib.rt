@@ -1,8 +1,0 @@
-//! Reports on retained memory: what keeps an object alive, and what it keeps alive itself.
-#![tactic(auto)]
-
-mod children;
-mod dominators;
-
-pub use children::children_of;
-pub use dominators::dominators_of;
