@@ -130,9 +130,12 @@ class Sample(unittest.TestCase):
         self.assertIn(self.viewer.base + "class/740000410", page.links)
         self.assertEqual(self.viewer.page("refs/740000850").rows[1:], [["740000df8", "java.lang.Object[]", "element 2"]])
         self.assertIn(["7400007f0", "java.lang.String", "field value"], self.viewer.page("refs/7400007d8").rows)
+        weak = ["7400014d8", "java.lang.ref.WeakReference", "weak field referent"]
+        self.assertEqual(self.viewer.page("refs/7400013c8").rows[1:], [weak])
         self.assertIn("0 referencesNothing refers to it.", self.viewer.page("refs/1").text)
 
     def test_references_to_a_class(self):
+        self.assertEqual(self.viewer.page("refs/740000070").rows[1], ["29", "java.lang.String", "is of this class"])
         rows = self.viewer.page("refs/740000150").rows
         self.assertEqual(rows[1:], [["7400001c0", "class java.util.ArrayList", "has it as superclass"]])
         self.assertIn(["740000850", "shop.Session", "is of this class"], self.viewer.page("refs/7400003a0").rows)

@@ -17,7 +17,6 @@ from .threads import address_of
 
 QUESTION = b"why ID"
 TITLE = "Why it is alive"
-WEAK = "Weak, soft and phantom references keep nothing alive; a path leads through them only where there is no other."
 ONLY_WEAK = b"only by weak references"
 # More roots of one object are counted alone.
 ROOTS = 100
@@ -154,6 +153,5 @@ def show(visit, id):
         element("p", target(visit.frame, id, {id: subject}) if id else "0 is null."),
         ways(visit.frame, id),
         told(visit.frame, path),
-        element("p", WEAK, class_="soft"),
         status=404 if path.note and path.note.startswith(b"nothing") else 200,
     )
