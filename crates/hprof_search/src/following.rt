@@ -4,8 +4,8 @@ ghost use Rattle.std.specs.Prelude.{◌≡◌, ◌<◌, OnOk, IfSome, length};
 ghost use Rattle.hprof_numbers.specs.Numbered.{nodes_in};
 ghost use Rattle.hprof_search.specs.Finds.{Follows, LeadsTo, finds_of};
 
-use hprof_numbers::Numbered;
 use crate::trail::Trail;
+use hprof_numbers::Numbered;
 use std::alloc::AllocError;
 
 /// Finds the nodes among the targets. Each is found from the number `from`, or from itself, as a start, if `from` is `None`. If memory runs

@@ -1,9 +1,8 @@
 //! The result of a search.
 
 use crate::node_hasher::NodeHasher;
-use hprof_numbers::find;
-use hprof_numbers::Numbers;
 use crate::walks::WalksOf;
+use hprof_numbers::{Numbers, find};
 use indexmap::IndexSet;
 use std::alloc::{AllocError, Global};
 use std::hash::BuildHasherDefault;

@@ -6,9 +6,8 @@ ghost use Rattle.hprof_numbers.specs.Numbered.{nodes_in};
 ghost use Rattle.hprof_search.specs.Finds.{Follows, LeadsOn, finds_of};
 
 use crate::following::follow;
-use hprof_numbers::Graph;
-use hprof_numbers::Numbered;
 use crate::trail::Trail;
+use hprof_numbers::{Graph, Numbered};
 use std::alloc::AllocError;
 
 /// Finds the nodes that the edges of a level lead to. `targets` is scratch space. If memory runs out, the answer is `AllocError`, and

@@ -5,11 +5,10 @@ ghost use Rattle.std.specs.List.Sorted.{IsStrictlyIncreasing};
 ghost use Rattle.hprof_search.specs.Search.{IsSearch};
 
 use crate::following::follow;
-use hprof_numbers::Graph;
 use crate::kept_search::Search;
 use crate::leading::lead_on;
-use hprof_numbers::Numbered;
 use crate::trail::Trail;
+use hprof_numbers::{Graph, Numbered};
 use std::alloc::{AllocError, Global};
 
 /// Searches a graph level by level, from those starts that are nodes, along the edges that lead to nodes.
