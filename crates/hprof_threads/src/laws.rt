@@ -53,8 +53,8 @@ pub fn one_thread_name()
         → IsThreadName ids facts object one → IsThreadName ids facts object other → one ≡ other }
 {}
 
-/// What threads hold is ordered by the thread, then by the place, then by the object. Of a thread the frames come first, by number, then the
-/// native stack, then the thread block.
+/// What threads hold is ordered by the thread, then by the place, then by the object. Of one thread the frames come first, by number, then
+/// the native stack, and then the thread block.
 pub fn held_in_order()
     ensures { (held other : Held)
         → ⟦<Held as Ord>⟧.cmp held other ≡ slice_cmp nat_cmp (numbers_of_held held) (numbers_of_held other) }
