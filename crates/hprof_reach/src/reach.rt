@@ -1,6 +1,6 @@
 //! Distances and paths from GC roots.
 
-ghost use Rattle.std.specs.Prelude.{ℕ, List, IfOk};
+ghost use Rattle.std.specs.Prelude.{◌↔◌, ℕ, List, IfOk, IsTrue, Some};
 ghost use Rattle.std.specs.Option.{option_map};
 ghost use Rattle.hprof_values.specs.declared.ids.IdSize.{IdSize};
 ghost use Rattle.hprof_items.specs.FactValue.{FactValue};
@@ -42,6 +42,22 @@ impl Reach {
             → IsPathFromRoots ids facts id (option_map (λ nodes. nodes.items) path)) }
     {
         self.path_by::<AllEdges>(alloc, id)
+    }
+
+    /// Returns whether a GC root leads to an identifier. Allocates nothing, and does not go along the path.
+    pub fn is_reached(&self, id: u64) -> bool
+        ensures { (ids : IdSize) (facts : List FactValue) → IsReach ids facts self.now
+            → IsTrue result ↔ ((references : ℕ) × IsDistanceFromRoots ids facts id (Some references)) }
+    {
+        self.is_reached_by::<AllEdges>(id)
+    }
+
+    /// Returns whether a GC root leads to an identifier, as [`Reach::is_reached`] does, by the edges that the search was made with.
+    pub fn is_reached_by<E: ChosenEdges>(&self, id: u64) -> bool
+        ensures { (told : E.Told) (ids : IdSize) (facts : List FactValue) → IsReachBy (E.chosen told ids facts) ids facts self.now
+            → IsTrue result ↔ ((references : ℕ) × IsDistanceBy (E.chosen told ids facts) ids facts id (Some references)) }
+    {
+        self.search.is_found::<FromRoots<E>>(id)
     }
 
     /// Returns the distance of an identifier, as [`Reach::distance`] does, by the edges that the search was made with.

@@ -1,6 +1,7 @@
 -- What a search tells of a node is its distance and its path.
 use Rattle.std.proofs.Common.{◌≡◌, ◌<◌, ◌≤◌, ◌-◌, ℕ, zero, suc, Bool, true, false, List, [], ◌∷◌, Option, Some, None, Contains, option_and_then, length, map, reverse, slice_index, get_or, inl, inr, refl, sym, ap, subst, ◌∙◌, arith}
 use Rattle.std.specs.Bool.{then_some}
+use Rattle.std.specs.Prelude.{◌↔◌, IsTrue, is_some}
 use Rattle.std.specs.Option.{option_map}
 use Rattle.std.proofs.lemmas.List.{get_or-map, length-map, reverse-reverse}
 use Rattle.std.proofs.lemmas.List.Elements.{Contains-get_or}
@@ -202,3 +203,14 @@ module _ (Starts : ℕ → Type 0) (Steps : ℕ → ℕ → Type 0) (search : Se
   pub tells_path : (node : ℕ) → IsPath Starts Steps node (path_in search node)
   unfolding path_in
   tells_path node = path_by node (found_in search node) refl
+
+-- a search found the nodes that have a distance
+module _ (Starts : ℕ → Type 0) (Steps : ℕ → ℕ → Type 0) (search : Search) (is : IsSearch Starts Steps search) (node : ℕ) where
+  has_distance : (found : Option ℕ) → HasDistance Starts Steps node (option_map (λ number. length (way_in search number) - 1) found)
+      → IsTrue (is_some found) ↔ ((steps : ℕ) × HasDistance Starts Steps node (Some steps))
+  has_distance None none = (λ test. absurd cc, λ some. absurd (none some.0 some.1.reaches))
+  has_distance (Some number) some = (λ test. (length (way_in search number) - 1, some), λ some. refl)
+
+  pub tells_found : IsTrue (is_some (found_in search node)) ↔ ((steps : ℕ) × HasDistance Starts Steps node (Some steps))
+  unfolding distance_in
+  tells_found = has_distance (found_in search node) (tells_distance Starts Steps search is node)

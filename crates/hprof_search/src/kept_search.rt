@@ -27,7 +27,7 @@ ghost use Rattle.hprof_search.specs.Kept.{IsKept};
 ghost use Rattle.hprof_numbers.specs.Numbers.{items_in};
 
 impl Search {
-    ghost use Rattle.std.specs.Prelude.{◌≡◌, ◌<◌, IfOk, IfSome, length, map};
+    ghost use Rattle.std.specs.Prelude.{◌≡◌, ◌<◌, ◌↔◌, ℕ, IfOk, IfSome, IsTrue, Some, length, map};
     ghost use Rattle.std.specs.Option.{option_map};
     ghost use Rattle.hprof_search.specs.Search.{IsSearch, node_at};
     ghost use Rattle.hprof_search.specs.WayBack.{found_in, way_in};
@@ -63,6 +63,14 @@ impl Search {
             nodes.push(self.nodes[number])?;
         }
         Ok(nodes)
+    }
+
+    /// Returns whether a start leads to a node. Allocates nothing, and does not go along the path.
+    pub fn is_found<W: WalksOf>(&self, node: u64) -> bool
+        ensures { (told : W.Told) → IsSearch (W.starts told) (W.steps told) self.now
+            → IsTrue result ↔ ((steps : ℕ) × HasDistance (W.starts told) (W.steps told) node (Some steps)) }
+    {
+        self.found_number(node).is_some()
     }
 
     /// Returns the least number of steps from a start to a node, or `None` if no start leads to it or it is no node. Allocates nothing.
