@@ -31,8 +31,9 @@ use conversing::ask_files;
 use folder::Folder;
 use hprof_ask::ReportWord;
 use hprof_devices::{Device, Source};
-use hprof_engine::{Dump, Dump101, Product};
+use hprof_engine::{Dump, Dump101};
 use joining::{join_stream, report_files, write_file};
+use made::Made;
 use meter::Meter;
 use metered::{Clearing, Metered};
 use prompting::Prompting;
@@ -49,6 +50,7 @@ mod comparing;
 mod conversing;
 mod folder;
 mod joining;
+mod made;
 mod meter;
 mod metered;
 mod opening;
@@ -79,7 +81,7 @@ fn join_input<I: Source + Drop, O: Write + Drop, W, E: Write>(
 }
 
 /// Writes the product of parts in files to a new file, which it gives back.
-fn write_new_file<P: Product, F: Folder, E: Write>(
+fn write_new_file<P: Made, F: Folder, E: Write>(
     alloc: Global,
     files: &F,
     product: &P,

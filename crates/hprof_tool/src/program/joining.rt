@@ -10,11 +10,12 @@ ghost use Rattle.hprof_tool.specs.Streams.{RefusesStream, RefusesReport};
 
 use crate::command::OutName;
 use crate::program::folder::Folder;
+use crate::program::made::Made;
 use crate::program::opening::{Started, open_parts, start_file};
 use crate::program::refused::{Refused, Stopped};
 use crate::program::writing::{write_buffered, write_through_buffer};
 use hprof_devices::Source;
-use hprof_engine::{Dump, Product, ToolFault};
+use hprof_engine::{Dump, ToolFault};
 use std::alloc::Global;
 use std::io::Write;
 
@@ -41,7 +42,7 @@ pub(crate) fn join_stream<I: Source + Drop, O: Write + Drop>(
 
 /// Writes the product of parts in files to a new file, which it gives back. It is created once all parts are opened. After a refusal it
 /// is removed; if it cannot be removed, it stays.
-pub(crate) fn write_file<P: Product, F: Folder>(
+pub(crate) fn write_file<P: Made, F: Folder>(
     alloc: Global,
     files: &F,
     product: &P,
@@ -71,7 +72,7 @@ pub(crate) fn write_file<P: Product, F: Folder>(
 }
 
 /// Writes a report on parts in files to a stream, which it gives back.
-pub(crate) fn report_files<P: Product, F: Folder, O: Write + Drop>(
+pub(crate) fn report_files<P: Made, F: Folder, O: Write + Drop>(
     alloc: Global,
     files: &F,
     report: &P,

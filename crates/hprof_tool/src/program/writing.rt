@@ -6,14 +6,14 @@ ghost use Rattle.std.specs.Io.Buffered.{writer_buffer, writer_contents, writer_i
 ghost use Rattle.hprof_devices.specs.declared.health.Health.TheVariants.{Well};
 ghost use Rattle.hprof_engine.specs.Joining.{fault_of, IsBeforeWriting};
 ghost use Rattle.hprof_devices.specs.Device.{inner_of, health_of};
-ghost use Rattle.hprof_engine.specs.Makes.{Makes, making_of};
-ghost use Rattle.hprof_tool.specs.Program.{MakesStream, usual_limits};
+ghost use Rattle.hprof_engine.specs.Makes.{making_of};
+ghost use Rattle.hprof_tool.specs.Program.{MakesStream};
 ghost use Rattle.hprof_tool.specs.Streams.{LeavesStream, StopsStream};
 
+use crate::program::made::Made;
 use crate::program::refused::{Left, Refused, Stopped};
 use hprof_devices::{Device, Source, WriteFault};
-use hprof_engine::{Product, ToolFault, make_to};
-use hprof_stream::Limits;
+use hprof_engine::ToolFault;
 use std::alloc::Global;
 use std::io::{BufWriter, Write};
 use std::mem;
@@ -79,31 +79,8 @@ pub(crate) fn take_apart<T: Drop, W: Write + Drop>(
     }
 }
 
-/// Makes something of the parts of the readers, without the heap, which need not be freed row by row, since the process
-/// ends.
-fn write_product<P: Product, R: Source, W: Write + Drop>(
-    alloc: Global,
-    product: &P,
-    readers: &mut [R],
-    target: &mut Device<BufWriter<W>>,
-) -> Result<(), ToolFault>
-    requires readers { All (λ reader. R.health reader ≡ Well) readers.old }
-    requires writer { health_of target.old ≡ Well }
-    ensures { Makes R.left R.health R.pulls (λ device. writer_contents W.contents (inner_of device)) health_of usual_limits
-        (making_of (P.is_text product.now) (P.refuses product.now) (P.takes_room product.now) (P.takes_memory product.now))
-        readers.old readers.new target.old target.new (fault_of result) }
-{
-    match make_to(alloc, product, readers, target, Limits::usual()) {
-        Ok(heap) => {
-            mem::forget(heap);
-            Ok(())
-        }
-        Err(fault) => Err(fault),
-    }
-}
-
 /// Makes something of the parts of the readers into a buffered writer, and flushes it.
-fn write_and_flush<P: Product, R: Source, W: Write + Drop>(
+fn write_and_flush<P: Made, R: Source, W: Write + Drop>(
     alloc: Global,
     product: &P,
     readers: &mut [R],
@@ -118,12 +95,12 @@ fn write_and_flush<P: Product, R: Source, W: Write + Drop>(
     ensures untouched { IsBeforeWriting (fault_of result.outcome) → result.writer ≡ writer_inner buffered }
 {
     let mut target = Device::new(buffered);
-    let made = write_product(alloc, product, readers, &mut target);
+    let made = product.make(alloc, readers, &mut target);
     take_apart(made, target)
 }
 
 /// Makes something of the parts of the readers into a writer behind an empty buffer, flushes it, and gives the writer back.
-pub(crate) fn write_buffered<P: Product, R: Source, W: Write + Drop>(
+pub(crate) fn write_buffered<P: Made, R: Source, W: Write + Drop>(
     alloc: Global,
     product: &P,
     readers: &mut [R],
@@ -155,7 +132,7 @@ pub(crate) fn write_buffered<P: Product, R: Source, W: Write + Drop>(
 }
 
 /// Makes something of the parts of the readers into a writer, and gives the writer back.
-pub(crate) fn write_through_buffer<P: Product, R: Source, W: Write + Drop>(
+pub(crate) fn write_through_buffer<P: Made, R: Source, W: Write + Drop>(
     alloc: Global,
     product: &P,
     readers: &mut [R],

@@ -13,13 +13,13 @@ returns-clause-makes g c =
     let making = making_of (g.P.Product.is_text c.args.product.now) (g.P.Product.refuses c.args.product.now)
     (g.P.Summaries.takes_room c.args.product.now) (g.P.Product.takes_memory c.args.product.now) in
     let before = c.new-target.result in
-    let after = c.write_product-made.new.target in
+    let after = c.make-made.new.target in
     let end = c.take_apart in
-    let made = c.write_product-made.result in
-    let m = shown g.R.Source.left g.R.Source.health g.R.Source.pulls c.args.readers.now c.write_product-made.new.readers
-    (λ device. contents (inner_of device)) health_of making before after (fault_of made) c.write_product-made.ensures in
+    let made = c.make-made.result in
+    let m = shown g.R.Source.left g.R.Source.health g.R.Source.pulls c.args.readers.now c.make-made.new.readers
+    (λ device. contents (inner_of device)) health_of making before after (fault_of made) c.make-made.ensures in
     let holds = append_known (g.W.Write.contents end.result.writer) end.result.unwritten.items in
-    streamed g.R.Source.left g.R.Source.health g.R.Source.pulls c.args.readers.now c.write_product-made.new.readers making
+    streamed g.R.Source.left g.R.Source.health g.R.Source.pulls c.args.readers.now c.make-made.new.readers making
     (contents (inner_of before)) (contents (inner_of after)) holds (health_of before) (health_of after)
     (contents c.args.buffered) holds made end.result.outcome (ap contents c.new-target.ensures.inner) c.new-target.ensures.health
     refl m end.ensures.failed end.ensures.refused end.ensures.bytes end.ensures.unchanged
@@ -27,7 +27,7 @@ returns-clause-makes g c =
 pub returns-clause-untouched : goal.returns-clause-untouched
 returns-clause-untouched g c = λ none.
     let end = c.take_apart in
-    untouched (writer_inner c.args.buffered) (writer_inner (inner_of c.write_product-made.new.target)) end.result.writer
-    c.write_product-made.result end.result.outcome end.ensures.failed end.ensures.refused end.ensures.untouched
-    (λ made. ap (λ device. writer_inner (inner_of device)) (c.write_product-made.ensures.unwritten made)
+    untouched (writer_inner c.args.buffered) (writer_inner (inner_of c.make-made.new.target)) end.result.writer
+    c.make-made.result end.result.outcome end.ensures.failed end.ensures.refused end.ensures.untouched
+    (λ made. ap (λ device. writer_inner (inner_of device)) (c.make-made.ensures.unwritten made)
     ∙ ap writer_inner c.new-target.ensures.inner) none
