@@ -6,6 +6,7 @@ ghost use Rattle.hprof_engine.specs.Joining.{fault_of};
 ghost use Rattle.hprof_engine.specs.Makes.{Makes};
 ghost use Rattle.hprof_ask.specs.Report.{report_making};
 
+use crate::referring::write_who_once;
 use crate::report::{HeapReport, Kinds, Node, NodeReport, Report};
 use hprof_devices::{Source, Target};
 use hprof_engine::{NoSummaries, ToolFault, read_heap, write_to};
@@ -246,8 +247,8 @@ pub fn show_to<R: Source, W: Target>(
 }
 
 /// Reads all parts, and writes the report `who` on an identifier in their heap: its GC roots, each with its thread, the sums of more than
-/// 20 references, and a line for each reference to it, with names. All parts are read before the first byte is written. If memory runs
-/// out then, the bytes written are the beginning of the report.
+/// 20 references, and a line for each reference to it, with names. References are kept while parts are read. All parts are read before the
+/// first byte is written. If memory runs out then, the bytes written are the beginning of the report.
 pub fn who_to<R: Source, W: Target>(
     alloc: Global,
     readers: &mut [R],
@@ -260,13 +261,15 @@ pub fn who_to<R: Source, W: Target>(
     ensures { Makes R.left R.health R.pulls W.written W.health limits (report_making (Report.Node NodeReport.Who (Node.Identifier id)))
         readers.old readers.new target.old target.new (fault_of result) }
 {
-    report_to(
-        alloc,
-        readers,
-        Report::Node(NodeReport::Who, Node::Identifier(id)),
-        target,
-        limits,
-    )
+    let live = LiveHeap::watching(alloc, id);
+    let (heap, index) = match read_heap(alloc, readers, limits, live, &NoSummaries, &mut ()) {
+        Ok(found) => found,
+        Err(fault) => return Err(fault),
+    };
+    match write_who_once(alloc, &heap, id, index.referrers(id), target) {
+        Ok(()) => Ok(()),
+        Err(stop) => Err(ToolFault::from(stop)),
+    }
 }
 
 /// Reads all parts, and writes the report `why` on an identifier in their heap: the shortest path of strong references from a GC root, with

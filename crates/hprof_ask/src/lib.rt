@@ -14,6 +14,7 @@ pub mod laws;
 mod named;
 mod product;
 mod question;
+mod referring;
 mod report;
 mod report_word;
 mod stop;

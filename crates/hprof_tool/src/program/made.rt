@@ -6,7 +6,7 @@ ghost use Rattle.hprof_engine.specs.Joining.{fault_of};
 ghost use Rattle.hprof_engine.specs.Makes.{Makes, making_of};
 ghost use Rattle.hprof_tool.specs.Program.{usual_limits};
 
-use hprof_ask::{Node, NodeReport, Report, refs_to};
+use hprof_ask::{Node, NodeReport, Report, refs_to, who_to};
 use hprof_devices::{Source, Target};
 use hprof_diff::GrowthReport;
 use hprof_engine::{Dump, Dump101, Product, ToolFault, make_to};
@@ -102,6 +102,9 @@ impl<'a> Made for Report<'a> {
         match *self {
             Report::Node(NodeReport::Refs, Node::Identifier(id)) => {
                 refs_to(alloc, readers, id, target, Limits::usual())
+            }
+            Report::Node(NodeReport::Who, Node::Identifier(id)) => {
+                who_to(alloc, readers, id, target, Limits::usual())
             }
             _ => make_of_heap(alloc, self, readers, target),
         }
