@@ -1,3 +1,5 @@
 pub mod StrongGraph
 pub mod HeapTree
 pub mod SizeFound
+pub mod OneSums
+pub mod OneParent
