@@ -3,3 +3,9 @@ pub mod HeapTree
 pub mod SizeFound
 pub mod OneSums
 pub mod OneParent
+pub mod Deciding
+pub mod StrongDecided
+pub mod HeldOrNot
+pub mod NodeLists
+pub mod SomeSums
+pub mod SomeParent
