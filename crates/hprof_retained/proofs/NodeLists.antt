@@ -1,6 +1,6 @@
 -- If facts agree, the nodes with dumps of which something holds are finitely many, and stand in a list, each once.
 use Rattle.std.specs.Prelude.{◌↔◌, map}
-use Rattle.std.proofs.Common.{◌≡◌, ◌⊎◌, ℕ, List, [], ◌∷◌, Option, Some, None, ◌∙◌, sym, ap, subst, inl, inr}
+use Rattle.std.proofs.Common.{ℕ, List, [], ◌∷◌, Option, Some, None, sym, ap, subst, inl, inr}
 use Rattle.hprof_values.specs.declared.ids.IdSize.{IdSize}
 use Rattle.hprof_items.specs.FactValue.{FactValue}
 use Rattle.hprof_rows.specs.Conflict.{IsConsistent}
@@ -12,7 +12,7 @@ use Rattle.hprof_dominators.specs.Retained.{IsOnce}
 use Rattle.hprof_dominators.specs.Walks as listed
 use Rattle.hprof_dominators.specs.Walks.{IsOn}
 use Rattle.hprof_dominators.proofs.Listed.{same_reached}
-use Rattle.hprof_reach.specs.Reaching.{IsDumped, IsNode, IsStart, IsStepBy}
+use Rattle.hprof_reach.specs.Reaching.{IsDumped, IsStart, IsStepBy}
 use Rattle.hprof_weak.specs.Weak.{IsStrong}
 use Rattle.hprof_retained.specs.Retained.{IsHeld}
 use Rattle.hprof_retained.proofs.Deciding.{Decided}
@@ -102,7 +102,7 @@ dumped_on facts node (inl class) =
 dumped_on facts node (inr object) =
     subst (λ n. IsOn n (map number_of_fact facts)) (ap number_of_key object.2) (fact_on facts object.0 object.1)
 
--- ---- so
+-- ---- the nodes of facts
 
 module _ (ids : IdSize) (facts : List FactValue) (agree : IsConsistent facts) where
   pub nodes_exist : (Holds : ℕ → Type 0) → ((node : ℕ) → Decided (Holds node)) → ((node : ℕ) → Holds node → IsDumped facts node)

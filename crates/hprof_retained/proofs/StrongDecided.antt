@@ -1,16 +1,17 @@
 -- Of facts that agree each edge is weak or strong.
 use Rattle.std.specs.Prelude.{bytes_eq, slice_get}
-use Rattle.std.proofs.Common.{◌≡◌, ◌⊎◌, ℕ, Bool, true, false, List, [], ◌∷◌, Option, Some, None, codes, refl, sym, ap, subst, ◌∙◌, inl, inr}
+use Rattle.std.proofs.Common.{◌≡◌, ℕ, Bool, true, false, List, [], ◌∷◌, Option, Some, None, codes, refl, sym, ap, subst, ◌∙◌, inl, inr}
 use Rattle.std.proofs.lemmas.Bool.{both_ways}
 use Rattle.std.proofs.lemmas.Slice.Eq.{bytes_eq-Decides}
-use Rattle.hprof_items.specs.FactValue.{FactValue, Name, Load, Unload, Frame, Trace, Start, End, Rooted, Class, Instance, ObjArray, PrimArray}
+use Rattle.hprof_items.specs.FactValue.{FactValue, Name, Load, Unload, Frame, Trace, Start, End, Rooted, Class, Instance}
+use Rattle.hprof_items.specs.FactValue.{ObjArray, PrimArray}
 use Rattle.hprof_rows.specs.Conflict.{IsConsistent}
 use Rattle.hprof_rows.specs.Facts.{Has}
 use Rattle.hprof_rows.specs.declared.key.Key.TheVariants as keys
 use Rattle.hprof_heap.specs.ClassName.{NamesClass}
 use Rattle.hprof_heap.specs.Classes.{ClassValue}
 use Rattle.hprof_heap.specs.Names.{HasName}
-use Rattle.hprof_heap.specs.Objects.{HasInstance, IsObject}
+use Rattle.hprof_heap.specs.Objects.{IsObject}
 use Rattle.hprof_heap.proofs.ClassFacts.{OneDumpEach, one_dump_each}
 use Rattle.hprof_heap.proofs.NameFacts as names
 use Rattle.hprof_heap.proofs.ObjectFacts as objects
