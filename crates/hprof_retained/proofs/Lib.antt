@@ -1,3 +1,11 @@
 pub mod StrongGraph
 pub mod HeapTree
 pub mod SizeFound
+pub mod OneSums
+pub mod OneParent
+pub mod Deciding
+pub mod StrongDecided
+pub mod HeldOrNot
+pub mod NodeLists
+pub mod SomeSums
+pub mod SomeParent

@@ -2,6 +2,7 @@
 //! them retains.
 #![tactic(auto)]
 
+pub mod laws;
 mod making;
 mod retained;
 mod sizes;
