@@ -1,0 +1,13 @@
+pub mod Found
+pub mod Held
+pub mod LineParts
+pub mod Told
+pub mod Places
+pub mod Reached
+pub mod Texts
+pub mod SomeChildren
+pub mod SomeDominators
+pub mod TreePlaces
+pub mod PlaceOrder
+pub mod RightBelow
+pub mod WayDown
