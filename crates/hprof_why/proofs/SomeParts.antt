@@ -3,7 +3,7 @@ use Rattle.std.specs.Prelude.{if◌then◌else◌}
 use Rattle.std.proofs.Common.{◌≡◌, ◌≤◌, ◌<◌, ◌-◌, ℕ, ◌+◌, zero, suc, Bool, true, false, List, [], ◌∷◌, ◌++◌, length, refl, sym, ap, subst}
 use Rattle.std.proofs.Common.{◌∙◌, arith, inl, inr}
 use Rattle.std.proofs.lemmas.List.{length-append}
-use Rattle.hprof_numbers.proofs.Places.{splits}
+use Rattle.std.proofs.lemmas.Bool.{cases_lt}
 use Rattle.hprof_why.specs.Folding.{AreParts, IsFront, Link, NoPart, One, OnePart, Part, Stretch, alike_at_front, is_alike, kind_behind}
 use Rattle.hprof_why.specs.Folding.{links_of, run_at_front}
 use Rattle.hprof_why.proofs.Fronting.{first_part, no_parts, same_split}
@@ -44,7 +44,7 @@ cut (suc n) (link ∷ links) below =
 parts_within : (most : ℕ) (kind : List ℕ) (links : List Link) → length links ≤ most → (parts : List Part) × AreParts kind links parts
 parts_within most kind [] below = ([], NoPart kind)
 parts_within zero kind (link ∷ links) below = absurd (omega (arith, below))
-parts_within (suc most) kind (link ∷ links) below = elim (splits (run_at_front kind (link ∷ links)) 4) [
+parts_within (suc most) kind (link ∷ links) below = elim (cases_lt (run_at_front kind (link ∷ links)) 4) [
   | inl few ↦
       let more = parts_within most link.node_kind links (omega (arith, below)) in
       (One link ∷ more.0, OnePart kind (One link) links more.0 (omega (arith, few)) more.1)
