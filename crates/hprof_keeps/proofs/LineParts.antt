@@ -1,13 +1,22 @@
 -- Lines, from the texts that stand in them.
-use Rattle.std.proofs.Common.{◌≡◌, ℕ, List, ◌++◌, ◌∙◌, ap, append_assoc, codes, sym}
+use Rattle.std.proofs.Common.{◌≡◌, ◌≢◌, ℕ, Bool, List, [], ◌++◌, ◌∙◌, ap, append_assoc, codes, sym}
+use Rattle.std.specs.Prelude.{if◌then◌else◌}
 use Rattle.std.specs.Fmt.{decimal}
+use Rattle.std.proofs.lemmas.Bool.{ne_eqb}
 use Rattle.hprof_describe.specs.Findings.{Findings}
 use Rattle.hprof_describe.specs.Nodes.{node_text}
 use Rattle.hprof_retained.specs.Retained.{Sum}
-use Rattle.hprof_keeps.specs.KeepsText.{retained_line, sum_words, total_line}
+use Rattle.hprof_keeps.specs.KeepsText.{retained_line, sum_words, weakly_line}
 
 pub total_parts : (sum : Sum) (end : List ℕ) → decimal sum.bytes ++ (codes " " ++ (decimal sum.objects ++ end)) ≡ sum_words sum ++ end
 total_parts sum end = simp append_assoc
+
+-- of some nodes there is a line
+pub weakly_parts : (sum : Sum) → sum.objects ≢ 0
+    → decimal sum.bytes ++ (codes " " ++ (decimal sum.objects ++ codes " only by weak references\n")) ≡ weakly_line sum
+weakly_parts sum some =
+    total_parts sum (codes " only by weak references\n")
+    ∙ sym (ap (λ (none : Bool). if none then [] else sum_words sum ++ codes " only by weak references\n") (ne_eqb sum.objects 0 some))
 
 regrouped : (front bytes objects node : List ℕ) → front ++ (bytes ++ (codes " " ++ (objects ++ (codes " " ++ (node ++ codes "\n")))))
     ≡ front ++ (bytes ++ codes " " ++ objects ++ codes " " ++ node ++ codes "\n")

@@ -26,6 +26,20 @@ module _ (ids : IdSize) (facts : List FactValue) (node : ℕ) where
     λ reached. absurd (no_walk (IsStart facts) (IsStepBy AnyEdge ids facts) node reached.0 is reached.1),
   )
 
+  -- what has a distance is reached, and the other way round
+  pub reached_if_distance : IsConsistent facts → (yes : Bool)
+      → (IsTrue yes ↔ ((references : ℕ) × IsDistanceFromRoots ids facts node (Some references))) → IsTrue yes ↔ IsReachedByAny
+  reached_if_distance agree yes is = (
+    λ test. let distance = is.0 test in (reached_as (Some distance.0) distance.1).0 refl,
+    λ reached. by some.0 some.1 reached,
+  ) where
+    some : (distance : Option ℕ) × IsDistanceFromRoots ids facts node distance
+    some = some_distance ids facts agree node
+
+    by : (distance : Option ℕ) → IsDistanceFromRoots ids facts node distance → IsReachedByAny → IsTrue yes
+    by (Some references) has reached = is.1 (references, has)
+    by None none reached = let test = (reached_as None none).1 reached in absurd cc
+
   -- it is reached, or it is not
   pub reached_or_not : IsConsistent facts → IsReachedByAny ⊎ (¬ IsReachedByAny)
   reached_or_not agree = go some.0 (reached_as some.0 some.1) where

@@ -10,10 +10,10 @@ use Rattle.hprof_heap.specs.ObjectDump.{IsFoundObject, fact_of_object}
 use Rattle.hprof_reach.specs.Reaching.{IsDumped, IsNode}
 use Rattle.hprof_reports.specs.ObjectText.{nothing_line}
 use Rattle.hprof_describe.specs.Findings.{AreFindings, Findings}
-use Rattle.hprof_retained.specs.Retained.{Sum}
+use Rattle.hprof_retained.specs.Retained.{IsSumOver, Sum}
 use Rattle.hprof_retained.specs.Tree.{IsTreeOf, count_of, node_at, total_of}
 use Rattle.hprof_retained.specs.declared.retained.Retained.{Retained}
-use Rattle.hprof_keeps.specs.KeepsText.{IsHeldText, IsKeepsText, IsNodeText, above_lines, child_lines, total_line}
+use Rattle.hprof_keeps.specs.KeepsText.{IsHeldText, IsKeepsText, IsNodeText, IsRootsText, IsWeaklyHeld, above_lines, child_lines, total_line, weakly_line}
 use Rattle.hprof_keeps.specs.Order.{AreChildren, AreDominators, AreRetained, node_of, retained_in}
 use Rattle.hprof_keeps.specs.Otherwise.{IsDumpedText}
 use Rattle.hprof_keeps.proofs.Held.{are_retained}
@@ -81,3 +81,34 @@ module _ (ids : IdSize) (facts : List FactValue) (agree : IsConsistent facts) (f
     | inl held ↦ inl (node, held)
     | inr otherwise ↦ inr (elim otherwise [ inl weakly ↦ inl (node, weakly.0, weakly.1) | inr none ↦ inr (node, none.0, none.1) ])
   ]))
+
+-- ---- the roots together
+
+module _ (ids : IdSize) (facts : List FactValue) (found : Findings) (retained : Retained) (tree : IsTreeOf ids facts retained) where
+  abbrev pub roots_text : Sum → List ℕ → List ℕ
+  roots_text weakly children =
+      total_line (total_of retained) ++ (weakly_line weakly ++ child_lines found (retained_in retained) children)
+
+  pub are_roots_text : (weakly : Sum) (children : List ℕ) → IsSumOver ids facts (IsWeaklyHeld ids facts) weakly
+      → AreChildren ids facts (retained_in retained) None children
+      → IsRootsText ids facts found (retained_in retained) (roots_text weakly children)
+  are_roots_text weakly children are_weakly are_children = record {
+    total = total_of retained;
+    is_total = tree.total;
+    weakly = weakly;
+    are_weakly = are_weakly;
+    children = children;
+    are_children = are_children;
+    is = sym (append_assoc (total_line (total_of retained)) (weakly_line weakly) (child_lines found (retained_in retained) children));
+  }
+
+  pub keeps_roots : IsConsistent facts → AreFindings ids facts found → (id : ℕ) → id ≡ 0 → (text : List ℕ)
+      → IsRootsText ids facts found (retained_in retained) text → IsKeepsText ids facts id text
+  keeps_roots agree are id none text is = record {
+    agree = agree;
+    found = found;
+    are_found = are;
+    retained = retained_in retained;
+    are_retained = are_retained ids facts retained tree;
+    is = inl (none, is);
+  }

@@ -6,8 +6,9 @@ mod dominators;
 mod keeps;
 mod lines;
 mod nodes;
+mod sizes;
 mod weakly;
 
 pub use children::children_of;
 pub use dominators::dominators_of;
-pub use keeps::write_keeps_of_node;
+pub use keeps::write_keeps;

@@ -5,9 +5,11 @@ ghost use Rattle.hprof_heap.specs.HeapFacts.{facts_of, size_of};
 ghost use Rattle.hprof_naming.specs.ClassNames.{AreClassNames};
 ghost use Rattle.hprof_describe.specs.Findings.{AreFindings, Findings};
 ghost use Rattle.hprof_retained.specs.Tree.{IsTreeOf, count_of, node_at, total_of};
-ghost use Rattle.hprof_keeps.specs.KeepsText.{retained_line, total_line};
+ghost use Rattle.hprof_keeps.specs.KeepsText.{retained_line, total_line, weakly_line};
 ghost use Rattle.hprof_keeps.specs.Order.{retained_in};
+ghost use Rattle.hprof_keeps.specs.WeakSum.{sum_of};
 
+use crate::weakly::WeakSum;
 use hprof_describe::node_text;
 use hprof_heap::Heap;
 use hprof_naming::ClassNames;
@@ -45,4 +47,17 @@ pub(crate) fn node_line(
     let bytes = retained.bytes(place);
     let objects = retained.objects(place);
     format!(in alloc; "{front}{bytes} {objects} {node}\n")
+}
+
+/// Returns the line of the nodes that only weak references reach, or an empty text if there are none. If memory runs out, the answer is
+/// `AllocError`.
+pub(crate) fn weakly_line(alloc: Global, sum: &WeakSum) -> Result<String, AllocError>
+    ensures { IfOk result (λ line. string_bytes line ≡ weakly_line (sum_of sum.now)) }
+{
+    let bytes = sum.bytes;
+    let objects = sum.objects;
+    if objects == 0 {
+        return Ok(String::new(alloc));
+    }
+    format!(in alloc; "{bytes} {objects} only by weak references\n")
 }

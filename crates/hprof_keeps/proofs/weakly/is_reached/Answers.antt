@@ -1,9 +1,5 @@
-use Rattle.std.specs.Prelude.{◌↔◌, IsTrue}
-use Rattle.std.proofs.Common.{Bool, sym, subst}
-use Rattle.hprof_keeps.proofs.Reached.{IsReachedByAny, reached_as}
+use Rattle.hprof_keeps.proofs.Reached.{reached_if_distance}
 use Rattle.hprof_keeps.proofs.weakly.is_reached.Goals as goal
 
 pub returns : goal.returns
-returns c = λ ids facts is.
-    subst (λ (yes : Bool). IsTrue yes ↔ IsReachedByAny ids facts c.args.node) (sym c.is_some.ensures)
-    (reached_as ids facts c.args.node c.distance.result (c.distance.ensures ids facts is))
+returns c = λ ids facts agree is. reached_if_distance ids facts c.args.node agree c.is_reached.result (c.is_reached.ensures ids facts is)

@@ -8,8 +8,8 @@ pub returns-in-Some-clause-reached : goal.returns-in-Some-clause-reached
 returns-in-Some-clause-reached c =
     let ids = size_of c.args.heap.now in
     let facts = facts_of c.args.heap.now in
-    c.is_reached.ensures ids facts (subst (λ all. IfSome all (IsReach ids facts)) c.in-Some.is c.requires)
+    c.is_reached.ensures ids facts c.holds_of_heap.ensures.agree (subst (λ all. IfSome all (IsReach ids facts)) c.in-Some.is c.requires)
 
 pub returns-clause-reached : goal.returns-clause-reached
 returns-clause-reached c =
-    c.is_reached-reached.ensures (size_of c.args.heap.now) (facts_of c.args.heap.now) c.in_ok-reach.ensures
+    c.is_reached-reached.ensures (size_of c.args.heap.now) (facts_of c.args.heap.now) c.holds_of_heap.ensures.agree c.in_ok-reach.ensures
