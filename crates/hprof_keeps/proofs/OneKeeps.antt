@@ -1,25 +1,21 @@
 -- If facts agree, the report `keeps` is one text.
 use Rattle.std.specs.List.{AllByRecursion, flat_map}
 use Rattle.std.specs.List.Sorted.{IsStrictlySortedBy}
-use Rattle.std.specs.Prelude.{◌↔◌, AllPairs, Contains}
+use Rattle.std.specs.Prelude.{AllPairs}
 use Rattle.std.specs.declared.cmp.Ordering.TheVariants.{Less}
-use Rattle.std.proofs.Common.{◌≡◌, ◌≢◌, ◌⊎◌, ◌<◌, ◌∙◌, ℕ, zero, suc, List, [], ◌∷◌, ◌++◌, Option, Some, None, length, get_or, codes, refl, sym, ap, subst, inl, inr, arith}
+use Rattle.std.proofs.Common.{◌≡◌, ◌≢◌, ◌⊎◌, ◌∙◌, ℕ, suc, List, [], ◌∷◌, ◌++◌, Option, Some, None, codes, refl, sym, ap, subst, inl, inr, arith}
 use Rattle.hprof_values.specs.declared.ids.IdSize.{IdSize}
 use Rattle.hprof_items.specs.FactValue.{FactValue}
 use Rattle.hprof_rows.specs.Conflict.{IsConsistent}
-use Rattle.hprof_edges.specs.declared.edge.Edge.{Edge}
-use Rattle.hprof_edges.specs.Edges.{AnyEdge}
-use Rattle.hprof_search.specs.Walks.{IsWalk}
-use Rattle.hprof_reach.specs.Reaching.{IsNode, IsStart, IsStepBy}
+use Rattle.hprof_reach.specs.Reaching.{IsStart, IsStepBy}
 use Rattle.hprof_weak.specs.Weak.{IsStrong}
-use Rattle.hprof_dominators.specs.Dominating as over
 use Rattle.hprof_dominators.proofs.Listed.{dominator_reached, same_dominates}
 use Rattle.hprof_dominators.proofs.Walking.{dominate_each_other}
-use Rattle.hprof_describe.specs.Findings.{AreFindings, Findings}
+use Rattle.hprof_describe.specs.Findings.{Findings}
 use Rattle.hprof_describe.specs.Nodes.{node_text}
 use Rattle.hprof_describe.proofs.OneFinding.{one_findings}
 use Rattle.hprof_histogram.proofs.Members.{IsIn, Contains-from_in, in_from_Contains, one_sorted}
-use Rattle.hprof_retained.specs.Retained.{Dominates, HasParent, IsHeld, Sum}
+use Rattle.hprof_retained.specs.Retained.{Dominates, IsHeld, Sum}
 use Rattle.hprof_retained.proofs.OneSums.{one_sum}
 use Rattle.hprof_keeps.specs.KeepsText.{IsHeldText, IsKeepsText, IsNodeText, IsNotReached, IsRootsText, IsWeaklyHeld}
 use Rattle.hprof_keeps.specs.KeepsText.{above_lines, child_lines, retained_line, sum_words, total_line, weakly_line}
@@ -131,7 +127,8 @@ module _ (retained other : ℕ → Sum) where
   unfolding IsStrictlySortedBy
   ordered_too [] same sorted = tt
   ordered_too (x ∷ xs) same sorted =
-      (after_too x xs (same x (inl refl)) (λ node has. same node (inr has)) sorted.0, ordered_too xs (λ node has. same node (inr has)) sorted.1)
+      let later = λ (node : ℕ) (has : IsIn node xs). same node (inr has) in
+      (after_too x xs (same x (inl refl)) later sorted.0, ordered_too xs later sorted.1)
 
   module _ (found : Findings) where
     line_too : (node : ℕ) → retained node ≡ other node → retained_line found retained node ≡ retained_line found other node
@@ -139,7 +136,8 @@ module _ (retained other : ℕ → Sum) where
     line_too node same = ap (λ (s : Sum). sum_words s ++ codes " " ++ node_text found node ++ codes "\n") same
 
     lines_too : (front : List ℕ) (nodes : List ℕ) → ((node : ℕ) → IsIn node nodes → retained node ≡ other node)
-        → flat_map (λ node. front ++ retained_line found retained node) nodes ≡ flat_map (λ node. front ++ retained_line found other node) nodes
+        → flat_map (λ node. front ++ retained_line found retained node) nodes
+        ≡ flat_map (λ node. front ++ retained_line found other node) nodes
     lines_too front [] same = refl
     lines_too front (node ∷ nodes) same =
         let first = line_too node (same node (inl refl)) in

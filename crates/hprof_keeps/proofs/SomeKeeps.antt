@@ -1,6 +1,6 @@
 -- If facts agree, there is a report `keeps` of each identifier.
-use Rattle.std.specs.Prelude.{◌↔◌, AllPairs, Contains}
-use Rattle.std.proofs.Common.{◌≡◌, ◌≢◌, ◌⊎◌, ◌<◌, ◌∙◌, ℕ, zero, suc, List, [], ◌∷◌, ◌++◌, Option, Some, None, length, get_or, codes, refl, sym, ap, subst, inl, inr, arith}
+use Rattle.std.specs.Prelude.{AllPairs}
+use Rattle.std.proofs.Common.{◌≡◌, ◌≢◌, ◌⊎◌, ◌<◌, ℕ, zero, suc, List, [], ◌∷◌, ◌++◌, Option, Some, None, length, get_or, codes, refl, sym, ap, subst, inl, inr, arith}
 use Rattle.std.proofs.lemmas.Bool.{cases_eq}
 use Rattle.hprof_values.specs.declared.ids.IdSize.{IdSize}
 use Rattle.hprof_items.specs.FactValue.{FactValue}
@@ -10,7 +10,7 @@ use Rattle.hprof_heap.specs.Found.{IsClassFound, IsObjectFound}
 use Rattle.hprof_text.specs.Identifier.{id_digits}
 use Rattle.hprof_edges.specs.Edges.{AnyEdge}
 use Rattle.hprof_naming.proofs.Lookups.{class_exists, object_exists}
-use Rattle.hprof_reach.specs.Reaching.{IsDumped, IsNode, IsStart, IsStepBy}
+use Rattle.hprof_reach.specs.Reaching.{IsDumped, IsStart, IsStepBy}
 use Rattle.hprof_weak.specs.Weak.{IsStrong}
 use Rattle.hprof_dominators.specs.Retained.{IsOnce}
 use Rattle.hprof_dominators.specs.Walks as listed
@@ -24,7 +24,7 @@ use Rattle.hprof_histogram.proofs.Members.{IsIn, Contains-from_in, in_from_Conta
 use Rattle.hprof_retained.specs.Retained.{Dominates, HasParent, IsHeld, IsSumOver, Sum}
 use Rattle.hprof_retained.proofs.Deciding.{Decided, both_decided, not_decided}
 use Rattle.hprof_retained.proofs.HeldOrNot.{dominates_or_not, held_or_not}
-use Rattle.hprof_retained.proofs.NodeLists.{IsListOf, held_dumped, nodes_exist}
+use Rattle.hprof_retained.proofs.NodeLists.{held_dumped, nodes_exist}
 use Rattle.hprof_retained.proofs.OneParent.{one_parent}
 use Rattle.hprof_retained.proofs.SomeParent.{parent_exists}
 use Rattle.hprof_retained.proofs.SomeSums.{retained_exists, sum_exists, total_exists}
@@ -304,15 +304,21 @@ module _ (ids : IdSize) (facts : List FactValue) (agree : IsConsistent facts) wh
 
   made : (found : Findings) → AreFindings ids facts found → (id : ℕ) → (text : List ℕ) × IsKeepsText ids facts id text
   made found are id = elim (cases_eq id 0) [
-    | inl is_zero ↦ let text = roots_exist found in (
-      text.0,
-      record { agree = agree; found = found; are_found = are; retained = retained; are_retained = are_retained; is = inl (is_zero, text.1) },
-    )
-    | inr some ↦ let text = node_exists found id some in (
-      text.0,
-      record { agree = agree; found = found; are_found = are; retained = retained; are_retained = are_retained; is = inr (some, text.1) },
-    )
-  ]
+    | inl is_zero ↦ let text = roots_exist found in (text.0, told text.0 (inl (is_zero, text.1)))
+    | inr some ↦ let text = node_exists found id some in (text.0, told text.0 (inr (some, text.1)))
+  ] where
+    told : (text : List ℕ)
+        → ((id ≡ 0) × IsRootsText ids facts found retained text) ⊎ ((id ≢ 0) × IsNodeText ids facts found retained id text)
+        → IsKeepsText ids facts id text
+    told text is = record {
+      agree = agree;
+      found = found;
+      are_found = are;
+      retained = retained;
+      are_retained = are_retained;
+      is = is;
+    }
 
-pub keeps_exists : (ids : IdSize) (facts : List FactValue) → IsConsistent facts → (id : ℕ) → (text : List ℕ) × IsKeepsText ids facts id text
+pub keeps_exists : (ids : IdSize) (facts : List FactValue) → IsConsistent facts → (id : ℕ)
+    → (text : List ℕ) × IsKeepsText ids facts id text
 keeps_exists ids facts agree id = let found = findings_exist ids facts agree in made ids facts agree found.0 found.1 id
