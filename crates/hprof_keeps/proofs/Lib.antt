@@ -14,3 +14,5 @@ pub mod TreePlaces
 pub mod PlaceOrder
 pub mod RightBelow
 pub mod WayDown
+pub mod OneKeeps
+pub mod SomeKeeps

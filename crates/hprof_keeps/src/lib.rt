@@ -4,6 +4,7 @@
 mod children;
 mod dominators;
 mod keeps;
+pub mod laws;
 mod lines;
 mod nodes;
 mod sizes;
