@@ -14,7 +14,7 @@ use Rattle.hprof_reports.specs.OneText.{one_text_line}
 use Rattle.hprof_show.proofs.OneReport.{one_show_text}
 use Rattle.hprof_holders.proofs.SomeThreads.{text_once as threads_once}
 use Rattle.hprof_holders.proofs.SomeWho.{who_once}
-use Rattle.hprof_keeps.specs.OneKeeps.{keeps_once}
+use Rattle.hprof_keeps.proofs.OneKeeps.{keeps_once}
 use Rattle.hprof_why.proofs.OneText.{why_once}
 use Rattle.hprof_meaning.specs.MeantClasses.{IsMeantClass, IsMeantDump}
 use Rattle.hprof_meaning.specs.ObjectsOfText.{IsObjectsOfText}

@@ -28,7 +28,7 @@ use Rattle.hprof_reports.proofs.ClassLists.{some_dumps}
 use Rattle.hprof_show.proofs.OneReport.{some_show}
 use Rattle.hprof_holders.proofs.SomeThreads.{text_exists as some_threads}
 use Rattle.hprof_holders.proofs.SomeWho.{who_exists}
-use Rattle.hprof_keeps.specs.SomeKeeps.{keeps_exists}
+use Rattle.hprof_keeps.proofs.SomeKeeps.{keeps_exists}
 use Rattle.hprof_why.proofs.SomeText.{why_exists}
 use Rattle.hprof_naming.specs.MeantLabel.{meant_label, slashed}
 use Rattle.hprof_meaning.specs.MeantClasses.{AreMeantClasses, AreMeantDumps}

@@ -7,7 +7,6 @@ mod keeps;
 pub mod laws;
 mod lines;
 mod nodes;
-mod sizes;
 mod weakly;
 
 pub use children::children_of;

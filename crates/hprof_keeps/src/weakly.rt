@@ -14,10 +14,9 @@ ghost use Rattle.hprof_retained.specs.Tree.{IsTreeOf};
 ghost use Rattle.hprof_keeps.specs.KeepsText.{IsWeaklyHeld};
 ghost use Rattle.hprof_keeps.specs.WeakSum.{sum_of};
 
-use crate::sizes::size_of_node;
 use hprof_heap::{Finger, Heap, holds_of_heap};
 use hprof_reach::{Reach, nodes_of, reach_of};
-use hprof_retained::Retained;
+use hprof_retained::{Retained, size_of_node};
 use std::alloc::{AllocError, Global};
 
 /// Returns whether a search by all references reached a node.
