@@ -42,7 +42,10 @@ fn write_nodes<W: Target>(
     ensures health { LeavesTarget result (W.health target.new) }
 {
     for place in places {
-        write_line(node_line(alloc, heap, classes, retained, front, *place), target)?;
+        write_line(
+            node_line(alloc, heap, classes, retained, front, *place),
+            target,
+        )?;
     }
     Ok(())
 }

@@ -48,6 +48,8 @@ returns c =
     all_taken ids facts (IsWeaklyHeld ids facts) (Taken nodes c.loop-node.node-index) c.loop-node.bytes c.loop-node.objects
     c.loop-node.invariant.so
     (λ node weakly.
-    let there = (c.requires.nodes node).1 (reached_node ids facts node weakly.0) in
-    (there.0, (let low = there.1 in omega (arith, low, c.loop-node-test.false, c.loop-node.auto.node-index-end)),
-        sym (get_or_default_zero nodes there.0 node there.1) ∙ there.2))
+    let there = (c.requires.nodes node).1 (reached_node ids facts node weakly.0) in (
+      there.0,
+      (let low = there.1 in omega (arith, low, c.loop-node-test.false, c.loop-node.auto.node-index-end)),
+      sym (get_or_default_zero nodes there.0 node there.1) ∙ there.2,
+    ))
