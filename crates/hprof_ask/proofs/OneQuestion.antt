@@ -93,7 +93,10 @@ differs = of_each Differs (
                 (refl, refl, refl, refl, refl, refl),
                 (
                   (refl, refl, refl, refl, refl, refl),
-                  ((refl, refl, refl, refl, refl, refl), ((refl, refl, refl, refl, refl, refl), ((refl, refl, refl, refl, refl, refl), tt))),
+                  (
+                    (refl, refl, refl, refl, refl, refl),
+                    ((refl, refl, refl, refl, refl, refl), ((refl, refl, refl, refl, refl, refl), ((refl, refl, refl, refl, refl, refl), tt))),
+                  ),
                 ),
               ),
             ),

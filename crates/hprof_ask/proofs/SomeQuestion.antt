@@ -135,6 +135,7 @@ module _ (text : List ℕ) where
   named (words.Node nodes.Show) = of_name nodes.Show refl
   named (words.Node nodes.Why) = of_name nodes.Why refl
   named (words.Node nodes.Who) = of_name nodes.Who refl
+  named (words.Node nodes.Keeps) = of_name nodes.Keeps refl
   named (words.Node nodes.Text) = of_identifier nodes.Text refl
   named (words.Node nodes.Object) = of_identifier nodes.Object refl
   named (words.Node nodes.Refs) = of_identifier nodes.Refs refl

@@ -14,6 +14,7 @@ use Rattle.hprof_reports.specs.OneText.{one_text_line}
 use Rattle.hprof_show.proofs.OneReport.{one_show_text}
 use Rattle.hprof_holders.proofs.SomeThreads.{text_once as threads_once}
 use Rattle.hprof_holders.proofs.SomeWho.{who_once}
+use Rattle.hprof_keeps.proofs.OneKeeps.{keeps_once}
 use Rattle.hprof_why.proofs.OneText.{why_once}
 use Rattle.hprof_meaning.specs.MeantClasses.{IsMeantClass, IsMeantDump}
 use Rattle.hprof_meaning.specs.ObjectsOfText.{IsObjectsOfText}
@@ -42,6 +43,7 @@ module _ (summaries : List PartSummary) (ids : IdSize) (facts : List FactValue) 
   one_node_report nodes.Show id = one_show_text ids facts id
   one_node_report nodes.Why id = why_once ids facts id
   one_node_report nodes.Who id = λ one other are too. who_once ids facts are.agree id one other are too
+  one_node_report nodes.Keeps id = λ one other are too. keeps_once ids facts are.agree id one other are too
   one_node_report nodes.Text id = one_text_line ids facts id
   one_node_report nodes.Object id = one_object ids facts id
   one_node_report nodes.Refs id = one_refs ids facts id

@@ -22,6 +22,7 @@ use Rattle.hprof_reports.specs.TextReport.{IsTextLine}
 use Rattle.hprof_show.specs.ShowText.{IsShowText}
 use Rattle.hprof_holders.specs.ThreadsText.{IsThreadsText}
 use Rattle.hprof_holders.specs.WhoText.{IsWhoText}
+use Rattle.hprof_keeps.specs.KeepsText.{IsKeepsText}
 use Rattle.hprof_why.specs.WhyText.{IsWhyText}
 use Rattle.hprof_ask.specs.declared.report.HeapReport.{HeapReport}
 use Rattle.hprof_ask.specs.declared.report.HeapReport.TheVariants as heaps
@@ -44,6 +45,7 @@ abbrev pub IsNodeReport : IdSize → List FactValue → NodeReport → ℕ → L
 IsNodeReport ids facts nodes.Show id text = IsShowText ids facts id text
 IsNodeReport ids facts nodes.Why id text = IsWhyText ids facts id text
 IsNodeReport ids facts nodes.Who id text = IsWhoText ids facts id text
+IsNodeReport ids facts nodes.Keeps id text = IsKeepsText ids facts id text
 IsNodeReport ids facts nodes.Text id text = IsTextLine ids facts id text
 IsNodeReport ids facts nodes.Object id text = IsObjectText ids facts id text
 IsNodeReport ids facts nodes.Refs id text = IsRefsText ids facts id text

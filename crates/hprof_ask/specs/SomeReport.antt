@@ -28,6 +28,7 @@ use Rattle.hprof_reports.proofs.ClassLists.{some_dumps}
 use Rattle.hprof_show.proofs.OneReport.{some_show}
 use Rattle.hprof_holders.proofs.SomeThreads.{text_exists as some_threads}
 use Rattle.hprof_holders.proofs.SomeWho.{who_exists}
+use Rattle.hprof_keeps.proofs.SomeKeeps.{keeps_exists}
 use Rattle.hprof_why.proofs.SomeText.{why_exists}
 use Rattle.hprof_naming.specs.MeantLabel.{meant_label, slashed}
 use Rattle.hprof_meaning.specs.MeantClasses.{AreMeantClasses, AreMeantDumps}
@@ -123,6 +124,7 @@ module _ (ids : IdSize) (facts : List FactValue) (agree : IsConsistent facts) wh
   some_node_report nodes.Show id = some_show ids facts id agree
   some_node_report nodes.Why id = why_exists ids facts agree id
   some_node_report nodes.Who id = who_exists ids facts agree id
+  some_node_report nodes.Keeps id = keeps_exists ids facts agree id
   some_node_report nodes.Text id = some_text id
   some_node_report nodes.Object id = some_object id
   some_node_report nodes.Refs id = some_refs id

@@ -22,16 +22,18 @@ abbrev pub node_word : NodeReport → List ℕ
 node_word nodes.Show = codes "show"
 node_word nodes.Why = codes "why"
 node_word nodes.Who = codes "who"
+node_word nodes.Keeps = codes "keeps"
 node_word nodes.Text = codes "text"
 node_word nodes.Object = codes "object"
 node_word nodes.Refs = codes "refs"
 node_word nodes.Path = codes "path"
 
--- what follows these words: `show`, `why` and `who` take the name of a class, too
+-- what follows these words: `show`, `why`, `who` and `keeps` take the name of a class, too
 abbrev pub node_follows : NodeReport → Follows
 node_follows nodes.Show = follow.ClassOrObject
 node_follows nodes.Why = follow.ClassOrObject
 node_follows nodes.Who = follow.ClassOrObject
+node_follows nodes.Keeps = follow.ClassOrObject
 node_follows other = follow.Identifier
 
 abbrev pub word_of : ReportWord → List ℕ
@@ -48,8 +50,8 @@ follows_of (words.Node report) = node_follows report
 abbrev pub all_words : List ReportWord
 all_words =
     words.Heap heaps.Check ∷ words.Heap heaps.Histogram ∷ words.Heap heaps.Classes ∷ words.Heap heaps.Threads ∷ words.Objects
-    ∷ words.Node nodes.Show ∷ words.Node nodes.Why ∷ words.Node nodes.Who ∷ words.Node nodes.Text ∷ words.Node nodes.Object
-    ∷ words.Node nodes.Refs ∷ words.Node nodes.Path ∷ []
+    ∷ words.Node nodes.Show ∷ words.Node nodes.Why ∷ words.Node nodes.Who ∷ words.Node nodes.Keeps ∷ words.Node nodes.Text
+    ∷ words.Node nodes.Object ∷ words.Node nodes.Refs ∷ words.Node nodes.Path ∷ []
 
 -- ---- help
 

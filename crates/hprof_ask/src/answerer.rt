@@ -14,6 +14,7 @@ ghost use Rattle.hprof_edges.specs.Edges.{AreReferrers};
 ghost use Rattle.hprof_show.specs.ShowText.{IsShowText};
 ghost use Rattle.hprof_holders.specs.ThreadsText.{IsThreadsText};
 ghost use Rattle.hprof_holders.specs.WhoText.{IsWhoText};
+ghost use Rattle.hprof_keeps.specs.KeepsText.{IsKeepsText};
 ghost use Rattle.hprof_why.specs.WhyText.{IsWhyText};
 ghost use Rattle.hprof_ask.specs.Kept.{IsKept};
 ghost use Rattle.hprof_ask.specs.Report.{IsHeapReport, IsNodeReport, IsReport, RefusesReport, TakesMemory};
@@ -26,6 +27,7 @@ use hprof_edges::{Edge, referrers};
 use hprof_engine::WriteStop;
 use hprof_heap::{Heap, holds_of_heap};
 use hprof_holders::{write_threads, write_who};
+use hprof_keeps::write_keeps;
 use hprof_reports::{
     write_check, write_classes, write_histogram, write_object, write_objects, write_path,
     write_refs, write_text,
@@ -245,6 +247,38 @@ impl<'a> Answerer<'a> {
         outcome
     }
 
+    /// Writes the report `keeps` on an identifier.
+    fn write_keeps<W: Target>(
+        &self,
+        alloc: Global,
+        kept: &mut Kept,
+        id: u64,
+        target: &mut W,
+    ) -> Result<(), WriteStop>
+        requires well { W.health target.old ≡ Well }
+        requires kept { IsKept (size_of self.now.heap.now) (facts_of self.now.heap.now) kept.old }
+        ensures bytes { (text : List ℕ) × IsKeepsText (size_of self.now.heap.now) (facts_of self.now.heap.now) id text
+            × WritesText (W.written target.old) (W.written target.new) result text }
+        ensures health { LeavesTarget result (W.health target.new) }
+        ensures kept { IsKept (size_of self.now.heap.now) (facts_of self.now.heap.now) kept.new }
+    {
+        holds_of_heap(self.heap);
+        let survey = kept_or_made(alloc, self.heap, kept.survey.take())?;
+        let retained = kept_or_made(alloc, self.heap, kept.retained.take())?;
+        let outcome = write_keeps(
+            alloc,
+            self.heap,
+            &survey.classes,
+            &retained,
+            &mut kept.reach,
+            id,
+            target,
+        );
+        kept.survey = Some(survey);
+        kept.retained = Some(retained);
+        outcome
+    }
+
     /// Writes the report `why` on an identifier, from the searches that are kept.
     fn write_why<W: Target>(
         &self,
@@ -316,6 +350,7 @@ impl<'a> Answerer<'a> {
             NodeReport::Show => self.write_show(alloc, kept, id, target),
             NodeReport::Why => self.write_why(alloc, kept, id, target),
             NodeReport::Who => self.write_who(alloc, kept, id, target),
+            NodeReport::Keeps => self.write_keeps(alloc, kept, id, target),
             NodeReport::Text => write_text(alloc, self.heap, id, target),
             NodeReport::Object => write_object(alloc, self.heap, id, target),
             NodeReport::Refs => self.write_refs(alloc, kept, id, target),

@@ -272,6 +272,31 @@ pub fn who_to<R: Source, W: Target>(
     }
 }
 
+/// Reads all parts, and writes the report `keeps` on an identifier in their heap: what the roots hold together, the nodes that keep it alive,
+/// from the outermost, and those that it keeps alive right below it, each with the bytes and the objects that it retains; or that only weak
+/// references lead there, or that no root reaches it. All parts are read before the first byte is written. If memory runs out then, the
+/// bytes written are the beginning of the report.
+pub fn keeps_to<R: Source, W: Target>(
+    alloc: Global,
+    readers: &mut [R],
+    id: u64,
+    target: &mut W,
+    limits: Limits,
+) -> Result<(), ToolFault>
+    requires readers { All (λ reader. R.health reader ≡ Well) readers.old }
+    requires writer { W.health target.old ≡ Well }
+    ensures { Makes R.left R.health R.pulls W.written W.health limits (report_making (Report.Node NodeReport.Keeps (Node.Identifier id)))
+        readers.old readers.new target.old target.new (fault_of result) }
+{
+    report_to(
+        alloc,
+        readers,
+        Report::Node(NodeReport::Keeps, Node::Identifier(id)),
+        target,
+        limits,
+    )
+}
+
 /// Reads all parts, and writes the report `why` on an identifier in their heap: the shortest path of strong references from a GC root, with
 /// the roots, the threads, the names of classes and the references, folded where many are alike; or that only weak references lead there,
 /// and the path by all; or that no root reaches it. All parts are read before the first byte is written. If memory runs out then, the bytes

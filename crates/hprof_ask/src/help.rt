@@ -258,3 +258,26 @@ classes have it, they are listed. Two dumps of one process are two heaps: ask
 each alone.
 
 Exit status: 0 done, 1 refused (one line on standard error), 2 not understood.";
+
+pub(crate) const KEEPS: &str = "\
+First the bytes and the number of all classes and objects that strong references
+reach from a GC root. Then a line for each node that keeps ID alive, from the
+outermost down to ID: if one of them goes, so does ID. Below ID, behind two
+spaces, what ID keeps alive itself, the largest first. Each line has the bytes
+and the number of the classes and objects that would go without it, its
+identifier and its class.
+
+    $ hprof keeps 740000850 friday.hprof | sed -n 6,9p
+    1066 60 740000e58 java/util/ArrayList
+    1050 59 740000df8 [Ljava/lang/Object;
+    135 8 740000850 shop/Session
+      45 1 740000810 byte[]
+
+ID 0 stands for the roots together: what no other node keeps alive alone. If only
+weak, soft or phantom references reach ID, the line is `only by weak references`;
+if none do, `not reached`; if the dump has no such class or object, `nothing at
+ID`. A class counts 0 bytes; headers and padding of objects do not count. ID is
+hexadecimal, without 0x or @, or else the name of a class, as shop.Session or
+shop.Session[]; if several classes have it, they are listed.
+
+Exit status: 0 done, 1 refused (one line on standard error), 2 not understood.";

@@ -10,6 +10,8 @@ use hprof_devices::Device;
 use hprof_heap::Heap;
 use hprof_reach::{Reach, ReferrerIndex, index_referrers, reach_of};
 use hprof_reports::{write_classes, write_histogram};
+use hprof_retained::{Retained, retained_of};
+use hprof_weak::weak_fields;
 use std::alloc::{AllocError, Global};
 
 /// A value that is made of a heap, at the first report that wants it, and may be kept for others.
@@ -48,6 +50,18 @@ impl OfHeap for Reach {
 
     fn make(alloc: Global, heap: &Heap) -> Result<Reach, AllocError> {
         reach_of(alloc, heap)
+    }
+}
+
+/// Without weak references.
+impl OfHeap for Retained {
+    ghost use Rattle.hprof_retained.specs.Tree.{IsTreeOf};
+
+    ghost is_of = { IsTreeOf };
+
+    fn make(alloc: Global, heap: &Heap) -> Result<Retained, AllocError> {
+        let weak = weak_fields(alloc, heap)?;
+        retained_of(alloc, heap, &weak)
     }
 }
 
@@ -118,6 +132,8 @@ pub struct Kept {
     pub(crate) survey: Option<Survey>,
     /// What is made for reports that tell strong references from weak ones.
     pub(crate) references: Option<References>,
+    /// What each node retains.
+    pub(crate) retained: Option<Retained>,
     /// The index of referrers.
     pub(crate) referrers: Option<ReferrerIndex>,
     /// The text of the class histogram.
@@ -138,6 +154,7 @@ impl Kept {
             reach: None,
             survey: None,
             references: None,
+            retained: None,
             referrers: None,
             histogram: None,
             classes: None,

@@ -24,6 +24,8 @@ pub enum NodeReport {
     Why,
     /// `who`: its GC roots, and each reference to it, with names.
     Who,
+    /// `keeps`: what keeps it alive, and what it keeps alive itself.
+    Keeps,
     /// `text`: the text of a string, or of an array of chars or bytes.
     Text,
     /// `object`: the contents of a class and an object.

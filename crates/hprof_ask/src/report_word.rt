@@ -46,7 +46,7 @@ pub struct ReportRow {
 }
 
 /// All reports, in the order in which the dialogue's help lists them.
-pub(crate) const ALL: [ReportWord; 12] = [
+pub(crate) const ALL: [ReportWord; 13] = [
     ReportWord::Heap(HeapReport::Check),
     ReportWord::Heap(HeapReport::Histogram),
     ReportWord::Heap(HeapReport::Classes),
@@ -55,6 +55,7 @@ pub(crate) const ALL: [ReportWord; 12] = [
     ReportWord::Node(NodeReport::Show),
     ReportWord::Node(NodeReport::Why),
     ReportWord::Node(NodeReport::Who),
+    ReportWord::Node(NodeReport::Keeps),
     ReportWord::Node(NodeReport::Text),
     ReportWord::Node(NodeReport::Object),
     ReportWord::Node(NodeReport::Refs),
@@ -117,6 +118,12 @@ fn node_row(report: NodeReport) -> ReportRow
             follows: Follows::ClassOrObject,
             about: "Prints each reference to a class or an object, and its roots, with names",
             help: help::WHO,
+        },
+        NodeReport::Keeps => ReportRow {
+            word: "keeps",
+            follows: Follows::ClassOrObject,
+            about: "Prints what keeps an object alive, and what it keeps alive itself",
+            help: help::KEEPS,
         },
         NodeReport::Text => ReportRow {
             word: "text",

@@ -69,7 +69,9 @@ fn subject_of(report: NodeReport, text: &[u8]) -> Result<Node<'_>, Misnamed>
     ensures { MatchResult result (SaysNode (node_follows report) text.now) (IsMisnamed (ReportWord.Node report) text.now) }
 {
     match report {
-        NodeReport::Show | NodeReport::Why | NodeReport::Who => Ok(node_of(text)),
+        NodeReport::Show | NodeReport::Why | NodeReport::Who | NodeReport::Keeps => {
+            Ok(node_of(text))
+        }
         NodeReport::Text | NodeReport::Object | NodeReport::Refs | NodeReport::Path => {
             Ok(Node::Identifier(identifier_of(text)?))
         }

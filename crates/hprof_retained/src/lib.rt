@@ -9,3 +9,4 @@ mod sizes;
 
 pub use making::retained_of;
 pub use retained::Retained;
+pub use sizes::size_of_node;

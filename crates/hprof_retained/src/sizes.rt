@@ -13,8 +13,9 @@ use hprof_heap::{Finger, Heap, ObjectDump, find_object_near, id_size};
 use hprof_numbers::Numbered;
 use std::alloc::{AllocError, Global};
 
-/// Returns the bytes of the fields or the elements of an object, or 0 of what is no object. `near` is where the last object was found.
-fn size_of_node(heap: &Heap, node: u64, near: &mut Finger) -> u64
+/// Returns the bytes of the fields or the elements of an object, or 0 of what is no object. `near` is where the last object was found; it
+/// affects only speed.
+pub fn size_of_node(heap: &Heap, node: u64, near: &mut Finger) -> u64
     ensures { IsSizeOf (size_of heap.now) (facts_of heap.now) node result }
 {
     match find_object_near(heap, node, near) {

@@ -75,7 +75,7 @@ all_commands =
     ∷ commands.Report (words.Heap heaps.Histogram) ∷ commands.Report (words.Heap heaps.Classes)
     ∷ commands.Report (words.Heap heaps.Threads) ∷ commands.Report words.Objects ∷ commands.Compare
     ∷ commands.Report (words.Node nodes.Show) ∷ commands.Report (words.Node nodes.Why) ∷ commands.Report (words.Node nodes.Who)
-    ∷ commands.Report (words.Node nodes.Text) ∷ commands.Report (words.Node nodes.Object) ∷ commands.Report (words.Node nodes.Refs)
+    ∷ commands.Report (words.Node nodes.Keeps) ∷ commands.Report (words.Node nodes.Text) ∷ commands.Report (words.Node nodes.Object) ∷ commands.Report (words.Node nodes.Refs)
     ∷ commands.Report (words.Node nodes.Path) ∷ commands.Ask ∷ []
 
 -- the program with these commands

@@ -86,7 +86,7 @@ pub(crate) struct CommandRow {
 }
 
 /// All commands, in the order in which the program's help lists them.
-pub(crate) const COMMANDS: [CommandWord; 17] = [
+pub(crate) const COMMANDS: [CommandWord; 18] = [
     CommandWord::Write(NewFile::Dump),
     CommandWord::Write(NewFile::Dump101),
     CommandWord::Salvage,
@@ -99,6 +99,7 @@ pub(crate) const COMMANDS: [CommandWord; 17] = [
     CommandWord::Report(ReportWord::Node(NodeReport::Show)),
     CommandWord::Report(ReportWord::Node(NodeReport::Why)),
     CommandWord::Report(ReportWord::Node(NodeReport::Who)),
+    CommandWord::Report(ReportWord::Node(NodeReport::Keeps)),
     CommandWord::Report(ReportWord::Node(NodeReport::Text)),
     CommandWord::Report(ReportWord::Node(NodeReport::Object)),
     CommandWord::Report(ReportWord::Node(NodeReport::Refs)),
