@@ -113,16 +113,21 @@ pub record RowsSoFar (facts all : List FactValue) (classes : WeakClasses) (field
   pub done : (object trace class : ℕ) (bytes : List ℕ) → Has taken (Instance object trace class bytes)
       → IsPutWithin facts class (length bytes) fields
 
-pub rows_of_none : (facts all left : List FactValue) (classes : WeakClasses) (fields : List FieldPlace) → left ≡ all → fields ≡ []
-    → AreWeakClasses facts classes → RowsSoFar facts all classes fields left
-rows_of_none facts all left classes fields e none are = record {
+-- nothing was put yet
+pub put_of_none : (facts : List FactValue) (classes : WeakClasses) (fields : List FieldPlace) → fields ≡ []
+    → AreWeakClasses facts classes → ArePut facts classes fields
+put_of_none facts classes fields none are = record {
+  right = are.right;
+  only = λ field has. absurd (nothing_there field (subst (λ (l : List FieldPlace). Contains l field) none has));
+  all = λ field weak out. absurd (are.all field weak out);
+}
+
+pub rows_of_none : (facts all left : List FactValue) (classes : WeakClasses) (fields : List FieldPlace) → left ≡ all
+    → ArePut facts classes fields → RowsSoFar facts all classes fields left
+rows_of_none facts all left classes fields e put = record {
   taken = [];
   parts = sym e;
-  put = record {
-    right = are.right;
-    only = λ field has. absurd (nothing_there field (subst (λ (l : List FieldPlace). Contains l field) none has));
-    all = λ field weak out. absurd (are.all field weak out);
-  };
+  put = put;
   done = λ object trace class bytes has. absurd has;
 }
 
@@ -221,11 +226,11 @@ rows_of_all ids facts left classes fields none so_far =
           slots known (omega (arith, few, fills)) field of_class weak;
     }
 
--- no class has weak fields
-pub rows_without : (ids : IdSize) (facts : List FactValue) (classes : WeakClasses) (fields : List FieldPlace) → fields ≡ []
-    → AreWeakClasses facts classes → length classes.firsts.entries ≡ 0 → AreWeakRows ids facts fields
-rows_without ids facts classes fields none are empty = record {
-  only = λ field has. absurd (nothing_there field (subst (λ (l : List FieldPlace). Contains l field) none has));
+-- all weak fields of all classes were put
+pub rows_when_all_put : (ids : IdSize) (facts : List FactValue) (classes : WeakClasses) (fields : List FieldPlace)
+    → ArePut facts classes fields → length classes.firsts.entries ≡ 0 → AreWeakRows ids facts fields
+rows_when_all_put ids facts classes fields put empty = record {
+  only = put.only;
   all = λ object class bytes slots instance known fills field of_class weak.
-      absurd (are.all field weak (get-empty classes.firsts field.class (no_elements classes.firsts.entries empty)));
+      put.all field weak (get-empty classes.firsts field.class (no_elements classes.firsts.entries empty));
 }

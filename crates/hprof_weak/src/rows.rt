@@ -1,10 +1,11 @@
 //! The weak fields of the classes of instances.
 
-ghost use Rattle.std.specs.Prelude.{IfOk, OnOk, List};
+ghost use Rattle.std.specs.Prelude.{IfOk, IfSome, IsSome, OnOk, List};
 ghost use Rattle.hprof_items.specs.FactValue.{FactValue};
+ghost use Rattle.hprof_rows.specs.Conflict.{IsConsistent};
 ghost use Rattle.hprof_heap.specs.HeapFacts.{facts_of, size_of};
-ghost use Rattle.hprof_weak.specs.WeakClasses.{AreWeakClasses};
-ghost use Rattle.hprof_weak.specs.Rows.{AreWeakRows, PutsWeak};
+ghost use Rattle.hprof_weak.specs.WeakClasses.{AreWeakClasses, first_of};
+ghost use Rattle.hprof_weak.specs.Rows.{ArePut, AreWeakRows, PutsWeak};
 
 use crate::weak_classes::WeakClasses;
 use hprof_edges::FieldPlace;
@@ -13,28 +14,83 @@ use hprof_items::Fact;
 use std::alloc::{AllocError, Global};
 
 impl WeakClasses {
-    /// Appends the weak fields of a class, as far as their places are below `room`. If all are, the class is removed.
+    /// Appends the weak fields of a class, as far as their places are below `room`. If all are, the class is removed. Returns whether all
+    /// are.
     fn put_weak(
         &mut self,
         class: u64,
         room: u64,
         fields: &mut Vec<FieldPlace>,
-    ) -> Result<(), AllocError>
+    ) -> Result<bool, AllocError>
         ensures { OnOk result ((facts : List FactValue) → PutsWeak facts class room self.old self.new fields.old.items fields.new.items) }
     {
         let Some(first) = self.firsts.get(&class).copied() else {
-            return Ok(());
+            return Ok(true);
         };
-        if self.links.push_referents(class, first, room, fields)? {
+        let all = self.links.push_referents(class, first, room, fields)?;
+        if all {
             self.firsts.remove(&class);
+        }
+        Ok(all)
+    }
+
+    /// Returns the least of the classes, or `None` if there is none.
+    fn least(&self) -> Option<u64>
+        ensures { IfSome result (λ class. IsSome (first_of self.now class)) }
+    {
+        let (class, _) = self.firsts.first_key_value()?;
+        Some(*class)
+    }
+
+    /// Appends the weak fields of the least classes, one class after another, as long as there is room for `most` fields in all. The classes
+    /// whose weak fields all are there are removed.
+    fn put_few(&mut self, most: u64, fields: &mut Vec<FieldPlace>) -> Result<(), AllocError>
+        ensures { OnOk result ((facts : List FactValue) → IsConsistent facts → ArePut facts self.old fields.old.items
+            → ArePut facts self.new fields.new.items) }
+    {
+        for _ in 0..self.firsts.len() {
+            let Some(class) = self.least() else {
+                return Ok(());
+            };
+            let room = most.saturating_sub(fields.len() as u64);
+            if !self.put_weak(class, room, fields)? {
+                return Ok(());
+            }
         }
         Ok(())
     }
 }
 
-/// Returns the weak fields of the classes of a heap's instances, in one pass over the object dumps, or in none if no class has weak fields.
+/// The number of weak fields of a class for which there is room on average, before a pass over the instances bounds them.
+const FIELDS_OF_CLASS: u64 = 2;
+
+/// The number of weak fields for which there is room, however few classes have some.
+const LEAST_ROOM: u64 = 4096;
+
+/// Appends the weak fields of the classes of a heap's instances, in one pass over the object dumps.
 ///
 /// An instance with values has at least as many bytes as fields. So an instance adds no more fields than it has bytes.
+fn put_instances(
+    heap: &Heap,
+    classes: WeakClasses,
+    put: Vec<FieldPlace>,
+) -> Result<Vec<FieldPlace>, AllocError>
+    requires { ArePut (facts_of heap.now) classes put.items }
+    ensures { IfOk result (λ fields. AreWeakRows (size_of heap.now) (facts_of heap.now) fields.items) }
+{
+    holds_of_heap(heap);
+    let mut left = classes;
+    let mut fields = put;
+    for fact in table_facts(heap, Table::Objects) {
+        if let Fact::Instance { class, bytes, .. } = fact {
+            left.put_weak(class, bytes.len() as u64, &mut fields)?;
+        }
+    }
+    Ok(fields)
+}
+
+/// Returns the weak fields of the classes of a heap's instances. If there are many, some of a class without instances may be missing: a
+/// pass over the object dumps then bounds them. If memory runs out, the answer is `AllocError`.
 pub(crate) fn weak_rows(
     alloc: Global,
     heap: &Heap,
@@ -43,16 +99,15 @@ pub(crate) fn weak_rows(
     requires { AreWeakClasses (facts_of heap.now) classes }
     ensures { IfOk result (λ fields. AreWeakRows (size_of heap.now) (facts_of heap.now) fields.items) }
 {
-    if classes.firsts.is_empty() {
-        return Ok(Vec::new(alloc));
-    }
     holds_of_heap(heap);
     let mut left = classes;
     let mut fields = Vec::new(alloc);
-    for fact in table_facts(heap, Table::Objects) {
-        if let Fact::Instance { class, bytes, .. } = fact {
-            left.put_weak(class, bytes.len() as u64, &mut fields)?;
-        }
+    let most = (left.firsts.len() as u64)
+        .saturating_mul(FIELDS_OF_CLASS)
+        .saturating_add(LEAST_ROOM);
+    left.put_few(most, &mut fields)?;
+    if left.firsts.is_empty() {
+        return Ok(fields);
     }
-    Ok(fields)
+    put_instances(heap, left, fields)
 }
