@@ -24,9 +24,9 @@ use Rattle.hprof_layouts.proofs.Walks.{dump_in_table}
 use Rattle.hprof_naming.proofs.Lookups.{class_exists, object_exists}
 use Rattle.hprof_numbers.specs.Places.{number_in}
 use Rattle.hprof_numbers.proofs.Placed.{by_halves, has_number}
-use Rattle.hprof_retained.proofs.Deciding.{Decided, either_decided}
-use Rattle.hprof_keeps.specs.Chosen.{HasObjectOfClasses, HasObjectOfKind, IsChosen, IsClassAlone}
-use Rattle.hprof_keeps.specs.Gathered.{Includes, IsChosenObject, IsGiven, IsLoneClass, IsObjectOrClass, has_class_dumps}
+use Rattle.hprof_retained.proofs.Deciding.{Decided, both_decided, either_decided}
+use Rattle.hprof_keeps.specs.Chosen.{HasObjectOfClasses, HasObjectOfKind, IsChosen, IsClassAlone, IsOfClasses}
+use Rattle.hprof_keeps.specs.Gathered.{GivesObject, IsChosenObject, IsClassAmong, IsGiven, IsLoneClass, IsObjectOrClass, has_class_dumps}
 use Rattle.hprof_keeps.specs.declared.choice.Choice.{Choice}
 use Rattle.hprof_keeps.specs.declared.choice.Choice.TheVariants.{Of, OfClasses}
 
@@ -34,34 +34,27 @@ use Rattle.hprof_keeps.specs.declared.choice.Choice.TheVariants.{Of, OfClasses}
 
 module _ (facts : List FactValue) (node : ℕ) where
   -- an object of a kind
-  of_kind : (wanted : Kind) → IsGiven (IsChosenObject (Of wanted)) facts node ↔ HasObjectOfKind facts wanted node
-  of_kind wanted = (
+  of_kind : (kind : Kind) → IsGiven (GivesObject (λ other. other ≡ kind)) facts node ↔ HasObjectOfKind facts kind node
+  of_kind kind = (
     λ given. record {
       fact = given.0;
       has = given.1;
       is_object = given.2.is_object;
-      kind_is = given.2.kind_is ∙ ap Some given.2.included;
+      kind_is = given.2.kind_is ∙ ap Some given.2.wanted;
     },
-    λ has. (has.fact, has.has, record { is_object = has.is_object; kind = wanted; kind_is = has.kind_is; included = refl }),
+    λ has. (has.fact, has.has, record { is_object = has.is_object; kind = kind; kind_is = has.kind_is; wanted = refl }),
   )
 
   -- an object of classes
-  of_classes : (choice : Choice) (classes : List ℕ)
-      → ((kind : Kind) → Includes choice kind ↔ ((class : ℕ) × Contains classes class × (kind ≡ Class class)))
-      → IsGiven (IsChosenObject choice) facts node ↔ HasObjectOfClasses facts classes node
-  of_classes choice classes includes = (
+  of_classes : (classes : List ℕ) → IsGiven (GivesObject (IsClassAmong classes)) facts node ↔ HasObjectOfClasses facts classes node
+  of_classes classes = (
     λ given.
-        let is = (includes given.2.kind).0 given.2.included in
+        let is = given.2.wanted in
         (is.0, is.1, record { fact = given.0; has = given.1; is_object = given.2.is_object; kind_is = given.2.kind_is ∙ ap Some is.2 }),
     λ has. (
       has.2.fact,
       has.2.has,
-      record {
-        is_object = has.2.is_object;
-        kind = Class has.0;
-        kind_is = has.2.kind_is;
-        included = (includes (Class has.0)).1 (has.0, has.1, refl);
-      },
+      record { is_object = has.2.is_object; kind = Class has.0; kind_is = has.2.kind_is; wanted = (has.0, has.1, refl) },
     ),
   )
 
@@ -70,7 +63,7 @@ module _ (facts : List FactValue) (node : ℕ) where
       → IsGiven (IsChosenObject choice) facts node ↔ IsChosen facts choice node
   chosen_objects (Of kind) none = of_kind kind
   chosen_objects (OfClasses classes with_class_dumps) none =
-      let same = of_classes (OfClasses classes with_class_dumps) classes.now (λ kind. (λ is. is, λ is. is)) in (
+      let same = of_classes classes.now in (
         λ given. inl (same.0 given),
         λ chosen. elim chosen [ inl has ↦ same.1 has | inr alone ↦ absurd (both_ways with_class_dumps none alone.0) ],
       )
@@ -80,7 +73,7 @@ module _ (facts : List FactValue) (node : ℕ) where
       → IsObjectOrClass facts choice node ↔ IsChosen facts choice node
   chosen_with_classes (Of kind) some = absurd cc
   chosen_with_classes (OfClasses classes with_class_dumps) some =
-      let same = of_classes (OfClasses classes with_class_dumps) classes.now (λ kind. (λ is. is, λ is. is)) in (
+      let same = of_classes classes.now in (
         λ is. elim is [ inl given ↦ inl (same.0 given) | inr alone ↦ inr (some, alone) ],
         λ chosen. elim chosen [ inl has ↦ inl (same.1 has) | inr alone ↦ inr alone.1 ],
       )
@@ -141,7 +134,7 @@ not_object facts choice fact node is given = is.none given.0 given.1 given.2.is_
 
 -- that of a class, if the class is among those of the choice
 pub has_class : (classes : List ℕ) (class : ℕ) (test : Bool) → IsTrue test ↔ Contains classes class
-    → IsTrue test ↔ ((other : ℕ) × Contains classes other × (Class class ≡ Class other))
+    → IsTrue test ↔ IsClassAmong classes (Class class)
 has_class classes class test is = (
   λ yes. (class, is.0 yes, refl),
   λ has.
@@ -173,45 +166,45 @@ same_or_not kind wanted = go (same_kind kind wanted) refl where
   go true e = inl (one_kind kind wanted e)
   go false e = inr (λ same. both_ways (same_kind kind wanted) e (ap (same_kind kind) (sym same) ∙ same_itself kind))
 
-included_or_not : (choice : Choice) (kind : Kind) → Decided (Includes choice kind)
-included_or_not (Of wanted) kind = same_or_not kind wanted
-included_or_not (OfClasses classes with_class_dumps) (Class class) = elim (among_or_not classes.now class) [
+class_or_not : (classes : List ℕ) (kind : Kind) → Decided (IsClassAmong classes kind)
+class_or_not classes (Class class) = elim (among_or_not classes class) [
   | inl has ↦ inl (class, has, refl)
   | inr none ↦ inr (λ is.
       let same : class ≡ is.0 = (let e : Class class ≡ Class is.0 = is.2 in cc) in
-      none (subst (Contains classes.now) (sym same) is.1))
+      none (subst (Contains classes) (sym same) is.1))
 ]
-included_or_not (OfClasses classes with_class_dumps) (Prim elem) = inr (λ is. let e : Prim elem ≡ Class is.0 = is.2 in cc)
+class_or_not classes (Prim elem) = inr (λ is. let e : Prim elem ≡ Class is.0 = is.2 in cc)
 
 true_or_not : (b : Bool) → Decided (IsTrue b)
 true_or_not true = inl refl
 true_or_not false = inr (λ yes. absurd cc)
 
 module _ (facts : List FactValue) (agree : IsConsistent facts) (node : ℕ) where
-  -- a fact that is the object dump of the node gives it, or none does
-  given_by : (choice : Choice) (fact : FactValue) → Has facts fact → IsObject node fact → (kind : Option Kind) → object_kind fact ≡ kind
-      → Decided (IsGiven (IsChosenObject choice) facts node)
-  given_by choice fact has is (Some kind) kind_is = elim (included_or_not choice kind) [
-    | inl included ↦ inl (fact, has, record { is_object = is; kind = kind; kind_is = kind_is; included = included })
-    | inr none ↦ inr (λ given.
+  module _ (Wanted : Kind → Type 0) (decide : (kind : Kind) → Decided (Wanted kind)) where
+    -- a fact that is the object dump of the node gives it, or none does
+    given_by : (fact : FactValue) → Has facts fact → IsObject node fact → (kind : Option Kind) → object_kind fact ≡ kind
+        → Decided (IsGiven (GivesObject Wanted) facts node)
+    given_by fact has is (Some kind) kind_is = elim (decide kind) [
+      | inl wanted ↦ inl (fact, has, record { is_object = is; kind = kind; kind_is = kind_is; wanted = wanted })
+      | inr none ↦ inr (λ given.
+          let one = agree (keys.Object node) given.0 fact given.1 has given.2.is_object is in
+          let both : Some given.2.kind ≡ Some kind = sym given.2.kind_is ∙ ap object_kind one ∙ kind_is in
+          let same : given.2.kind ≡ kind = cc in
+          none (subst Wanted same given.2.wanted))
+    ]
+    given_by fact has is None kind_is = inr (λ given.
         let one = agree (keys.Object node) given.0 fact given.1 has given.2.is_object is in
-        let both : Some given.2.kind ≡ Some kind = sym given.2.kind_is ∙ ap object_kind one ∙ kind_is in
-        let same : given.2.kind ≡ kind = cc in
-        none (subst (Includes choice) same given.2.included))
-  ]
-  given_by choice fact has is None kind_is = inr (λ given.
-      let one = agree (keys.Object node) given.0 fact given.1 has given.2.is_object is in
-      let both : Some given.2.kind ≡ None = sym given.2.kind_is ∙ ap object_kind one ∙ kind_is in
-      absurd cc)
+        let both : Some given.2.kind ≡ None = sym given.2.kind_is ∙ ap object_kind one ∙ kind_is in
+        absurd cc)
 
-  given_or_not : (choice : Choice) → Decided (IsGiven (IsChosenObject choice) facts node)
-  given_or_not choice = go object.0 object.1 where
-    object : (object : Option FactValue) × IsObjectFound facts node object
-    object = object_exists facts node
+    given_or_not : Decided (IsGiven (GivesObject Wanted) facts node)
+    given_or_not = go object.0 object.1 where
+      object : (object : Option FactValue) × IsObjectFound facts node object
+      object = object_exists facts node
 
-    go : (object : Option FactValue) → IsObjectFound facts node object → Decided (IsGiven (IsChosenObject choice) facts node)
-    go (Some fact) is = given_by choice fact is.0 is.1 (object_kind fact) refl
-    go None none = inr (λ given. none given.0 given.1 given.2.is_object)
+      go : (object : Option FactValue) → IsObjectFound facts node object → Decided (IsGiven (GivesObject Wanted) facts node)
+      go (Some fact) is = given_by fact is.0 is.1 (object_kind fact) refl
+      go None none = inr (λ given. none given.0 given.1 given.2.is_object)
 
   alone_or_not : Decided (IsClassAlone facts node)
   alone_or_not = go class.0 object.0 class.1 object.1 where
@@ -227,8 +220,14 @@ module _ (facts : List FactValue) (agree : IsConsistent facts) (node : ℕ) wher
     go (Some dump) None is none = inl (dump, is.0, is.1, none)
     go None None none none_too = inr (λ alone. none alone.0 alone.1 alone.2)
 
+  pub kind_or_not : (kind : Kind) → Decided (HasObjectOfKind facts kind node)
+  kind_or_not kind = turned (of_kind facts node kind) (given_or_not (λ other. other ≡ kind) (λ other. same_or_not other kind))
+
+  pub classes_or_not : (classes : List ℕ) (with_class_dumps : Bool) → Decided (IsOfClasses facts classes with_class_dumps node)
+  classes_or_not classes with_class_dumps =
+      either_decided (turned (of_classes facts node classes) (given_or_not (IsClassAmong classes) (class_or_not classes)))
+      (both_decided (true_or_not with_class_dumps) alone_or_not)
+
   pub chosen_or_not : (choice : Choice) → Decided (IsChosen facts choice node)
-  chosen_or_not choice = go (has_class_dumps choice) refl where
-    go : (b : Bool) → has_class_dumps choice ≡ b → Decided (IsChosen facts choice node)
-    go true some = turned (chosen_with_classes facts node choice some) (either_decided (given_or_not choice) alone_or_not)
-    go false none = turned (chosen_objects facts node choice none) (given_or_not choice)
+  chosen_or_not (Of kind) = kind_or_not kind
+  chosen_or_not (OfClasses classes with_class_dumps) = classes_or_not classes.now with_class_dumps

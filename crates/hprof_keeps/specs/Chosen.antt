@@ -1,5 +1,5 @@
 -- The classes and objects that the report `biggest` is on. The choices are this project's own.
-use Rattle.std.specs.Prelude.{◌≡◌, ◌⊎◌, ℕ, List, Some, Contains, IsTrue, ⊤}
+use Rattle.std.specs.Prelude.{◌≡◌, ◌⊎◌, ℕ, Bool, List, Some, Contains, IsTrue, ⊤}
 use Rattle.std.specs.List.Sorted.{IsStrictlyIncreasing}
 use Rattle.hprof_items.specs.FactValue.{FactValue}
 use Rattle.hprof_rows.specs.Facts.{Has}
@@ -26,11 +26,15 @@ HasObjectOfClasses facts classes node = (class : ℕ) × Contains classes class 
 abbrev pub IsClassAlone : List FactValue → ℕ → Type 0
 IsClassAlone facts node = (dump : ClassValue) × HasDump facts dump × (dump.id ≡ node) × HasNoObject facts node
 
+-- it has an object dump of one of these classes; or, if class dumps are asked for too, a class dump alone
+abbrev pub IsOfClasses : List FactValue → List ℕ → Bool → ℕ → Type 0
+IsOfClasses facts classes with_class_dumps node =
+    HasObjectOfClasses facts classes node ⊎ (IsTrue with_class_dumps × IsClassAlone facts node)
+
 -- it is one of those that the report is on
 abbrev pub IsChosen : List FactValue → Choice → ℕ → Type 0
 IsChosen facts (Of kind) node = HasObjectOfKind facts kind node
-IsChosen facts (OfClasses classes with_class_dumps) node =
-    HasObjectOfClasses facts classes.now node ⊎ (IsTrue with_class_dumps × IsClassAlone facts node)
+IsChosen facts (OfClasses classes with_class_dumps) node = IsOfClasses facts classes.now with_class_dumps node
 
 -- the classes of the choice ascend, so that they are searched by halves
 abbrev pub ClassesAscend : Choice → Type 0

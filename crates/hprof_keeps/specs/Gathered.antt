@@ -15,10 +15,14 @@ use Rattle.hprof_keeps.specs.declared.choice.Choice.TheVariants.{Of, OfClasses}
 
 -- ---- what a choice has
 
+-- the kind is that of one of the classes
+abbrev pub IsClassAmong : List ℕ → Kind → Type 0
+IsClassAmong classes kind = (class : ℕ) × Contains classes class × (kind ≡ Class class)
+
 -- objects of that kind
 abbrev pub Includes : Choice → Kind → Type 0
 Includes (Of wanted) kind = kind ≡ wanted
-Includes (OfClasses classes with_class_dumps) kind = (class : ℕ) × Contains classes.now class × (kind ≡ Class class)
+Includes (OfClasses classes with_class_dumps) kind = IsClassAmong classes.now kind
 
 -- class dumps without an object dump
 abbrev pub has_class_dumps : Choice → Bool
@@ -27,12 +31,16 @@ has_class_dumps (OfClasses classes with_class_dumps) = with_class_dumps
 
 -- ---- what a fact gives
 
--- it is an object dump of the node, of a kind that the choice has
-pub record IsChosenObject (choice : Choice) (fact : FactValue) (node : ℕ) : Type 0 where
+-- it is an object dump of the node, of a wanted kind
+pub record GivesObject (Wanted : Kind → Type 0) (fact : FactValue) (node : ℕ) : Type 0 where
   pub is_object : IsObject node fact
   pub kind : Kind
   pub kind_is : object_kind fact ≡ Some kind
-  pub included : Includes choice kind
+  pub wanted : Wanted kind
+
+-- of a kind that the choice has
+abbrev pub IsChosenObject : Choice → FactValue → ℕ → Type 0
+IsChosenObject choice fact node = GivesObject (Includes choice) fact node
 
 -- it is the class dump of a node without an object dump
 pub record IsLoneClass (facts : List FactValue) (fact : FactValue) (node : ℕ) : Type 0 where

@@ -10,13 +10,13 @@ use Rattle.hprof_keeps.specs.Chosen.{IsChosen}
 use Rattle.hprof_keeps.specs.KeepsText.{above_lines}
 use Rattle.hprof_keeps.specs.Order.{AreLargestFirst, retained_in}
 use Rattle.hprof_keeps.proofs.Held.{are_retained}
-use Rattle.hprof_keeps.proofs.SomeBiggest.{biggest_exists}
+use Rattle.hprof_keeps.proofs.SomeBiggest.{chosen_exist}
 use Rattle.hprof_keeps.proofs.biggest.write_biggest.Goals as goal
 
 -- memory was wanted before the first line
 pub returns-in_err-places-clause-bytes : goal.returns-in_err-places-clause-bytes
 returns-in_err-places-clause-bytes g c =
-    let some = biggest_exists (size_of c.args.heap.now) (facts_of c.args.heap.now) c.holds_of_heap.ensures.agree c.args.choice in
+    let some = chosen_exist (size_of c.args.heap.now) (facts_of c.args.heap.now) c.holds_of_heap.ensures.agree c.args.choice in
     let r = c.from_residual in
     let p = err_from_is_err_and r.result r.ensures.1 in
     (some.0, some.1, text_unwritten r.result (g.W.Target.written c.args.target.now) p.0 some.0 p.1)
