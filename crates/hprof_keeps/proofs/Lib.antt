@@ -16,3 +16,9 @@ pub mod RightBelow
 pub mod WayDown
 pub mod OneKeeps
 pub mod SomeKeeps
+pub mod GivenPlaces
+pub mod LargestPlaces
+pub mod ChosenNodes
+pub mod LargestFirst
+pub mod SomeBiggest
+pub mod OneBiggest
