@@ -11,4 +11,5 @@ pub mod WordLists
 pub mod SomeQuestion
 pub mod Usages
 pub mod Ends
+pub mod OfName
 pub mod Replies

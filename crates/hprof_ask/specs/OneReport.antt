@@ -56,12 +56,13 @@ module _ (summaries : List PartSummary) (ids : IdSize) (facts : List FactValue) 
 
   one_kind_report : (report : KindReport) (kind : Kind) (one other : List ℕ) → IsKindReport ids facts report kind one
       → IsKindReport ids facts report kind other → one ≡ other
-  one_kind_report kinds.Biggest kind = biggest_once ids facts (HasObjectOfKind facts kind)
+  one_kind_report kinds.Biggest kind = λ one other are too. biggest_once ids facts are.agree (HasObjectOfKind facts kind) one other are too
   one_kind_report kinds.Objects kind = one_objects_text ids facts kind
 
   one_report_of_classes : (report : KindReport) (name classes : List ℕ) (one other : List ℕ)
       → IsReportOfClasses ids facts report name classes one → IsReportOfClasses ids facts report name classes other → one ≡ other
-  one_report_of_classes kinds.Biggest name classes = biggest_once ids facts (IsOfClasses facts name classes)
+  one_report_of_classes kinds.Biggest name classes = λ one other are too.
+      biggest_once ids facts are.agree (IsOfClasses facts name classes) one other are too
   one_report_of_classes kinds.Objects name classes = one_objects_of_classes ids facts classes
 
   one_named_kind : (report : KindReport) (name : List ℕ) (one other : List ℕ) → IsNamedKind ids facts report name one

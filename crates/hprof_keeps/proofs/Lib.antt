@@ -16,3 +16,4 @@ pub mod RightBelow
 pub mod WayDown
 pub mod OneKeeps
 pub mod SomeKeeps
+pub mod SameChoice
