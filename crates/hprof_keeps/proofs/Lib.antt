@@ -16,4 +16,10 @@ pub mod RightBelow
 pub mod WayDown
 pub mod OneKeeps
 pub mod SomeKeeps
+pub mod GivenPlaces
+pub mod LargestPlaces
+pub mod ChosenNodes
+pub mod LargestFirst
+pub mod SomeBiggest
+pub mod OneBiggest
 pub mod SameChoice

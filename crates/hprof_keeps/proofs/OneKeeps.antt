@@ -15,11 +15,11 @@ use Rattle.hprof_describe.specs.Findings.{Findings}
 use Rattle.hprof_describe.specs.Nodes.{node_text}
 use Rattle.hprof_describe.proofs.OneFinding.{one_findings}
 use Rattle.hprof_histogram.proofs.Members.{IsIn, Contains-from_in, in_from_Contains, one_sorted}
-use Rattle.hprof_retained.specs.Retained.{Dominates, IsHeld, Sum}
+use Rattle.hprof_retained.specs.Retained.{Dominates, HasParent, IsHeld, Sum}
 use Rattle.hprof_retained.proofs.OneSums.{one_sum}
 use Rattle.hprof_keeps.specs.KeepsText.{IsHeldText, IsKeepsText, IsNodeText, IsNotReached, IsRootsText, IsWeaklyHeld}
 use Rattle.hprof_keeps.specs.KeepsText.{above_lines, child_lines, retained_line, sum_words, total_line, weakly_line}
-use Rattle.hprof_keeps.specs.Order.{AreChildren, AreDominators, AreRetained, retained_cmp}
+use Rattle.hprof_keeps.specs.Order.{AreChildren, AreDominators, AreLargestFirst, AreRetained, retained_cmp}
 use Rattle.hprof_keeps.proofs.SomeChildren.{order_total}
 
 -- ---- lists in which each is before those behind it
@@ -107,10 +107,6 @@ module _ (ids : IdSize) (facts : List FactValue) where
   dominators_held : (id : ℕ) (nodes : List ℕ) → AreDominators ids facts id nodes → (node : ℕ) → IsIn node nodes → IsHeld ids facts node
   dominators_held id nodes are node has = dominator_reached Start Step node id ((are.exact node).0 (Contains-from_in nodes node has))
 
-  children_held : (retained : ℕ → Sum) (parent : Option ℕ) (nodes : List ℕ) → AreChildren ids facts retained parent nodes
-      → (node : ℕ) → IsIn node nodes → IsHeld ids facts node
-  children_held retained parent nodes are node has = ((are.exact node).0 (Contains-from_in nodes node has)).0
-
 -- ---- by two functions that are equal at these nodes
 
 module _ (retained other : ℕ → Sum) where
@@ -154,19 +150,28 @@ module _ (ids : IdSize) (facts : List FactValue) (agree : IsConsistent facts) (f
       let is = held node has in
       one_sum ids facts agree (Dominates ids facts node) (retained node) (other node) (are node is) (too node is)
 
-  one_children : (parent : Option ℕ) (nodes others : List ℕ) → AreChildren ids facts retained parent nodes
-      → AreChildren ids facts other parent others → nodes ≡ others
-  one_children parent nodes others is theirs =
-      one_sorted (order_total other) nodes others
-      (ordered_too retained other nodes (same_sums nodes (children_held ids facts retained parent nodes is)) is.ordered) theirs.ordered
-      (λ x has. in_from_Contains others x ((theirs.exact x).1 ((is.exact x).0 (Contains-from_in nodes x has))))
-      (λ x has. in_from_Contains nodes x ((is.exact x).1 ((theirs.exact x).0 (Contains-from_in others x has))))
+  -- the lines of the nodes of which something holds, the largest first
+  module _ (Holds : ℕ → Type 0) (held : (node : ℕ) → Holds node → IsHeld ids facts node) where
+    largest_same : (nodes : List ℕ) → AreLargestFirst retained Holds nodes → (node : ℕ) → IsIn node nodes → retained node ≡ other node
+    largest_same nodes is = same_sums nodes (λ node has. held node ((is.exact node).0 (Contains-from_in nodes node has)))
+
+    one_largest : (nodes others : List ℕ) → AreLargestFirst retained Holds nodes → AreLargestFirst other Holds others → nodes ≡ others
+    one_largest nodes others is theirs =
+        one_sorted (order_total other) nodes others (ordered_too retained other nodes (largest_same nodes is) is.ordered) theirs.ordered
+        (λ x has. in_from_Contains others x ((theirs.exact x).1 ((is.exact x).0 (Contains-from_in nodes x has))))
+        (λ x has. in_from_Contains nodes x ((is.exact x).1 ((theirs.exact x).0 (Contains-from_in others x has))))
+
+    pub one_largest_lines : (front nodes others : List ℕ) → AreLargestFirst retained Holds nodes → AreLargestFirst other Holds others
+        → flat_map (λ node. front ++ retained_line found retained node) nodes
+        ≡ flat_map (λ node. front ++ retained_line found other node) others
+    one_largest_lines front nodes others is theirs =
+        lines_too retained other found front nodes (largest_same nodes is)
+        ∙ ap (flat_map (λ node. front ++ retained_line found other node)) (one_largest nodes others is theirs)
 
   one_child_lines : (parent : Option ℕ) (nodes others : List ℕ) → AreChildren ids facts retained parent nodes
       → AreChildren ids facts other parent others → child_lines found retained nodes ≡ child_lines found other others
   one_child_lines parent nodes others is theirs =
-      lines_too retained other found (codes "  ") nodes (same_sums nodes (children_held ids facts retained parent nodes is))
-      ∙ ap (child_lines found other) (one_children parent nodes others is theirs)
+      one_largest_lines (λ node. IsHeld ids facts node × HasParent ids facts node parent) (λ node both. both.0) (codes "  ") nodes others is theirs
 
   one_above_lines : (id : ℕ) (nodes others : List ℕ) → AreDominators ids facts id nodes → AreDominators ids facts id others
       → above_lines found retained nodes ≡ above_lines found other others

@@ -27,23 +27,15 @@ use Rattle.hprof_retained.proofs.HeldOrNot.{dominates_or_not, held_or_not}
 use Rattle.hprof_retained.proofs.NodeLists.{held_dumped, nodes_exist}
 use Rattle.hprof_retained.proofs.OneParent.{one_parent}
 use Rattle.hprof_retained.proofs.SomeParent.{parent_exists}
-use Rattle.hprof_retained.proofs.SomeSums.{retained_exists, sum_exists, total_exists}
+use Rattle.hprof_retained.proofs.SomeSums.{sum_exists, total_exists}
 use Rattle.hprof_keeps.specs.KeepsText.{IsHeldText, IsKeepsText, IsNodeText, IsRootsText, IsWeaklyHeld}
 use Rattle.hprof_keeps.specs.KeepsText.{above_lines, child_lines, total_line, weakly_line}
-use Rattle.hprof_keeps.specs.Order.{AreChildren, AreDominators, AreRetained}
+use Rattle.hprof_keeps.specs.Order.{AreChildren, AreDominators}
+use Rattle.hprof_keeps.proofs.LargestFirst.{are_sums, in_on, largest_exist, on_in, sums}
 use Rattle.hprof_keeps.proofs.OneKeeps.{not_each_other}
 use Rattle.hprof_keeps.proofs.Reached.{reached_or_not}
-use Rattle.hprof_keeps.proofs.SomeChildren.{in_order}
 
 -- ---- lists of nodes
-
-in_on : (x : ℕ) (nodes : List ℕ) → IsOn x nodes → IsIn x nodes
-in_on x [] on = absurd on
-in_on x (node ∷ nodes) on = elim on [ inl same ↦ inl same | inr later ↦ inr (in_on x nodes later) ]
-
-on_in : (x : ℕ) (nodes : List ℕ) → IsIn x nodes → IsOn x nodes
-on_in x [] on = absurd on
-on_in x (node ∷ nodes) on = elim on [ inl same ↦ inl same | inr later ↦ inr (on_in x nodes later) ]
 
 in_at : (xs : List ℕ) (k d : ℕ) → k < length xs → IsIn (get_or xs k d) xs
 in_at [] k d low = absurd (omega arith)
@@ -180,10 +172,7 @@ module _ (ids : IdSize) (facts : List FactValue) (agree : IsConsistent facts) wh
       (λ node weakly. reached_dumped node weakly.0)
 
   abbrev retained : ℕ → Sum
-  retained node = (retained_exists ids facts agree node).0
-
-  are_retained : AreRetained ids facts retained
-  are_retained node held = (retained_exists ids facts agree node).1
+  retained = sums ids facts agree
 
   -- ---- right below a node
 
@@ -199,19 +188,8 @@ module _ (ids : IdSize) (facts : List FactValue) (agree : IsConsistent facts) wh
   ]
 
   children_exist : (parent : Option ℕ) → (nodes : List ℕ) × AreChildren ids facts retained parent nodes
-  children_exist parent =
-      let all = nodes_exist ids facts agree (λ node. IsHeld ids facts node × HasParent ids facts node parent) (below_or_not parent)
-      (λ node both. held_dumped ids facts agree node both.0) in
-      let ordered = in_order retained all.0 in (
-        ordered.all,
-        record {
-          ordered = ordered.sorted;
-          exact = λ node. (
-            λ has. (all.1.exact node).0 (on_in node all.0 (ordered.only node (in_from_Contains ordered.all node has))),
-            λ both. Contains-from_in ordered.all node (ordered.keeps node (in_on node all.0 ((all.1.exact node).1 both))),
-          );
-        },
-      )
+  children_exist parent = largest_exist ids facts agree (λ node. IsHeld ids facts node × HasParent ids facts node parent)
+      (below_or_not parent) (λ node both. held_dumped ids facts agree node both.0)
 
   -- ---- the dominators of a node
 
@@ -315,7 +293,7 @@ module _ (ids : IdSize) (facts : List FactValue) (agree : IsConsistent facts) wh
       found = found;
       are_found = are;
       retained = retained;
-      are_retained = are_retained;
+      are_retained = are_sums ids facts agree;
       is = is;
     }
 

@@ -1,7 +1,10 @@
-//! Reports on retained memory: what keeps an object alive, and what it keeps alive itself.
+//! Reports on retained memory: what keeps an object alive, what it keeps alive itself, and which objects of a class keep most alive.
 #![tactic(auto)]
 
+mod biggest;
 mod children;
+mod choice;
+mod chosen;
 mod dominators;
 mod keeps;
 pub mod laws;
@@ -9,6 +12,8 @@ mod lines;
 mod nodes;
 mod weakly;
 
+pub use biggest::write_biggest;
 pub use children::children_of;
+pub use choice::Choice;
 pub use dominators::dominators_of;
 pub use keeps::write_keeps;

@@ -23,7 +23,7 @@ use hprof_retained::Retained;
 use std::alloc::Global;
 
 /// Writes the lines of the nodes at these places, each behind `front`. If it stops, some of them were written, from the front.
-fn write_nodes<W: Target>(
+pub(crate) fn write_nodes<W: Target>(
     alloc: Global,
     heap: &Heap,
     classes: &ClassNames,
