@@ -11,5 +11,4 @@ pub mod WordLists
 pub mod SomeQuestion
 pub mod Usages
 pub mod Ends
-pub mod OfName
 pub mod Replies

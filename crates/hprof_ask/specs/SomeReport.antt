@@ -30,7 +30,7 @@ use Rattle.hprof_holders.proofs.SomeThreads.{text_exists as some_threads}
 use Rattle.hprof_holders.proofs.SomeWho.{who_exists}
 use Rattle.hprof_keeps.specs.BiggestText.{IsBiggestText}
 use Rattle.hprof_keeps.specs.declared.choice.Choice.TheVariants as choices
-use Rattle.hprof_keeps.proofs.SomeBiggest.{biggest_exists}
+use Rattle.hprof_keeps.proofs.SomeBiggest.{chosen_exist}
 use Rattle.hprof_keeps.proofs.SomeKeeps.{keeps_exists}
 use Rattle.hprof_why.proofs.SomeText.{why_exists}
 use Rattle.hprof_naming.specs.MeantLabel.{meant_label, slashed}
@@ -49,7 +49,7 @@ use Rattle.hprof_ask.specs.declared.report.Report.{Report}
 use Rattle.hprof_ask.specs.declared.report.Report.TheVariants as reports
 use Rattle.hprof_ask.specs.Report.{IsHeapReport, IsKindReport, IsNamedKind, IsNamedReport, IsNodeReport, IsOfClasses, IsReport}
 use Rattle.hprof_ask.specs.Report.{IsReportOfClasses, LacksClass, NamesClasses}
-use Rattle.hprof_ask.proofs.OfName.{biggest_of_name}
+use Rattle.hprof_ask.specs.OfName.{biggest_of_name}
 use Rattle.hprof_ask.specs.SomeCheck.{some_check}
 use Rattle.hprof_holders.specs.SomeReferrers.{some_referrers}
 
@@ -128,7 +128,7 @@ module _ (ids : IdSize) (facts : List FactValue) (agree : IsConsistent facts) wh
   some_heap_report summaries heaps.Threads = some_threads facts agree ids
 
   some_kind_report : (report : KindReport) (kind : Kind) → (text : List ℕ) × IsKindReport ids facts report kind text
-  some_kind_report kinds.Biggest kind = biggest_exists ids facts agree (choices.Of kind)
+  some_kind_report kinds.Biggest kind = chosen_exist ids facts agree (choices.Of kind)
   some_kind_report kinds.Objects kind = some_objects kind
 
   pub some_node_report : (report : NodeReport) (id : ℕ) → (text : List ℕ) × IsNodeReport ids facts report id text
@@ -152,7 +152,7 @@ module _ (ids : IdSize) (facts : List FactValue) (agree : IsConsistent facts) wh
     with_dumps : (dumps : Bool) → (IsTrue dumps ↔ NamesClasses name)
         → (text : List ℕ) × IsBiggestText ids facts (IsOfClasses facts name classes) text
     with_dumps dumps same =
-        let text = biggest_exists ids facts agree (choices.OfClasses (record { ref_ptr = (0, 0); now = classes }) dumps) in
+        let text = chosen_exist ids facts agree (choices.OfClasses (record { ref_ptr = (0, 0); now = classes }) dumps) in
         (text.0, biggest_of_name ids facts name classes dumps same text.0 text.1)
 
     by : NamesClasses name ⊎ ¬ (NamesClasses name) → (text : List ℕ) × IsBiggestText ids facts (IsOfClasses facts name classes) text
