@@ -1,7 +1,7 @@
 #!/usr/bin/env python3
 """Times the program on hostile dumps: long chains and circles of classes, classes of many fields, instances of many slots, long
 chains of objects, great arrays, many roots, many that refer to one; questions by the million; namesakes, objects and
-texts by the million; and salvages a dump that is cut short at random places.
+texts by the million; graphs that slow searches for dominators; and salvages a dump that is cut short at random places.
 
 Each dump is written by this script, and what the program answers is compared with what the dump was made to have, or, of one
 that is cut short, with what the plain program of bench/real writes. It prints a row for each: how many bytes the dump has, and
@@ -315,6 +315,153 @@ def leak_cases(folder, less):
     ]
 
 
+def graph(nodes, targets, roots=(0,)):
+    """So many arrays, each with the targets that are told of its number, and roots. Identifiers are one more than numbers."""
+    arrays = (array(number + 1, 0, [to + 1 for to in targets(number)]) for number in range(nodes))
+    return part([*arrays, *(sticky(root + 1) for root in roots)])
+
+
+def linked(count):
+    """A list whose owner knows both ends, and whose cells know both neighbours."""
+
+    def targets(number):
+        if number == 0:
+            return [1, count - 1]
+        return [to for to in (number + 1, number - 1) if 0 < to < count]
+
+    return graph(count, targets)
+
+
+def long_way_and_short(half):
+    """A chain whose end leads to as many nodes, to each of which the start leads as well: what slows a search for nearest dominators that
+    goes up link by link."""
+
+    def targets(number):
+        if number == 0:
+            return [1, *range(half + 1, 2 * half + 1)]
+        if number == half:
+            return range(half + 1, 2 * half + 1)
+        return [number + 1] if number < half else []
+
+    return graph(2 * half + 1, targets)
+
+
+def ladder(quarter):
+    """Two chains into a third, and a ladder of edges back that is entered at both ends: what slows a search that repeats itself until
+    nothing changes."""
+    first, second, third, fourth = (1 + quarter * place for place in range(4))
+
+    def targets(number):
+        if number == 0:
+            return [first, second, fourth + quarter - 1]
+        chain, step = divmod(number - 1, quarter)
+        ends = [[third], [third], [fourth]][chain] if chain < 3 and step == quarter - 1 else []
+        on = [number + 1] if step < quarter - 1 else []
+        across = [fourth + step] if chain == 2 else []
+        back = [number - 1] if chain == 3 and step > 0 else []
+        return on + ends + across + back
+
+    return graph(4 * quarter + 1, targets)
+
+
+def diamonds(count):
+    """So many diamonds, one behind the other."""
+
+    def targets(number):
+        top, place = divmod(number, 3)
+        if number == 3 * count:
+            return []
+        return [3 * top + 1, 3 * top + 2] if place == 0 else [3 * top + 3]
+
+    return graph(3 * count + 1, targets)
+
+
+def nested(count):
+    """So many diamonds, each on the left side of the one around it."""
+
+    def targets(number):
+        level, place = divmod(number, 4)
+        if place == 0:
+            return [number + 1, number + 2]
+        if place == 1:
+            return [number + 3] if level + 1 < count else [number + 2]
+        if place == 2:
+            return [number + 1]
+        return [number - 4] if level > 0 else []
+
+    return graph(4 * count, targets)
+
+
+def forests(count):
+    """A chain above a binomial tree, and to each node of the chain, from the last up, an edge from the deepest leaf of what is linked so
+    far: what slows path compression."""
+    ranks = (count // 2).bit_length() - 1
+    size = 1 << ranks
+    above = count - size
+    edges = [[number + 1] for number in range(above)] + [[] for _ in range(size)]
+    head, after = [None] * count, [None] * count
+    for place in range(size):
+        last = None
+        for bit in reversed(range(ranks if place == 0 else (place & -place).bit_length() - 1)):
+            below = above + (place | 1 << bit)
+            edges[above + place].append(below)
+            if last is None:
+                head[above + place] = below
+            else:
+                after[last] = below
+            last = below
+    root = above
+    for number in reversed(range(above)):
+        leaf = root
+        head[number] = leaf
+        while head[leaf] is not None:
+            below = head[leaf]
+            head[leaf] = after[below]
+            after[leaf] = None if head[below] is None else below
+            leaf = below
+        edges[leaf].append(number)
+        root = number
+    return graph(count, lambda number: edges[number])
+
+
+def pairs(count):
+    """So many roots, each of which leads to the same nodes, of which there are as many."""
+    return graph(2 * count, lambda number: range(count, 2 * count) if number < count else [], range(count))
+
+
+def kept(total, nodes, below):
+    """A test of `keeps` on the first array, which keeps all: the sums, and the number of lines below it."""
+    sums = f"{total} {nodes}"
+    return lambda lines: lines[:2] == [f"{sums} roots", f"{sums} 1 \\?"] and len(lines) == 2 + below
+
+
+def keeps_cases(less):
+    """What arrays keep alive, in graphs that slow searches for dominators."""
+    million = 1_000_000 // less
+    many, half, quarter, third, wide = 10 * million, 4 * million, 2 * million, 3 * million, 5_000 // less
+    return [
+        ("a chain of 10,000,000 arrays", lambda: graph(many, lambda i: [i + 1] if i + 1 < many else []), ["keeps", "1"],
+         kept(4 * (many - 1), many, 1)),
+        ("an array of 10,000,000 others", lambda: graph(many, lambda i: range(1, many) if i == 0 else []), ["keeps", "1"],
+         kept(4 * (many - 1), many, many - 1)),
+        ("5,000,000 arrays that are roots", lambda: graph(5 * million, lambda i: [], range(5 * million)), ["keeps", "0"],
+         lambda lines: lines[0] == f"0 {5 * million} roots" and len(lines) == 1 + 5 * million),
+        ("5,000 roots that lead to 5,000 arrays each", lambda: pairs(wide), ["keeps", "0"],
+         lambda lines: lines[0] == f"{4 * wide * wide} {2 * wide} roots" and len(lines) == 1 + 2 * wide),
+        ("a list of 8,000,000 cells with both ends known", lambda: linked(2 * half), ["keeps", "1"],
+         kept(4 * (2 + 2 * (2 * half - 1) - 2), 2 * half, 2 * half - 1)),
+        ("a long way and a short one to 4,000,000 arrays", lambda: long_way_and_short(half), ["keeps", "1"],
+         kept(4 * 3 * half, 2 * half + 1, half + 1)),
+        ("a ladder of 8,000,000 arrays", lambda: ladder(quarter), ["keeps", "1"],
+         kept(4 * (3 + 4 * (quarter - 1) + 3 + quarter + quarter - 1), 4 * quarter + 1, quarter + 3)),
+        ("3,000,000 diamonds in a row", lambda: diamonds(third), ["keeps", "1"], kept(4 * 4 * third, 3 * third + 1, 3)),
+        ("2,000,000 diamonds in one another", lambda: nested(quarter), ["keeps", "1"],
+         kept(4 * (3 * quarter + 2 * quarter - 1), 4 * quarter, 3)),
+        ("a chain of arrays above a binomial tree, 8,000,000 in all", lambda: forests(8 * million), ["keeps", "1"],
+         lambda lines: len(lines) == 3 and lines[1].endswith(f" {8 * million} 1 \\?")),
+    ]
+
+
 def write_questions(path, asked):
     """Writes the questions to a file, in pieces of some megabytes."""
     question, count = asked
@@ -395,7 +542,8 @@ def main():
     print("|---|---|---|---|")
     with tempfile.TemporaryDirectory() as folder:
         folder = Path(folder)
-        for case in [*CASES, *path_cases(words.less), *refs_cases(words.less), *asked_cases(words.less), *leak_cases(folder, words.less)]:
+        made = [path_cases, refs_cases, asked_cases, partial(leak_cases, folder), keeps_cases]
+        for case in [*CASES, *(case for cases in made for case in cases(words.less))]:
             if is_wanted(case[0], case[2]):
                 wrong += not run_case(folder, *case)
         if is_wanted("cut short at 20 places", ["salvage"]):

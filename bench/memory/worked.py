@@ -19,7 +19,8 @@ from pathlib import Path
 HERE = Path(__file__).resolve().parent
 CRATE = HERE.parent.parent / "crates" / "hprof_worked"
 PROGRAM = CRATE / "out" / "hprof_worked"
-CALLS = {"join", "join101", "salvage", "check", "histo", "classes", "objects", "object", "refs", "path", "text", "why", "who", "keeps", "show", "threads", "diff", "ask"}
+CALLS = {"join", "join101", "salvage", "check", "histo", "classes", "objects", "biggest"}
+CALLS |= {"object", "refs", "path", "text", "why", "who", "keeps", "show", "threads", "diff", "ask"}
 CALLS |= {"edges", "layout", "unite", "read", "facts", "$"}
 TITLES = [
     "two names in any order and twice",

@@ -10,6 +10,8 @@ use Rattle.hprof_ask.specs.declared.report.Kinds.{Kinds}
 use Rattle.hprof_ask.specs.declared.report.Kinds.TheVariants as these
 use Rattle.hprof_ask.specs.declared.report.Node.{Node}
 use Rattle.hprof_ask.specs.declared.report.Node.TheVariants as that
+use Rattle.hprof_ask.specs.declared.report.KindReport.{KindReport}
+use Rattle.hprof_ask.specs.declared.report.KindReport.TheVariants as kinds_of
 use Rattle.hprof_ask.specs.declared.report.NodeReport.{NodeReport}
 use Rattle.hprof_ask.specs.declared.report.Report.{Report}
 use Rattle.hprof_ask.specs.declared.report.Report.TheVariants as reports
@@ -65,7 +67,7 @@ front_of follow.ClassOrType line word text none is = ap front is.1 ∙ front_beh
 
 -- the first report of the list with that word
 abbrev word_by : List ReportWord → List ℕ → ReportWord
-word_by [] text = words.Objects
+word_by [] text = words.Kind kinds_of.Objects
 word_by (word ∷ rest) text = if bytes_eq (word_of word) text then word else word_by rest text
 
 -- words have no space, differ from each other, and are none of `help`, `quit` and `exit`
@@ -95,7 +97,7 @@ differs = of_each Differs (
                   (refl, refl, refl, refl, refl, refl),
                   (
                     (refl, refl, refl, refl, refl, refl),
-                    ((refl, refl, refl, refl, refl, refl), ((refl, refl, refl, refl, refl, refl), ((refl, refl, refl, refl, refl, refl), tt))),
+                    ((refl, refl, refl, refl, refl, refl), ((refl, refl, refl, refl, refl, refl), ((refl, refl, refl, refl, refl, refl), ((refl, refl, refl, refl, refl, refl), tt)))),
                   ),
                 ),
               ),
@@ -161,24 +163,24 @@ not_quit word line text is quit = elim quit [
 
 -- ---- what follows a word
 
-one_kinds : (text : List ℕ) (one other : Kinds) → SaysKinds text one → SaysKinds text other
-    → placed_report (reports.Objects one) ≡ placed_report (reports.Objects other)
-one_kinds text (these.Of (kinds.Prim one)) (these.Of (kinds.Prim other)) is is_too =
+one_kinds : (report : KindReport) (text : List ℕ) (one other : Kinds) → SaysKinds text one → SaysKinds text other
+    → placed_report (reports.Kind report one) ≡ placed_report (reports.Kind report other)
+one_kinds report text (these.Of (kinds.Prim one)) (these.Of (kinds.Prim other)) is is_too =
     let e : Some one ≡ Some other = sym is ∙ is_too in
     let same : one ≡ other = cc in
-    ap (λ (elem : Basic). reports.Objects (these.Of (kinds.Prim elem))) same
-one_kinds text (these.Of (kinds.Prim elem)) (these.Of (kinds.Class class)) is is_too =
+    ap (λ (elem : Basic). reports.Kind report (these.Of (kinds.Prim elem))) same
+one_kinds report text (these.Of (kinds.Prim elem)) (these.Of (kinds.Class class)) is is_too =
     let no : Some elem ≡ None = sym is ∙ is_too.0 in absurd cc
-one_kinds text (these.Of (kinds.Prim elem)) (these.Named name) is is_too = let no : Some elem ≡ None = sym is ∙ is_too.0 in absurd cc
-one_kinds text (these.Of (kinds.Class class)) (these.Of (kinds.Prim elem)) is is_too =
+one_kinds report text (these.Of (kinds.Prim elem)) (these.Named name) is is_too = let no : Some elem ≡ None = sym is ∙ is_too.0 in absurd cc
+one_kinds report text (these.Of (kinds.Class class)) (these.Of (kinds.Prim elem)) is is_too =
     let no : Some elem ≡ None = sym is_too ∙ is.0 in absurd cc
-one_kinds text (these.Named name) (these.Of (kinds.Prim elem)) is is_too = let no : Some elem ≡ None = sym is_too ∙ is.0 in absurd cc
-one_kinds text (these.Of (kinds.Class one)) (these.Of (kinds.Class other)) is is_too =
-    ap (λ (class : ℕ). reports.Objects (these.Of (kinds.Class class))) (sym is.1.1 ∙ is_too.1.1)
-one_kinds text (these.Of (kinds.Class class)) (these.Named name) is is_too = absurd (is_too.1 is.1.0)
-one_kinds text (these.Named name) (these.Of (kinds.Class class)) is is_too = absurd (is.1 is_too.1.0)
-one_kinds text (these.Named one) (these.Named other) is is_too =
-    ap (λ (bytes : List ℕ). reports.Objects (these.Named (record { ref_ptr = (0, 0); now = bytes }))) (is.2 ∙ sym is_too.2)
+one_kinds report text (these.Named name) (these.Of (kinds.Prim elem)) is is_too = let no : Some elem ≡ None = sym is_too ∙ is.0 in absurd cc
+one_kinds report text (these.Of (kinds.Class one)) (these.Of (kinds.Class other)) is is_too =
+    ap (λ (class : ℕ). reports.Kind report (these.Of (kinds.Class class))) (sym is.1.1 ∙ is_too.1.1)
+one_kinds report text (these.Of (kinds.Class class)) (these.Named name) is is_too = absurd (is_too.1 is.1.0)
+one_kinds report text (these.Named name) (these.Of (kinds.Class class)) is is_too = absurd (is.1 is_too.1.0)
+one_kinds report text (these.Named one) (these.Named other) is is_too =
+    ap (λ (bytes : List ℕ). reports.Kind report (these.Named (record { ref_ptr = (0, 0); now = bytes }))) (is.2 ∙ sym is_too.2)
 
 -- no text is both an identifier and a name
 both_said : (follows : Follows) (text : List ℕ) (name : Bor (List ℕ)) → IsIdText text → SaysNode follows text (that.Named name) → ⊥
@@ -208,22 +210,24 @@ one_node follows text report (that.Named one) (that.Named other) is is_too =
 one_asked : (word : ReportWord) (text : List ℕ) (one other : Report) → AsksReport word text one → AsksReport word text other
     → placed_report one ≡ placed_report other
 one_asked (words.Heap word) text (reports.Heap one) (reports.Heap other) is is_too = ap reports.Heap (sym is ∙ is_too)
-one_asked words.Objects text (reports.Objects one) (reports.Objects other) is is_too = one_kinds text one other is is_too
+one_asked (words.Kind word) text (reports.Kind one kinds) (reports.Kind other kinds_too) is is_too =
+    one_kinds one text kinds kinds_too is.1 is_too.1
+    ∙ ap (λ (report : KindReport). placed_report (reports.Kind report kinds_too)) (sym is.0 ∙ is_too.0)
 one_asked (words.Node word) text (reports.Node one node) (reports.Node other node_too) is is_too =
     one_node (node_follows word) text one node node_too is.1 is_too.1
     ∙ ap (λ (report : NodeReport). placed_report (reports.Node report node_too)) (sym is.0 ∙ is_too.0)
-one_asked (words.Heap word) text (reports.Heap one) (reports.Objects kind) is is_too = absurd is_too
+one_asked (words.Heap word) text (reports.Heap one) (reports.Kind of kind) is is_too = absurd is_too
 one_asked (words.Heap word) text (reports.Heap one) (reports.Node other id) is is_too = absurd is_too
-one_asked (words.Heap word) text (reports.Objects kind) other is is_too = absurd is
+one_asked (words.Heap word) text (reports.Kind of kind) other is is_too = absurd is
 one_asked (words.Heap word) text (reports.Node one id) other is is_too = absurd is
-one_asked words.Objects text (reports.Objects one) (reports.Heap other) is is_too = absurd is_too
-one_asked words.Objects text (reports.Objects one) (reports.Node other id) is is_too = absurd is_too
-one_asked words.Objects text (reports.Heap one) other is is_too = absurd is
-one_asked words.Objects text (reports.Node one id) other is is_too = absurd is
+one_asked (words.Kind word) text (reports.Kind one kind) (reports.Heap other) is is_too = absurd is_too
+one_asked (words.Kind word) text (reports.Kind one kind) (reports.Node other id) is is_too = absurd is_too
+one_asked (words.Kind word) text (reports.Heap one) other is is_too = absurd is
+one_asked (words.Kind word) text (reports.Node one id) other is is_too = absurd is
 one_asked (words.Node word) text (reports.Node one id) (reports.Heap other) is is_too = absurd is_too
-one_asked (words.Node word) text (reports.Node one id) (reports.Objects kind) is is_too = absurd is_too
+one_asked (words.Node word) text (reports.Node one id) (reports.Kind of kind) is is_too = absurd is_too
 one_asked (words.Node word) text (reports.Heap one) other is is_too = absurd is
-one_asked (words.Node word) text (reports.Objects kind) other is is_too = absurd is
+one_asked (words.Node word) text (reports.Kind of kind) other is is_too = absurd is
 
 names_id : (word : ReportWord) (text : List ℕ) (report : Report) → AsksReport word text report → follows_of word ≡ follow.Identifier
     → IsIdText text
@@ -231,9 +235,9 @@ names_id (words.Node word) text (reports.Node report (that.Identifier id)) is sa
 names_id (words.Node word) text (reports.Node report (that.Named name)) is same =
     absurd (subst (λ (follows : Follows). SaysNode follows text (that.Named name)) same is.1)
 names_id (words.Node word) text (reports.Heap report) is same = absurd is
-names_id (words.Node word) text (reports.Objects kind) is same = absurd is
+names_id (words.Node word) text (reports.Kind of kind) is same = absurd is
 names_id (words.Heap word) text report is same = absurd cc
-names_id words.Objects text report is same = absurd cc
+names_id (words.Kind word) text report is same = absurd cc
 
 misnames : (word : ReportWord) (text : List ℕ) (report : Report) (fault : Misnamed) → AsksReport word text report → IsMisnamed word text fault → ⊥
 misnames word text report misnamed.NoIdentifier is fails = fails.1 (names_id word text report is fails.0)

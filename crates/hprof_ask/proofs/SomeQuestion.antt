@@ -140,7 +140,7 @@ module _ (text : List ℕ) where
   named (words.Node nodes.Object) = of_identifier nodes.Object refl
   named (words.Node nodes.Refs) = of_identifier nodes.Refs refl
   named (words.Node nodes.Path) = of_identifier nodes.Path refl
-  named words.Objects = let it = kinds_said text in (questions.Report (reports.Objects it.0), it.1)
+  named (words.Kind report) = let it = kinds_said text in (questions.Report (reports.Kind report it.0), (refl, it.1))
 
 -- ---- what a line asks
 

@@ -42,7 +42,7 @@ SaysNode other text (that.Named name) = ⊥
 -- the word asks for the report, with this text behind it
 abbrev pub AsksReport : ReportWord → List ℕ → Report → Type 0
 AsksReport (words.Heap word) text (reports.Heap report) = word ≡ report
-AsksReport words.Objects text (reports.Objects kinds) = SaysKinds text kinds
+AsksReport (words.Kind word) text (reports.Kind report kinds) = (word ≡ report) × SaysKinds text kinds
 AsksReport (words.Node word) text (reports.Node report node) = (word ≡ report) × SaysNode (node_follows word) text node
 AsksReport word text report = ⊥
 

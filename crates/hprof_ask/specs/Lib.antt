@@ -3,6 +3,7 @@ pub mod Words
 pub mod Summarised
 pub mod OneReport
 pub mod SomeCheck
+pub mod OfName
 pub mod SomeReport
 pub mod Lines
 pub mod Same

@@ -34,8 +34,8 @@ module _ (summaries : List PartSummary) (ids : IdSize) (facts : List FactValue) 
   placed_report_reply : (report : Report) (text : List ℕ) → IsReportReply summaries ids facts report text
       → IsReportReply summaries ids facts (placed_report report) text
   placed_report_reply (reports.Heap report) text is = is
-  placed_report_reply (reports.Objects (these.Of kind)) text is = is
-  placed_report_reply (reports.Objects (these.Named name)) text is = is
+  placed_report_reply (reports.Kind report (these.Of kind)) text is = is
+  placed_report_reply (reports.Kind report (these.Named name)) text is = is
   placed_report_reply (reports.Node report (that.Identifier id)) text is = is
   placed_report_reply (reports.Node report (that.Named name)) text is = is
 

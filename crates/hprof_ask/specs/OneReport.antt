@@ -14,21 +14,26 @@ use Rattle.hprof_reports.specs.OneText.{one_text_line}
 use Rattle.hprof_show.proofs.OneReport.{one_show_text}
 use Rattle.hprof_holders.proofs.SomeThreads.{text_once as threads_once}
 use Rattle.hprof_holders.proofs.SomeWho.{who_once}
+use Rattle.hprof_histogram.specs.declared.row.Kind.{Kind}
+use Rattle.hprof_keeps.specs.Chosen.{HasObjectOfKind}
+use Rattle.hprof_keeps.proofs.OneBiggest.{biggest_once}
 use Rattle.hprof_keeps.proofs.OneKeeps.{keeps_once}
 use Rattle.hprof_why.proofs.OneText.{why_once}
 use Rattle.hprof_meaning.specs.MeantClasses.{IsMeantClass, IsMeantDump}
-use Rattle.hprof_meaning.specs.ObjectsOfText.{IsObjectsOfText}
 use Rattle.hprof_meaning.proofs.MeantLists.{one_all}
 use Rattle.hprof_meaning.proofs.OneTexts.{one_named_text, one_objects_text as one_objects_of_classes}
 use Rattle.hprof_ask.specs.declared.report.HeapReport.{HeapReport}
 use Rattle.hprof_ask.specs.declared.report.HeapReport.TheVariants as heaps
+use Rattle.hprof_ask.specs.declared.report.KindReport.{KindReport}
+use Rattle.hprof_ask.specs.declared.report.KindReport.TheVariants as kinds
 use Rattle.hprof_ask.specs.declared.report.NodeReport.{NodeReport}
 use Rattle.hprof_ask.specs.declared.report.NodeReport.TheVariants as nodes
 use Rattle.hprof_ask.specs.declared.report.Kinds.TheVariants as these
 use Rattle.hprof_ask.specs.declared.report.Node.TheVariants as that
 use Rattle.hprof_ask.specs.declared.report.Report.{Report}
 use Rattle.hprof_ask.specs.declared.report.Report.TheVariants as reports
-use Rattle.hprof_ask.specs.Report.{IsHeapReport, IsNamedObjects, IsNamedReport, IsNodeReport, IsReport, IsReportOfDumps, LacksClass}
+use Rattle.hprof_ask.specs.Report.{IsHeapReport, IsKindReport, IsNamedKind, IsNamedReport, IsNodeReport, IsOfClasses, IsReport, IsReportOfClasses}
+use Rattle.hprof_ask.specs.Report.{IsReportOfDumps, LacksClass}
 
 module _ (summaries : List PartSummary) (ids : IdSize) (facts : List FactValue) where
   one_heap_report : (report : HeapReport) (one other : List ℕ) → IsHeapReport summaries ids facts report one
@@ -49,11 +54,22 @@ module _ (summaries : List PartSummary) (ids : IdSize) (facts : List FactValue) 
   one_node_report nodes.Refs id = one_refs ids facts id
   one_node_report nodes.Path id = one_path_text ids facts id
 
-  one_named_objects : (name : List ℕ) (one other : List ℕ) → IsNamedObjects ids facts name one → IsNamedObjects ids facts name other
-      → one ≡ other
-  one_named_objects name one other is is_too =
-      one_objects_of_classes ids facts is_too.classes one other
-      (subst (λ (classes : List ℕ). IsObjectsOfText ids facts classes one)
+  one_kind_report : (report : KindReport) (kind : Kind) (one other : List ℕ) → IsKindReport ids facts report kind one
+      → IsKindReport ids facts report kind other → one ≡ other
+  one_kind_report kinds.Biggest kind = λ one other are too. biggest_once ids facts are.agree (HasObjectOfKind facts kind) one other are too
+  one_kind_report kinds.Objects kind = one_objects_text ids facts kind
+
+  one_report_of_classes : (report : KindReport) (name classes : List ℕ) (one other : List ℕ)
+      → IsReportOfClasses ids facts report name classes one → IsReportOfClasses ids facts report name classes other → one ≡ other
+  one_report_of_classes kinds.Biggest name classes = λ one other are too.
+      biggest_once ids facts are.agree (IsOfClasses facts name classes) one other are too
+  one_report_of_classes kinds.Objects name classes = one_objects_of_classes ids facts classes
+
+  one_named_kind : (report : KindReport) (name : List ℕ) (one other : List ℕ) → IsNamedKind ids facts report name one
+      → IsNamedKind ids facts report name other → one ≡ other
+  one_named_kind report name one other is is_too =
+      one_report_of_classes report name is_too.classes one other
+      (subst (λ (classes : List ℕ). IsReportOfClasses ids facts report name classes one)
       (one_all (IsMeantClass facts name) is.classes is_too.classes is.are_classes is_too.are_classes) is.is) is_too.is
 
   one_report_of_dumps : (report : NodeReport) (dumps : List ℕ) (one other : List ℕ) → IsReportOfDumps ids facts report dumps one
@@ -73,18 +89,18 @@ module _ (summaries : List PartSummary) (ids : IdSize) (facts : List FactValue) 
   pub one_report : (report : Report) (one other : List ℕ) → IsReport summaries ids facts report one
       → IsReport summaries ids facts report other → one ≡ other
   one_report (reports.Heap report) = one_heap_report report
-  one_report (reports.Objects (these.Of kind)) = one_objects_text ids facts kind
-  one_report (reports.Objects (these.Named name)) = one_named_objects name.now
+  one_report (reports.Kind report (these.Of kind)) = one_kind_report report kind
+  one_report (reports.Kind report (these.Named name)) = one_named_kind report name.now
   one_report (reports.Node report (that.Identifier id)) = one_node_report report id
   one_report (reports.Node report (that.Named name)) = one_named_report report name.now
 
   -- and none of a name that no class has
   pub no_report : (report : Report) (text : List ℕ) → LacksClass facts report → IsReport summaries ids facts report text → ⊥
-  no_report (reports.Objects (these.Named name)) text lacks is =
+  no_report (reports.Kind report (these.Named name)) text lacks is =
       lacks.1 (is.there (one_all (IsMeantClass facts name.now) is.classes [] is.are_classes lacks.0))
   no_report (reports.Node report (that.Named name)) text lacks is =
       subst (λ (dumps : List ℕ). IsReportOfDumps ids facts report dumps text)
       (one_all (IsMeantDump facts name.now) is.dumps [] is.are_dumps lacks) is.is
   no_report (reports.Heap report) text lacks is = lacks
-  no_report (reports.Objects (these.Of kind)) text lacks is = lacks
+  no_report (reports.Kind report (these.Of kind)) text lacks is = lacks
   no_report (reports.Node report (that.Identifier id)) text lacks is = lacks

@@ -13,7 +13,7 @@ abbrev pub placed : Bor (List ℕ) → Bor (List ℕ)
 placed name = record { ref_ptr = (0, 0); now = name.now }
 
 abbrev pub placed_report : Report → Report
-placed_report (reports.Objects (these.Named name)) = reports.Objects (these.Named (placed name))
+placed_report (reports.Kind report (these.Named name)) = reports.Kind report (these.Named (placed name))
 placed_report (reports.Node report (that.Named name)) = reports.Node report (that.Named (placed name))
 placed_report other = other
 

@@ -1,6 +1,6 @@
 -- A report of facts that agree is there.
 use Rattle.std.specs.Prelude.{bytes_eq, map}
-use Rattle.std.proofs.Common.{◌≡◌, ◌⊎◌, inl, inr, ℕ, List, [], ◌∷◌, codes, refl}
+use Rattle.std.proofs.Common.{◌≡◌, ◌⊎◌, ◌↔◌, inl, inr, ℕ, Bool, true, false, List, [], ◌∷◌, codes, IsTrue, refl}
 use Rattle.std.proofs.lemmas.Bool.{cases_Bool}
 use Rattle.std.proofs.lemmas.Bool.Decides.{not_from_Decides}
 use Rattle.std.proofs.lemmas.Slice.Eq.{bytes_eq-Decides}
@@ -28,6 +28,9 @@ use Rattle.hprof_reports.proofs.ClassLists.{some_dumps}
 use Rattle.hprof_show.proofs.OneReport.{some_show}
 use Rattle.hprof_holders.proofs.SomeThreads.{text_exists as some_threads}
 use Rattle.hprof_holders.proofs.SomeWho.{who_exists}
+use Rattle.hprof_keeps.specs.BiggestText.{IsBiggestText}
+use Rattle.hprof_keeps.specs.declared.choice.Choice.TheVariants as choices
+use Rattle.hprof_keeps.proofs.SomeBiggest.{chosen_exist}
 use Rattle.hprof_keeps.proofs.SomeKeeps.{keeps_exists}
 use Rattle.hprof_why.proofs.SomeText.{why_exists}
 use Rattle.hprof_naming.specs.MeantLabel.{meant_label, slashed}
@@ -36,13 +39,17 @@ use Rattle.hprof_meaning.proofs.OneTexts.{some_named_text, some_objects_text}
 use Rattle.hprof_meaning.proofs.SomeLists.{some_classes as some_classes_named, some_dumps as some_dumps_named}
 use Rattle.hprof_ask.specs.declared.report.HeapReport.{HeapReport}
 use Rattle.hprof_ask.specs.declared.report.HeapReport.TheVariants as heaps
+use Rattle.hprof_ask.specs.declared.report.KindReport.{KindReport}
+use Rattle.hprof_ask.specs.declared.report.KindReport.TheVariants as kinds
 use Rattle.hprof_ask.specs.declared.report.NodeReport.{NodeReport}
 use Rattle.hprof_ask.specs.declared.report.NodeReport.TheVariants as nodes
 use Rattle.hprof_ask.specs.declared.report.Kinds.TheVariants as these
 use Rattle.hprof_ask.specs.declared.report.Node.TheVariants as that
 use Rattle.hprof_ask.specs.declared.report.Report.{Report}
 use Rattle.hprof_ask.specs.declared.report.Report.TheVariants as reports
-use Rattle.hprof_ask.specs.Report.{IsHeapReport, IsNamedObjects, IsNamedReport, IsNodeReport, IsReport, LacksClass, NamesClasses}
+use Rattle.hprof_ask.specs.Report.{IsHeapReport, IsKindReport, IsNamedKind, IsNamedReport, IsNodeReport, IsOfClasses, IsReport}
+use Rattle.hprof_ask.specs.Report.{IsReportOfClasses, LacksClass, NamesClasses}
+use Rattle.hprof_ask.specs.OfName.{biggest_of_name}
 use Rattle.hprof_ask.specs.SomeCheck.{some_check}
 use Rattle.hprof_holders.specs.SomeReferrers.{some_referrers}
 
@@ -120,6 +127,10 @@ module _ (ids : IdSize) (facts : List FactValue) (agree : IsConsistent facts) wh
   some_heap_report summaries heaps.Classes = some_classes
   some_heap_report summaries heaps.Threads = some_threads facts agree ids
 
+  some_kind_report : (report : KindReport) (kind : Kind) → (text : List ℕ) × IsKindReport ids facts report kind text
+  some_kind_report kinds.Biggest kind = chosen_exist ids facts agree (choices.Of kind)
+  some_kind_report kinds.Objects kind = some_objects kind
+
   pub some_node_report : (report : NodeReport) (id : ℕ) → (text : List ℕ) × IsNodeReport ids facts report id text
   some_node_report nodes.Show id = some_show ids facts id agree
   some_node_report nodes.Why id = why_exists ids facts agree id
@@ -135,20 +146,38 @@ module _ (ids : IdSize) (facts : List FactValue) (agree : IsConsistent facts) wh
   names_classes : (name : List ℕ) → NamesClasses name ⊎ ¬ (NamesClasses name)
   names_classes name = same_bytes (slashed (codes "java/lang/Class")) (slashed (meant_label name))
 
-  objects_named : (name : List ℕ) (classes : List ℕ) → AreMeantClasses facts name classes → (classes ≡ [] → NamesClasses name)
-      → (text : List ℕ) × IsNamedObjects ids facts name text
-  objects_named name classes are there =
-      let text = some_objects_text ids facts classes in
+  -- `biggest` on the classes of a name, whether it is that of the class of all classes or not
+  biggest_of_classes : (name classes : List ℕ) → (text : List ℕ) × IsBiggestText ids facts (IsOfClasses facts name classes) text
+  biggest_of_classes name classes = by (names_classes name) where
+    with_dumps : (dumps : Bool) → (IsTrue dumps ↔ NamesClasses name)
+        → (text : List ℕ) × IsBiggestText ids facts (IsOfClasses facts name classes) text
+    with_dumps dumps same =
+        let text = chosen_exist ids facts agree (choices.OfClasses (record { ref_ptr = (0, 0); now = classes }) dumps) in
+        (text.0, biggest_of_name ids facts name classes dumps same text.0 text.1)
+
+    by : NamesClasses name ⊎ ¬ (NamesClasses name) → (text : List ℕ) × IsBiggestText ids facts (IsOfClasses facts name classes) text
+    by (inl is) = with_dumps true (λ _. is, λ _. refl)
+    by (inr fails) = with_dumps false (λ none. absurd cc, λ is. absurd (fails is))
+
+  some_report_of_classes : (report : KindReport) (name classes : List ℕ)
+      → (text : List ℕ) × IsReportOfClasses ids facts report name classes text
+  some_report_of_classes kinds.Biggest name classes = biggest_of_classes name classes
+  some_report_of_classes kinds.Objects name classes = some_objects_text ids facts classes
+
+  kind_named : (report : KindReport) (name : List ℕ) (classes : List ℕ) → AreMeantClasses facts name classes
+      → (classes ≡ [] → NamesClasses name) → (text : List ℕ) × IsNamedKind ids facts report name text
+  kind_named report name classes are there =
+      let text = some_report_of_classes report name classes in
       (text.0, record { classes = classes; are_classes = are; there = there; is = text.1 })
 
-  named_objects : (name : List ℕ) → ((text : List ℕ) × IsNamedObjects ids facts name text)
+  named_kind : (report : KindReport) (name : List ℕ) → ((text : List ℕ) × IsNamedKind ids facts report name text)
       ⊎ (AreMeantClasses facts name [] × ¬ (NamesClasses name))
-  named_objects name = let all = some_classes_named facts name agree in by all.0 all.1 (names_classes name) where
+  named_kind report name = let all = some_classes_named facts name agree in by all.0 all.1 (names_classes name) where
     by : (classes : List ℕ) → AreMeantClasses facts name classes → NamesClasses name ⊎ ¬ (NamesClasses name)
-        → ((text : List ℕ) × IsNamedObjects ids facts name text) ⊎ (AreMeantClasses facts name [] × ¬ (NamesClasses name))
-    by [] are (inl is) = inl (objects_named name [] are (λ _. is))
+        → ((text : List ℕ) × IsNamedKind ids facts report name text) ⊎ (AreMeantClasses facts name [] × ¬ (NamesClasses name))
+    by [] are (inl is) = inl (kind_named report name [] are (λ _. is))
     by [] are (inr fails) = inr (are, fails)
-    by (class ∷ classes) are either = inl (objects_named name (class ∷ classes) are (λ none. absurd cc))
+    by (class ∷ classes) are either = inl (kind_named report name (class ∷ classes) are (λ none. absurd cc))
 
   named_report : (report : NodeReport) (name : List ℕ) → ((text : List ℕ) × IsNamedReport ids facts report name text)
       ⊎ AreMeantDumps facts name []
@@ -169,8 +198,8 @@ module _ (ids : IdSize) (facts : List FactValue) (agree : IsConsistent facts) wh
   pub report_or_none : (summaries : List PartSummary) (report : Report) → ((text : List ℕ) × IsReport summaries ids facts report text)
       ⊎ LacksClass facts report
   report_or_none summaries (reports.Heap report) = inl (some_heap_report summaries report)
-  report_or_none summaries (reports.Objects (these.Of kind)) = inl (some_objects kind)
-  report_or_none summaries (reports.Objects (these.Named name)) = named_objects name.now
+  report_or_none summaries (reports.Kind report (these.Of kind)) = inl (some_kind_report report kind)
+  report_or_none summaries (reports.Kind report (these.Named name)) = named_kind report name.now
   report_or_none summaries (reports.Node report (that.Identifier id)) = inl (some_node_report report id)
   report_or_none summaries (reports.Node report (that.Named name)) = named_report report name.now
 

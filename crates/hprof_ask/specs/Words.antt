@@ -3,6 +3,8 @@ use Rattle.std.specs.Prelude.{ℕ, List, [], ◌∷◌, ◌++◌, codes}
 use Rattle.std.specs.List.{flat_map}
 use Rattle.hprof_ask.specs.declared.report.HeapReport.{HeapReport}
 use Rattle.hprof_ask.specs.declared.report.HeapReport.TheVariants as heaps
+use Rattle.hprof_ask.specs.declared.report.KindReport.{KindReport}
+use Rattle.hprof_ask.specs.declared.report.KindReport.TheVariants as kinds
 use Rattle.hprof_ask.specs.declared.report.NodeReport.{NodeReport}
 use Rattle.hprof_ask.specs.declared.report.NodeReport.TheVariants as nodes
 use Rattle.hprof_ask.specs.declared.report_word.Follows.{Follows}
@@ -16,6 +18,11 @@ heap_word heaps.Check = codes "check"
 heap_word heaps.Histogram = codes "histo"
 heap_word heaps.Classes = codes "classes"
 heap_word heaps.Threads = codes "threads"
+
+-- the words of reports on the objects of a class or a type
+abbrev pub kind_word : KindReport → List ℕ
+kind_word kinds.Biggest = codes "biggest"
+kind_word kinds.Objects = codes "objects"
 
 -- the words of reports on a class or an object
 abbrev pub node_word : NodeReport → List ℕ
@@ -38,18 +45,19 @@ node_follows other = follow.Identifier
 
 abbrev pub word_of : ReportWord → List ℕ
 word_of (words.Heap report) = heap_word report
-word_of words.Objects = codes "objects"
+word_of (words.Kind report) = kind_word report
 word_of (words.Node report) = node_word report
 
 abbrev pub follows_of : ReportWord → Follows
 follows_of (words.Heap report) = follow.Nothing
-follows_of words.Objects = follow.ClassOrType
+follows_of (words.Kind report) = follow.ClassOrType
 follows_of (words.Node report) = node_follows report
 
 -- all of them, in the order in which help lists them
 abbrev pub all_words : List ReportWord
 all_words =
-    words.Heap heaps.Check ∷ words.Heap heaps.Histogram ∷ words.Heap heaps.Classes ∷ words.Heap heaps.Threads ∷ words.Objects
+    words.Heap heaps.Check ∷ words.Heap heaps.Histogram ∷ words.Heap heaps.Classes ∷ words.Heap heaps.Threads
+    ∷ words.Kind kinds.Biggest ∷ words.Kind kinds.Objects
     ∷ words.Node nodes.Show ∷ words.Node nodes.Why ∷ words.Node nodes.Who ∷ words.Node nodes.Keeps ∷ words.Node nodes.Text
     ∷ words.Node nodes.Object ∷ words.Node nodes.Refs ∷ words.Node nodes.Path ∷ []
 

@@ -14,20 +14,23 @@ ghost use Rattle.hprof_edges.specs.Edges.{AreReferrers};
 ghost use Rattle.hprof_show.specs.ShowText.{IsShowText};
 ghost use Rattle.hprof_holders.specs.ThreadsText.{IsThreadsText};
 ghost use Rattle.hprof_holders.specs.WhoText.{IsWhoText};
+ghost use Rattle.hprof_keeps.specs.BiggestText.{IsBiggestText};
+ghost use Rattle.hprof_keeps.specs.Chosen.{ClassesAscend, IsChosen};
 ghost use Rattle.hprof_keeps.specs.KeepsText.{IsKeepsText};
 ghost use Rattle.hprof_why.specs.WhyText.{IsWhyText};
 ghost use Rattle.hprof_ask.specs.Kept.{IsKept};
-ghost use Rattle.hprof_ask.specs.Report.{IsHeapReport, IsNodeReport, IsReport, RefusesReport, TakesMemory};
+ghost use Rattle.hprof_ask.specs.Report.{IsHeapReport, IsKindReport, IsNodeReport, IsReport, RefusesReport, TakesMemory};
 
 use crate::kept::{Kept, kept_or_made};
-use crate::report::{HeapReport, Kinds, Node, NodeReport, Report};
+use crate::report::{HeapReport, KindReport, Kinds, Node, NodeReport, Report};
 use crate::survey::view_of;
 use hprof_devices::{Target, push_all};
 use hprof_edges::{Edge, referrers};
 use hprof_engine::WriteStop;
 use hprof_heap::{Heap, holds_of_heap};
+use hprof_histogram::Kind;
 use hprof_holders::{write_threads, write_who};
-use hprof_keeps::write_keeps;
+use hprof_keeps::{Choice, write_biggest, write_keeps};
 use hprof_reports::{
     write_check, write_classes, write_histogram, write_object, write_objects, write_path,
     write_refs, write_text,
@@ -330,6 +333,54 @@ impl<'a> Answerer<'a> {
         }
     }
 
+    /// Writes the report `biggest` on a choice of classes and objects.
+    pub(crate) fn write_biggest<W: Target>(
+        &self,
+        alloc: Global,
+        kept: &mut Kept,
+        choice: Choice<'_>,
+        target: &mut W,
+    ) -> Result<(), WriteStop>
+        requires well { W.health target.old ≡ Well }
+        requires ascend { ClassesAscend choice }
+        requires kept { IsKept (size_of self.now.heap.now) (facts_of self.now.heap.now) kept.old }
+        ensures bytes { (text : List ℕ)
+            × IsBiggestText (size_of self.now.heap.now) (facts_of self.now.heap.now) (IsChosen (facts_of self.now.heap.now) choice.entry) text
+            × WritesText (W.written target.old) (W.written target.new) result text }
+        ensures health { LeavesTarget result (W.health target.new) }
+        ensures kept { IsKept (size_of self.now.heap.now) (facts_of self.now.heap.now) kept.new }
+    {
+        holds_of_heap(self.heap);
+        let survey = kept_or_made(alloc, self.heap, kept.survey.take())?;
+        let retained = kept_or_made(alloc, self.heap, kept.retained.take())?;
+        let outcome = write_biggest(alloc, self.heap, &survey.classes, &retained, choice, target);
+        kept.survey = Some(survey);
+        kept.retained = Some(retained);
+        outcome
+    }
+
+    /// Writes a report on the objects of a class or a type.
+    fn write_kind_report<W: Target>(
+        &self,
+        alloc: Global,
+        kept: &mut Kept,
+        report: KindReport,
+        kind: Kind,
+        target: &mut W,
+    ) -> Result<(), WriteStop>
+        requires well { W.health target.old ≡ Well }
+        requires kept { IsKept (size_of self.now.heap.now) (facts_of self.now.heap.now) kept.old }
+        ensures bytes { (text : List ℕ) × IsKindReport (size_of self.now.heap.now) (facts_of self.now.heap.now) report kind text
+            × WritesText (W.written target.old) (W.written target.new) result text }
+        ensures health { LeavesTarget result (W.health target.new) }
+        ensures kept { IsKept (size_of self.now.heap.now) (facts_of self.now.heap.now) kept.new }
+    {
+        match report {
+            KindReport::Biggest => self.write_biggest(alloc, kept, Choice::Of(kind), target),
+            KindReport::Objects => write_objects(alloc, self.heap, kind, target),
+        }
+    }
+
     /// Writes a report on an identifier.
     pub(crate) fn write_node_report<W: Target>(
         &self,
@@ -377,9 +428,11 @@ impl<'a> Answerer<'a> {
     {
         match report {
             Report::Heap(report) => self.write_heap_report(alloc, kept, report, target),
-            Report::Objects(Kinds::Of(kind)) => write_objects(alloc, self.heap, kind, target),
-            Report::Objects(Kinds::Named(name)) => {
-                self.write_objects_named(alloc, kept, name, target)
+            Report::Kind(report, Kinds::Of(kind)) => {
+                self.write_kind_report(alloc, kept, report, kind, target)
+            }
+            Report::Kind(report, Kinds::Named(name)) => {
+                self.write_kind_named(alloc, kept, report, name, target)
             }
             Report::Node(report, Node::Identifier(id)) => {
                 self.write_node_report(alloc, kept, report, id, target)

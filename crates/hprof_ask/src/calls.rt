@@ -7,7 +7,7 @@ ghost use Rattle.hprof_engine.specs.Makes.{Makes};
 ghost use Rattle.hprof_ask.specs.Report.{report_making};
 
 use crate::referring::write_who_once;
-use crate::report::{HeapReport, Kinds, Node, NodeReport, Report};
+use crate::report::{HeapReport, KindReport, Kinds, Node, NodeReport, Report};
 use hprof_devices::{Source, Target};
 use hprof_engine::{NoSummaries, ToolFault, read_heap, write_to};
 use hprof_graph::LiveHeap;
@@ -103,6 +103,31 @@ pub fn classes_to<R: Source, W: Target>(
     )
 }
 
+/// Reads all parts, and writes the report `biggest` on a class or a type in their heap: a line for each of its objects that strong
+/// references reach from a GC root, with the bytes and the number of the objects that it retains, those that retain the most bytes first,
+/// and nothing if there is none. All parts are read before the first byte is written. If memory runs out then, the bytes written are the
+/// beginning of the report.
+pub fn biggest_to<R: Source, W: Target>(
+    alloc: Global,
+    readers: &mut [R],
+    kind: Kind,
+    target: &mut W,
+    limits: Limits,
+) -> Result<(), ToolFault>
+    requires readers { All (λ reader. R.health reader ≡ Well) readers.old }
+    requires writer { W.health target.old ≡ Well }
+    ensures { Makes R.left R.health R.pulls W.written W.health limits (report_making (Report.Kind KindReport.Biggest (Kinds.Of kind)))
+        readers.old readers.new target.old target.new (fault_of result) }
+{
+    report_to(
+        alloc,
+        readers,
+        Report::Kind(KindReport::Biggest, Kinds::Of(kind)),
+        target,
+        limits,
+    )
+}
+
 /// Reads all parts, and writes the report `objects` on a class or a type in their heap: a line for each of its objects, with the bytes of
 /// the object, the largest first, and nothing if there is none. All parts are read before the first byte is written. If memory runs out
 /// then, the bytes written are the beginning of the report.
@@ -115,13 +140,13 @@ pub fn objects_to<R: Source, W: Target>(
 ) -> Result<(), ToolFault>
     requires readers { All (λ reader. R.health reader ≡ Well) readers.old }
     requires writer { W.health target.old ≡ Well }
-    ensures { Makes R.left R.health R.pulls W.written W.health limits (report_making (Report.Objects (Kinds.Of kind)))
+    ensures { Makes R.left R.health R.pulls W.written W.health limits (report_making (Report.Kind KindReport.Objects (Kinds.Of kind)))
         readers.old readers.new target.old target.new (fault_of result) }
 {
     report_to(
         alloc,
         readers,
-        Report::Objects(Kinds::Of(kind)),
+        Report::Kind(KindReport::Objects, Kinds::Of(kind)),
         target,
         limits,
     )

@@ -58,6 +58,26 @@ early, as head does, is a failed write.
 
 Exit status: 0 done, 1 refused (one line on standard error), 2 not understood.";
 
+/// The report `biggest`.
+pub(crate) const BIGGEST: &str = "\
+A line for each object that strong references reach from a GC root: the bytes
+and the number of the classes and objects that would go without it, its
+identifier and its class. Those that retain the most bytes come first, then the
+most objects, then by identifier. If there are none, nothing is printed.
+
+    $ hprof biggest shop.Session friday.hprof | sed -n 1,3p
+    160 10 740000738 shop/Session
+    160 10 740000ac0 shop/Session
+    135 8 7400005e0 shop/Session
+
+The bytes of two lines overlap if one object keeps the other alive: `keeps` tells
+what an object keeps. Weak, soft and phantom references keep nothing alive.
+Headers and padding of objects do not count. KIND is that of `objects`: a type of
+arrays, as byte[], a class by its hexadecimal identifier, or by its name, as
+shop.Session; of java.lang.Class also the classes that are no objects.
+
+Exit status: 0 done, 1 refused (one line on standard error), 2 not understood.";
+
 /// The report `objects`.
 pub(crate) const OBJECTS: &str = "\
 Columns: bytes of the object, its identifier. The largest come first, then by

@@ -26,13 +26,13 @@ pub use ask::{ask_kept, ask_to};
 pub use ask_fault::AskFault;
 pub use asker::Asker;
 pub use calls::{
-    check_to, classes_to, histo_to, keeps_to, object_to, objects_to, path_to, refs_to, report_to,
-    show_to, text_to, threads_to, who_to, why_to,
+    biggest_to, check_to, classes_to, histo_to, keeps_to, object_to, objects_to, path_to, refs_to,
+    report_to, show_to, text_to, threads_to, who_to, why_to,
 };
 pub use dialogue::{Answers, converse};
 pub use kept::Kept;
 pub use question::{Question, question_of};
-pub use report::{HeapReport, Kinds, Node, NodeReport, Report};
+pub use report::{HeapReport, KindReport, Kinds, Node, NodeReport, Report};
 pub use report_word::{Follows, ReportRow, ReportWord};
 pub use stop::DialogueStop;
 pub use subject::Misnamed;

@@ -1,6 +1,7 @@
 //! Reports on the classes that a name means.
 
 ghost use Rattle.std.specs.Prelude.{◌≡◌, ◌↔◌, ℕ, List, ⊤, IfOk, IsTrue};
+ghost use Rattle.std.specs.List.Sorted.{IsStrictlyIncreasing};
 ghost use Rattle.hprof_devices.specs.declared.health.Health.TheVariants.{Well};
 ghost use Rattle.hprof_engine.specs.Makes.{EndsWriting};
 ghost use Rattle.hprof_heap.specs.HeapFacts.{facts_of, size_of};
@@ -8,16 +9,17 @@ ghost use Rattle.hprof_meaning.specs.MeantClasses.{AreMeantClasses, AreMeantDump
 ghost use Rattle.hprof_meaning.specs.NamedText.{IsNamedText};
 ghost use Rattle.hprof_reports.specs.Stopping.{LeavesTarget, WritesText};
 ghost use Rattle.hprof_ask.specs.Kept.{IsKept};
-ghost use Rattle.hprof_ask.specs.Report.{IsNamedObjects, IsNamedReport, NamesClasses, RefusesReport};
+ghost use Rattle.hprof_ask.specs.Report.{IsNamedKind, IsNamedReport, IsReportOfClasses, NamesClasses, RefusesReport};
 ghost use Rattle.hprof_ask.specs.declared.report.Kinds.TheVariants as these;
 ghost use Rattle.hprof_ask.specs.declared.report.Node.TheVariants as that;
 
 use crate::answerer::Answerer;
 use crate::kept::{Kept, kept_or_made};
-use crate::report::{NodeReport, Report};
+use crate::report::{KindReport, NodeReport, Report};
 use hprof_devices::Target;
 use hprof_engine::{ProductRefusal, WriteStop};
 use hprof_heap::holds_of_heap;
+use hprof_keeps::Choice;
 use hprof_meaning::{
     class_dumps_meant, classes_meant, write_classes_of_name, write_objects_of_classes,
 };
@@ -66,19 +68,52 @@ impl<'a> Answerer<'a> {
         dumps
     }
 
-    /// Writes the report `objects` on the classes that a name means. If there are none, and it is not the name of the class of all classes,
-    /// nothing is written.
-    pub(crate) fn write_objects_named<W: Target>(
+    /// Writes a report on the objects of these classes, which a name means.
+    fn write_of_classes<W: Target>(
         &self,
         alloc: Global,
         kept: &mut Kept,
+        report: KindReport,
+        name: &[u8],
+        classes: &[u64],
+        target: &mut W,
+    ) -> Result<(), WriteStop>
+        requires well { W.health target.old ≡ Well }
+        requires ascend { IsStrictlyIncreasing classes.now }
+        requires kept { IsKept (size_of self.now.heap.now) (facts_of self.now.heap.now) kept.old }
+        ensures bytes { (text : List ℕ)
+            × IsReportOfClasses (size_of self.now.heap.now) (facts_of self.now.heap.now) report name.now classes.now text
+            × WritesText (W.written target.old) (W.written target.new) result text }
+        ensures health { LeavesTarget result (W.health target.new) }
+        ensures kept { IsKept (size_of self.now.heap.now) (facts_of self.now.heap.now) kept.new }
+    {
+        match report {
+            KindReport::Biggest => {
+                let with_class_dumps = names_classes(name);
+                let choice = Choice::OfClasses {
+                    classes,
+                    with_class_dumps,
+                };
+                self.write_biggest(alloc, kept, choice, target)
+            }
+            KindReport::Objects => write_objects_of_classes(alloc, self.heap, classes, target),
+        }
+    }
+
+    /// Writes a report on the objects of the classes that a name means. If there are none, and it is not the name of the class of all
+    /// classes, nothing is written.
+    pub(crate) fn write_kind_named<W: Target>(
+        &self,
+        alloc: Global,
+        kept: &mut Kept,
+        report: KindReport,
         name: &[u8],
         target: &mut W,
     ) -> Result<(), WriteStop>
         requires well { W.health target.old ≡ Well }
         requires kept { IsKept (size_of self.now.heap.now) (facts_of self.now.heap.now) kept.old }
-        ensures ends { EndsWriting W.written W.health (IsNamedObjects (size_of self.now.heap.now) (facts_of self.now.heap.now) name.now)
-            (RefusesReport (facts_of self.now.heap.now) (Report.Objects (these.Named name.entry))) ⊤ target.old target.new result }
+        ensures ends { EndsWriting W.written W.health (IsNamedKind (size_of self.now.heap.now) (facts_of self.now.heap.now) report name.now)
+            (RefusesReport (facts_of self.now.heap.now) (Report.Kind report (these.Named name.entry))) ⊤ target.old target.new result }
         ensures kept { IsKept (size_of self.now.heap.now) (facts_of self.now.heap.now) kept.new }
     {
         holds_of_heap(self.heap);
@@ -88,7 +123,7 @@ impl<'a> Answerer<'a> {
         if classes.is_empty() && !names_classes(name) {
             return Err(WriteStop::Refused(ProductRefusal::NoClass));
         }
-        write_objects_of_classes(alloc, self.heap, &classes, target)
+        self.write_of_classes(alloc, kept, report, name, &classes, target)
     }
 
     /// Writes which classes have the name that was asked for.

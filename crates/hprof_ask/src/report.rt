@@ -15,6 +15,15 @@ pub enum HeapReport {
     Threads,
 }
 
+/// A report on the objects of a class or a type.
+#[derive(Clone, Copy, Debug, PartialEq, Eq)]
+pub enum KindReport {
+    /// `biggest`: those that strong references reach, those that retain the most bytes first.
+    Biggest,
+    /// `objects`: all of them, the largest first.
+    Objects,
+}
+
 /// A report on a node: a class or an object.
 #[derive(Clone, Copy, Debug, PartialEq, Eq)]
 pub enum NodeReport {
@@ -36,7 +45,7 @@ pub enum NodeReport {
     Path,
 }
 
-/// The objects that the report `objects` is on.
+/// The objects of a class or a type.
 #[derive(Clone, Copy, Debug, PartialEq, Eq)]
 pub enum Kinds<'a> {
     /// The objects of a class with this identifier, or the arrays of a primitive type.
@@ -59,8 +68,8 @@ pub enum Node<'a> {
 pub enum Report<'a> {
     /// A report on the parts, or on the whole heap.
     Heap(HeapReport),
-    /// `objects`: the objects of a class or a type, the largest first.
-    Objects(Kinds<'a>),
+    /// A report on the objects of a class or a type.
+    Kind(KindReport, Kinds<'a>),
     /// A report on a class or an object.
     Node(NodeReport, Node<'a>),
 }

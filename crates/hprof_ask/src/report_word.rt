@@ -3,10 +3,10 @@
 ghost use Rattle.std.specs.Prelude.{◌≡◌, ◌≢◌, MatchOption};
 ghost use Rattle.hprof_ask.specs.declared.report_word.Follows.{Follows};
 ghost use Rattle.hprof_ask.specs.declared.report_word.ReportWord.{ReportWord};
-ghost use Rattle.hprof_ask.specs.Words.{follows_of, heap_word, node_follows, node_word, word_of};
+ghost use Rattle.hprof_ask.specs.Words.{follows_of, heap_word, kind_word, node_follows, node_word, word_of};
 
 use crate::help;
-use crate::report::{HeapReport, NodeReport};
+use crate::report::{HeapReport, KindReport, NodeReport};
 
 /// What follows the word of a report.
 #[derive(Clone, Copy, Debug, PartialEq, Eq)]
@@ -26,8 +26,8 @@ pub enum Follows {
 pub enum ReportWord {
     /// The word of a report on the parts, or on the whole heap.
     Heap(HeapReport),
-    /// `objects`.
-    Objects,
+    /// The word of a report on the objects of a class or a type.
+    Kind(KindReport),
     /// The word of a report on a class or an object.
     Node(NodeReport),
 }
@@ -46,12 +46,13 @@ pub struct ReportRow {
 }
 
 /// All reports, in the order in which the dialogue's help lists them.
-pub(crate) const ALL: [ReportWord; 13] = [
+pub(crate) const ALL: [ReportWord; 14] = [
     ReportWord::Heap(HeapReport::Check),
     ReportWord::Heap(HeapReport::Histogram),
     ReportWord::Heap(HeapReport::Classes),
     ReportWord::Heap(HeapReport::Threads),
-    ReportWord::Objects,
+    ReportWord::Kind(KindReport::Biggest),
+    ReportWord::Kind(KindReport::Objects),
     ReportWord::Node(NodeReport::Show),
     ReportWord::Node(NodeReport::Why),
     ReportWord::Node(NodeReport::Who),
@@ -91,6 +92,27 @@ fn heap_row(report: HeapReport) -> ReportRow
             follows: Follows::Nothing,
             about: "Prints each thread, its stack, and the objects that its frames hold",
             help: help::THREADS,
+        },
+    }
+}
+
+/// Returns the row of a report on the objects of a class or a type.
+fn kind_row(report: KindReport) -> ReportRow
+    ensures word { result.word.now ≡ kind_word report }
+    ensures follows { result.follows ≡ Follows.ClassOrType }
+{
+    match report {
+        KindReport::Biggest => ReportRow {
+            word: "biggest",
+            follows: Follows::ClassOrType,
+            about: "Prints the objects of a class or a type by retained size",
+            help: help::BIGGEST,
+        },
+        KindReport::Objects => ReportRow {
+            word: "objects",
+            follows: Follows::ClassOrType,
+            about: "Prints the objects of a class or a type, the largest first",
+            help: help::OBJECTS,
         },
     }
 }
@@ -160,12 +182,7 @@ impl ReportWord {
     {
         match self {
             ReportWord::Heap(report) => heap_row(report),
-            ReportWord::Objects => ReportRow {
-                word: "objects",
-                follows: Follows::ClassOrType,
-                about: "Prints the objects of a class or a type, the largest first",
-                help: help::OBJECTS,
-            },
+            ReportWord::Kind(report) => kind_row(report),
             ReportWord::Node(report) => node_row(report),
         }
     }

@@ -85,7 +85,7 @@ impl ReportWord {
     {
         Ok(match self {
             ReportWord::Heap(report) => Report::Heap(report),
-            ReportWord::Objects => Report::Objects(kinds_of(text)),
+            ReportWord::Kind(report) => Report::Kind(report, kinds_of(text)),
             ReportWord::Node(report) => Report::Node(report, subject_of(report, text)?),
         })
     }

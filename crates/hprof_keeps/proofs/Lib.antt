@@ -22,3 +22,4 @@ pub mod ChosenNodes
 pub mod LargestFirst
 pub mod SomeBiggest
 pub mod OneBiggest
+pub mod SameChoice

@@ -9,6 +9,7 @@ use Rattle.clap.specs.Walk.{Rule, is_empty}
 use Rattle.hprof_ask.specs.declared.report_word.Follows.{Follows}
 use Rattle.hprof_ask.specs.declared.report_word.Follows.TheVariants as follow
 use Rattle.hprof_ask.specs.declared.report.HeapReport.TheVariants as heaps
+use Rattle.hprof_ask.specs.declared.report.KindReport.TheVariants as kinds
 use Rattle.hprof_ask.specs.declared.report.NodeReport.TheVariants as nodes
 use Rattle.hprof_ask.specs.declared.report_word.ReportWord.TheVariants as words
 use Rattle.hprof_ask.specs.Words.{follows_of}
@@ -73,9 +74,11 @@ abbrev pub all_commands : List CommandWord
 all_commands =
     commands.Write files.Dump ∷ commands.Write files.Dump101 ∷ commands.Salvage ∷ commands.Report (words.Heap heaps.Check)
     ∷ commands.Report (words.Heap heaps.Histogram) ∷ commands.Report (words.Heap heaps.Classes)
-    ∷ commands.Report (words.Heap heaps.Threads) ∷ commands.Report words.Objects ∷ commands.Compare
+    ∷ commands.Report (words.Heap heaps.Threads) ∷ commands.Report (words.Kind kinds.Biggest)
+    ∷ commands.Report (words.Kind kinds.Objects) ∷ commands.Compare
     ∷ commands.Report (words.Node nodes.Show) ∷ commands.Report (words.Node nodes.Why) ∷ commands.Report (words.Node nodes.Who)
-    ∷ commands.Report (words.Node nodes.Keeps) ∷ commands.Report (words.Node nodes.Text) ∷ commands.Report (words.Node nodes.Object) ∷ commands.Report (words.Node nodes.Refs)
+    ∷ commands.Report (words.Node nodes.Keeps) ∷ commands.Report (words.Node nodes.Text)
+    ∷ commands.Report (words.Node nodes.Object) ∷ commands.Report (words.Node nodes.Refs)
     ∷ commands.Report (words.Node nodes.Path) ∷ commands.Ask ∷ []
 
 -- the program with these commands

@@ -40,16 +40,19 @@ fn question_of(alloc: Global, report: Report<'_>) -> Result<String, AllocError> 
             let word = ReportWord::Heap(report).row().word;
             format!(in alloc; "{word}\n")
         }
-        Report::Objects(Kinds::Of(Kind::Class(class))) => {
-            format!(in alloc; "objects {class:x}\n")
+        Report::Kind(report, Kinds::Of(Kind::Class(class))) => {
+            let word = ReportWord::Kind(report).row().word;
+            format!(in alloc; "{word} {class:x}\n")
         }
-        Report::Objects(Kinds::Of(Kind::Prim(elem))) => {
-            let word = type_word(elem);
-            format!(in alloc; "objects {word}[]\n")
+        Report::Kind(report, Kinds::Of(Kind::Prim(elem))) => {
+            let word = ReportWord::Kind(report).row().word;
+            let elem = type_word(elem);
+            format!(in alloc; "{word} {elem}[]\n")
         }
-        Report::Objects(Kinds::Named(name)) => {
+        Report::Kind(report, Kinds::Named(name)) => {
+            let word = ReportWord::Kind(report).row().word;
             let name = text_of_name(name);
-            format!(in alloc; "objects {name}\n")
+            format!(in alloc; "{word} {name}\n")
         }
         Report::Node(report, Node::Identifier(id)) => {
             let word = ReportWord::Node(report).row().word;

@@ -6,7 +6,7 @@ ghost use Rattle.hprof_tool.specs.CommandLine.{arguments_of, shape_of_command, s
 ghost use Rattle.hprof_tool.specs.Commands.{command_word};
 
 use super::{NewFile, help};
-use hprof_ask::{Follows, HeapReport, NodeReport, ReportWord};
+use hprof_ask::{Follows, HeapReport, KindReport, NodeReport, ReportWord};
 
 /// An argument that a command must be given.
 #[derive(Clone, Copy)]
@@ -86,7 +86,7 @@ pub(crate) struct CommandRow {
 }
 
 /// All commands, in the order in which the program's help lists them.
-pub(crate) const COMMANDS: [CommandWord; 18] = [
+pub(crate) const COMMANDS: [CommandWord; 19] = [
     CommandWord::Write(NewFile::Dump),
     CommandWord::Write(NewFile::Dump101),
     CommandWord::Salvage,
@@ -94,7 +94,8 @@ pub(crate) const COMMANDS: [CommandWord; 18] = [
     CommandWord::Report(ReportWord::Heap(HeapReport::Histogram)),
     CommandWord::Report(ReportWord::Heap(HeapReport::Classes)),
     CommandWord::Report(ReportWord::Heap(HeapReport::Threads)),
-    CommandWord::Report(ReportWord::Objects),
+    CommandWord::Report(ReportWord::Kind(KindReport::Biggest)),
+    CommandWord::Report(ReportWord::Kind(KindReport::Objects)),
     CommandWord::Compare,
     CommandWord::Report(ReportWord::Node(NodeReport::Show)),
     CommandWord::Report(ReportWord::Node(NodeReport::Why)),
