@@ -1,6 +1,7 @@
 use Rattle.std.proofs.Common.{◌∙◌, ◌*◌, ℕ, ap, length, sym, Some}
 use Rattle.hprof_values.specs.Ids.{width_of}
 use Rattle.hprof_values.specs.Lists.{identifiers_of}
+use Rattle.hprof_values.specs.declared.ids.IdSize.{IdSize}
 use Rattle.hprof_heap.specs.HeapFacts.{facts_of, size_of}
 use Rattle.hprof_retained.proofs.SizeFound.{size_found, size_of_dump}
 use Rattle.hprof_retained.proofs.sizes.size_of_node.Goals as goal

@@ -1,4 +1,4 @@
-use Rattle.std.proofs.Common.{◌≡◌, ℕ, subst, arith}
+use Rattle.std.proofs.Common.{◌≡◌, ◌<◌, ◌∙◌, ℕ, ap, length, sym, subst, arith}
 use Rattle.std.specs.Prelude.{slice_index}
 use Rattle.hprof_dominators.specs.Tree.{number_at, place_of}
 use Rattle.hprof_heap.specs.HeapFacts.{facts_of, size_of}

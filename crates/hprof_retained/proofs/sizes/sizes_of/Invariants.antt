@@ -1,6 +1,6 @@
-use Rattle.std.proofs.Common.{◌≡◌, ◌<◌, ◌^◌, ℕ, All, vec_len}
+use Rattle.std.proofs.Common.{◌≡◌, ◌<◌, ◌^◌, ℕ, All, length, vec_len}
 use Rattle.std.specs.Prelude.{slice_index}
-use Rattle.hprof_dominators.specs.Tree.{count_of, place_of}
+use Rattle.hprof_dominators.specs.Tree.{count_of, number_at, place_of}
 use Rattle.hprof_heap.specs.HeapFacts.{facts_of, size_of}
 use Rattle.hprof_numbers.specs.Numbered.{nodes_in}
 use Rattle.hprof_retained.specs.Retained.{IsSizeOf}
