@@ -87,7 +87,7 @@ class OfTheSample(unittest.TestCase):
             page = viewer.page("keeps/0")
             self.assertIn(viewer.base + "keeps/740000380", page.links)
             page = viewer.page("keeps/740000850")
-            self.assertIn("Retained bytes135 of 1,293", page.text)
+            self.assertIn("Retained bytes135 of 1,729", page.text)
             self.assertIn("java.util.ArrayList 740000e58 1,066 bytes, 60 objects", page.text)
             self.assertIn(["java.util.ArrayList 7400007b8", "41", "", "4", "look inside"], page.rows)
 
