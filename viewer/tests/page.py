@@ -8,11 +8,11 @@ from view.look import SCRIPT, STYLE
 EMPTY = {"input", "link", "meta", "br", "wbr"}
 KNOWN = EMPTY | set(
     "html head title style body header main h1 h2 p a b i q small code pre dl dt dd ol ul li table thead tbody tr th td div span nav"
-    " form button output progress script noscript".split()
+    " form button output progress script noscript details summary svg g rect text".split()
 )
 ATTRIBUTES = set(
     "lang charset name content rel href http-equiv class hidden type value min max required aria-label aria-hidden aria-sort scope"
-    " action method role placeholder start".split()
+    " action method role placeholder start viewbox x y width height".split()
 )
 
 
@@ -61,7 +61,7 @@ class Page(HTMLParser):
 
     def handle_data(self, data):
         for tag in self.inside:
-            if tag in self.open:
+            if tag in self.open and "svg" not in self.open:
                 self.inside[tag] += data
         if self.open and self.open[-1] not in ("script", "style", "title"):
             self.texts.append(data)

@@ -76,7 +76,7 @@ class Frame:
 
     def header(self, word=""):
         grew = [link(self.at("grew"), "What grew")] if self.compares else []
-        ways = link(self.at(""), "Overview"), link(self.at("threads"), "Threads")
+        ways = link(self.at(""), "Overview"), link(self.at("keeps", 0), "What holds the memory"), link(self.at("threads"), "Threads")
         return element("header", *grew, *ways, self.files(), self.search(word))
 
     def files(self):

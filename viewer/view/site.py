@@ -8,14 +8,21 @@ from .answers import Ended
 from .frame import Frame, plain
 from .growth import Growth
 from .heap import Heap
-from .pages import along, find, grew, of_class, of_object, of_type, overview, refused, referrers, threads, waiting, why
+from .pages import along, find, grew, keeps, of_class, of_object, of_type, overview, refused, referrers, threads, waiting, why
 from .subjects import TYPES, identifier
 from .visit import Missing, Visit
 
 # A request waits so long for a dump to be read before it is shown how far that is.
 HOLD = 0.5
 PAGES = {"": overview.show, "find": find.show, "threads": threads.show}
-OF_IDENTIFIERS = {"class": of_class.show, "object": of_object.show, "refs": referrers.show, "why": why.show, "along": along.show}
+OF_IDENTIFIERS = {
+    "class": of_class.show,
+    "object": of_object.show,
+    "refs": referrers.show,
+    "why": why.show,
+    "keeps": keeps.show,
+    "along": along.show,
+}
 FAULT = plain(500, "A fault of the viewer", "The page could not be made; the terminal of hprof_view.py shows why.")
 
 

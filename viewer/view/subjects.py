@@ -7,7 +7,7 @@ becomes part of one.
 import re
 
 TYPES = ("boolean", "char", "float", "double", "byte", "short", "int", "long")
-SUBJECTS = ("object", "refs", "text", "who", "why")
+SUBJECTS = ("keeps", "object", "refs", "text", "who", "why")
 CANONICAL = re.compile(r"0|[1-9a-f][0-9a-f]{0,15}")
 WRITTEN = re.compile(r"(?:@\s*)?(?:0[xX])?([0-9a-fA-F]{1,16})")
 

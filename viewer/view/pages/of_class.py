@@ -177,7 +177,9 @@ def head_facts(visit, contents, objects, above, end, found):
 
 def ways(frame, id):
     """The questions that lead on from a class or an object."""
-    return element("p", link(frame.at("refs", id), "Who refers to it"), " \u00b7 ", link(frame.at("why", id), "Why it is alive"))
+    questions = (("refs", "Who refers to it"), ("why", "Why it is alive"), ("keeps", "What it keeps"))
+    links = [link(frame.at(page, id), words) for page, words in questions]
+    return element("p", *[part for one in links for part in (" \u00b7 ", one)][1:])
 
 
 def by_size(frame, part, texts):
