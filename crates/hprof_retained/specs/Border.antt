@@ -35,9 +35,9 @@ abbrev pub IsBorderNode : List FieldPlace → Retained → List FactValue → �
 IsBorderNode fields retained facts node = (fact : FactValue) × Has facts fact × IsOnBorder fields retained fact node
 
 -- the nodes that have no place, and the instances of classes with weak fields that have one
-pub record AreAround (facts : List FactValue) (fields : List FieldPlace) (retained : Retained) (others sources : List ℕ) : Type 0 where
-  pub others : (node : ℕ) → Contains others node ↔ (IsNode facts node × (place_of retained node ≡ 0))
-  pub sources : (node : ℕ) → Contains sources node ↔ IsBorderNode fields retained facts node
+pub record AreAround (facts : List FactValue) (fields : List FieldPlace) (retained : Retained) (outside inside : List ℕ) : Type 0 where
+  pub others : (node : ℕ) → Contains outside node ↔ (IsNode facts node × (place_of retained node ≡ 0))
+  pub sources : (node : ℕ) → Contains inside node ↔ IsBorderNode fields retained facts node
 
 -- ---- a search from some nodes on, over these and others
 

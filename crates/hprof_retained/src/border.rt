@@ -44,6 +44,18 @@ fn push_node(nodes: &mut Vec<u64>, id: u64) -> Result<(), AllocError>
     Ok(())
 }
 
+/// Appends an identifier, unless it is 0 or has a place in the tree.
+fn push_other(retained: &Retained, others: &mut Vec<u64>, id: u64) -> Result<(), AllocError>
+    ensures { OnOk result ((node : ℕ) → Contains others.new.items node
+        ↔ (Contains others.old.items node ⊎ (((node ≢ 0) × (id ≡ node)) × (place_of retained.now node ≡ 0)))) }
+{
+    if retained.place(id) != 0 {
+        return Ok(());
+    }
+    push_node(others, id)?;
+    Ok(())
+}
+
 /// Appends the classes that have a dump, and no place in the tree.
 fn push_classes(
     heap: &Heap,
@@ -55,9 +67,7 @@ fn push_classes(
 {
     for fact in table_facts(heap, Table::Classes) {
         if let Some(dump) = to_class_dump(&fact) {
-            if retained.place(dump.id) == 0 {
-                push_node(others, dump.id)?;
-            }
+            push_other(retained, others, dump.id)?;
         }
     }
     Ok(())
@@ -127,7 +137,8 @@ impl<'w> Border<'w> {
     {
         let id = id_of(dump);
         if retained.place(id) == 0 {
-            return push_node(&mut self.others, id);
+            push_node(&mut self.others, id)?;
+            return Ok(());
         }
         if !self.is_of_weak(dump) {
             return Ok(());
