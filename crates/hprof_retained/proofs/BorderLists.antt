@@ -169,6 +169,15 @@ module _ (retained : Retained) where
       | inr object ↦ (of_objects node).1 (inr (object, both.1))
     ]
 
+  -- and sorted
+  pub sorted_around : (facts : List FactValue) (fields : List FieldPlace) (others sorted sources : List ℕ)
+      → ((node : ℕ) → Contains sorted node ↔ Contains others node) → AreAround facts fields retained others sources
+      → AreAround facts fields retained sorted sources
+  sorted_around facts fields others sorted sources same around = record {
+    others = λ node. (λ has. (around.others node).0 ((same node).0 has), λ is. (same node).1 ((around.others node).1 is));
+    sources = around.sources;
+  }
+
 -- the members of two lists, one behind the other
 pub either_list : (none one two sorted xs ys : List ℕ) → none ≡ [] → one ≡ none ++ xs → two ≡ one ++ ys
     → ((node : ℕ) → Contains sorted node ↔ Contains two node) → (node : ℕ) → Contains sorted node ↔ (Contains xs node ⊎ Contains ys node)

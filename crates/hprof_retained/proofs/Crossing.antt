@@ -61,12 +61,15 @@ is_there_or_not xs x = elim (cases_Bool (list_any (nat_eq x) xs)) [
   | inr fails ↦ inr (λ has. let passes = list_any-from_Contains nat_eq_equiv x xs has in cc)
 ]
 
+abbrev pub crossing_of : IdSize → List FactValue → List FieldPlace → List ℕ → List ℕ → Crossing
+crossing_of ids facts kept all sources = record { ids = ids; facts = facts; fields = kept; nodes = all; sources = sources }
+
 module _ (ids : IdSize) (facts : List FactValue) (agree : IsConsistent facts) (fields : List FieldPlace) (retained : Retained)
     (weak : (edge : Edge) → IsEdge ids facts edge → IsLeftOut fields facts edge ↔ IsWeak facts edge) (tree : IsTreeOf ids facts retained)
     (others sources all : List ℕ) (around : AreAround facts fields retained others sources)
     (joined : (node : ℕ) → Contains all node ↔ (Contains others node ⊎ Contains sources node)) (kept : List FieldPlace) (none : kept ≡ []) where
-  abbrev pub crossing : Crossing
-  crossing = record { ids = ids; facts = facts; fields = kept; nodes = all; sources = sources }
+  abbrev crossing : Crossing
+  crossing = crossing_of ids facts kept all sources
 
   abbrev Start : ℕ → Type 0
   Start = IsStart facts

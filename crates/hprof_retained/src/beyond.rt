@@ -13,7 +13,7 @@ ghost use Rattle.hprof_retained.specs.Retained.{AreSizesOf};
 ghost use Rattle.hprof_retained.specs.Tree.{IsTreeOf};
 ghost use Rattle.hprof_retained.specs.Weakly.{AreWeaklyHeld};
 
-use crate::border::{Border, border_of, joined, sort_once};
+use crate::border::{border_of, joined};
 use crate::retained::Retained;
 use crate::sizes::size_of_node;
 use crate::weakly::WeaklyHeld;
@@ -88,15 +88,10 @@ pub fn weakly_held(
     holds_of_heap(heap);
     let none = LeftOut::none(alloc);
     let mut graph = graph_of(alloc, heap, &none)?;
-    let Border {
-        mut others,
-        sources,
-        ..
-    } = border_of(alloc, heap, weak, retained)?;
-    sort_once(&mut others)?;
-    let all = joined(alloc, &others, &sources)?;
-    let search = search(alloc, &mut graph, all, &sources)?;
-    let nodes = reached_among(alloc, &search, &others)?;
+    let border = border_of(alloc, heap, weak, retained)?;
+    let all = joined(alloc, &border.others, &border.sources)?;
+    let search = search(alloc, &mut graph, all, &border.sources)?;
+    let nodes = reached_among(alloc, &search, &border.others)?;
     let bytes = bytes_of(heap, &nodes);
     Ok(WeaklyHeld { nodes, bytes })
 }

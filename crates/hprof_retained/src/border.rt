@@ -73,6 +73,16 @@ fn push_classes(
     Ok(())
 }
 
+/// Sorts numbers, and removes repetitions. If memory runs out, the answer is `AllocError`.
+fn sort_once(nodes: &mut Vec<u64>) -> Result<(), AllocError>
+    ensures ascend { OnOk result (IsStrictlyIncreasing nodes.new.items) }
+    ensures same { OnOk result ((node : ℕ) → Contains nodes.new.items node ↔ Contains nodes.old.items node) }
+{
+    nodes.sort()?;
+    nodes.dedup();
+    Ok(())
+}
+
 /// The nodes on both sides of the border, as they are collected.
 #[derive(Drop)]
 pub(crate) struct Border<'w> {
@@ -165,31 +175,23 @@ impl<'w> Border<'w> {
     }
 }
 
-/// Returns the nodes on both sides of the border. `weak` are the weak fields of the heap's classes. If memory runs out, the answer is
-/// `AllocError`.
+/// Returns the nodes on both sides of the border; those outside are sorted. `weak` are the weak fields of the heap's classes. If memory
+/// runs out, the answer is `AllocError`.
 pub(crate) fn border_of<'w>(
     alloc: Global,
     heap: &Heap,
     weak: &'w LeftOut,
     retained: &Retained,
 ) -> Result<Border<'w>, AllocError>
-    ensures { IfOk result (λ border. AreAround (facts_of heap.now) (fields_in weak.now) retained.now border.others.items
+    ensures ascend { IfOk result (λ border. IsStrictlyIncreasing border.others.items) }
+    ensures around { IfOk result (λ border. AreAround (facts_of heap.now) (fields_in weak.now) retained.now border.others.items
         border.sources.items) }
 {
     let mut border = Border::new(alloc, weak);
     push_classes(heap, retained, &mut border.others)?;
     border.see_objects(heap, retained)?;
+    sort_once(&mut border.others)?;
     Ok(border)
-}
-
-/// Sorts numbers, and removes repetitions. If memory runs out, the answer is `AllocError`.
-pub(crate) fn sort_once(nodes: &mut Vec<u64>) -> Result<(), AllocError>
-    ensures ascend { OnOk result (IsStrictlyIncreasing nodes.new.items) }
-    ensures same { OnOk result ((node : ℕ) → Contains nodes.new.items node ↔ Contains nodes.old.items node) }
-{
-    nodes.sort()?;
-    nodes.dedup();
-    Ok(())
 }
 
 /// Returns the numbers of two lists, sorted, each once. If memory runs out, the answer is `AllocError`.
