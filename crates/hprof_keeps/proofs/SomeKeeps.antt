@@ -28,7 +28,8 @@ use Rattle.hprof_retained.proofs.NodeLists.{held_dumped, nodes_exist}
 use Rattle.hprof_retained.proofs.OneParent.{one_parent}
 use Rattle.hprof_retained.proofs.SomeParent.{parent_exists}
 use Rattle.hprof_retained.proofs.SomeSums.{retained_exists, sum_exists, total_exists}
-use Rattle.hprof_keeps.specs.KeepsText.{IsHeldText, IsKeepsText, IsNodeText, IsRootsText, IsWeaklyHeld}
+use Rattle.hprof_retained.specs.Weakly.{IsWeaklyHeld}
+use Rattle.hprof_keeps.specs.KeepsText.{IsHeldText, IsKeepsText, IsNodeText, IsRootsText}
 use Rattle.hprof_keeps.specs.KeepsText.{above_lines, child_lines, total_line, weakly_line}
 use Rattle.hprof_keeps.specs.Order.{AreChildren, AreDominators, AreRetained}
 use Rattle.hprof_keeps.proofs.OneKeeps.{not_each_other}

@@ -13,7 +13,8 @@ use Rattle.hprof_reach.specs.Reaching.{IsNode, IsStart, IsStepBy}
 use Rattle.hprof_retained.specs.Retained.{IsHeld, IsSumOver, Sum}
 use Rattle.hprof_retained.specs.Tree.{IsTreeOf, place_of}
 use Rattle.hprof_retained.specs.declared.retained.Retained.{Retained}
-use Rattle.hprof_keeps.specs.KeepsText.{IsWeaklyHeld}
+use Rattle.hprof_retained.specs.Weakly.{IsWeaklyHeld}
+
 use Rattle.hprof_keeps.proofs.Dumped.{sum_exists}
 use Rattle.hprof_keeps.proofs.Found.{held_there, not_held}
 use Rattle.hprof_keeps.proofs.Reached.{IsReachedByAny, reached_or_not}
