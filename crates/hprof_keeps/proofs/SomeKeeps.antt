@@ -175,7 +175,7 @@ module _ (ids : IdSize) (facts : List FactValue) (agree : IsConsistent facts) wh
     go [] start = start.0.1
     go (before ∷ nodes) step = step.0.1.1
 
-  weakly_exists : (sum : Sum) × IsSumOver ids facts (IsWeaklyHeld ids facts) sum
+  pub weakly_exists : (sum : Sum) × IsSumOver ids facts (IsWeaklyHeld ids facts) sum
   weakly_exists = sum_exists ids facts agree (IsWeaklyHeld ids facts)
       (λ node. both_decided (reached_or_not ids facts node agree) (not_decided (held_or_not ids facts agree node)))
       (λ node weakly. reached_dumped node weakly.0)

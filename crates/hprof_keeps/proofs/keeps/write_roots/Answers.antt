@@ -8,7 +8,7 @@ use Rattle.hprof_keeps.specs.Order.{retained_in}
 use Rattle.hprof_keeps.specs.WeakSum.{sum_of}
 use Rattle.hprof_keeps.proofs.SomeChildren.{children_exist, some_places}
 use Rattle.hprof_keeps.proofs.Texts.{are_roots_text, roots_text}
-use Rattle.hprof_keeps.proofs.WeakNodes.{weakly_exists}
+use Rattle.hprof_keeps.proofs.SomeKeeps.{weakly_exists}
 use Rattle.hprof_keeps.proofs.keeps.write_roots.Goals as goal
 
 -- memory was wanted before the first line
@@ -18,7 +18,7 @@ returns-in_err-sum-clause-bytes g c = λ found is.
     let facts = facts_of c.args.heap.now in
     let retained = c.args.retained.now in
     let tree = c.requires.retained in
-    let weakly = weakly_exists ids facts c.holds_of_heap.ensures.agree retained tree in
+    let weakly = weakly_exists ids facts c.holds_of_heap.ensures.agree in
     let children = children_exist ids facts retained tree 0 (some_places retained) in
     let text = roots_text ids facts found retained tree weakly.0 children.0 in
     let r = c.from_residual in
