@@ -19,7 +19,7 @@ ghost use Rattle.hprof_why.specs.WhyText.{IsWhyText};
 ghost use Rattle.hprof_ask.specs.Kept.{IsKept};
 ghost use Rattle.hprof_ask.specs.Report.{IsHeapReport, IsNodeReport, IsReport, RefusesReport, TakesMemory};
 
-use crate::kept::{Kept, kept_or_made};
+use crate::kept::{Kept, kept_or_made, retained_or_made};
 use crate::report::{HeapReport, Kinds, Node, NodeReport, Report};
 use crate::survey::view_of;
 use hprof_devices::{Target, push_all};
@@ -264,17 +264,21 @@ impl<'a> Answerer<'a> {
     {
         holds_of_heap(self.heap);
         let survey = kept_or_made(alloc, self.heap, kept.survey.take())?;
-        let retained = kept_or_made(alloc, self.heap, kept.retained.take())?;
+        let references = kept_or_made(alloc, self.heap, kept.references.take())?;
+        let retained =
+            retained_or_made(alloc, self.heap, &references.weak, kept.retained.take())?;
         let outcome = write_keeps(
             alloc,
             self.heap,
             &survey.classes,
+            &references.weak,
             &retained,
-            &mut kept.reach,
+            &mut kept.weakly,
             id,
             target,
         );
         kept.survey = Some(survey);
+        kept.references = Some(references);
         kept.retained = Some(retained);
         outcome
     }
