@@ -33,11 +33,11 @@ pub class_by_run : (fields run : List FieldPlace) (class : ℕ)
 class_by_run fields run class exact true is =
     let none : length run ≡ 0 = eqb-true (length run) 0 (sym is) in
     sym (list_any_none (λ (field : FieldPlace). field.class == class) fields (λ k d below.
-        let field = get_or fields k d in
-        ne_eqb field.class class (λ same.
-            let has = (exact field).1 (Contains-get_or fields k d below, same) in
-            let low = has.1 in
-            absurd (omega arith))))
+    let field = get_or fields k d in
+    ne_eqb field.class class (λ same.
+    let has = (exact field).1 (Contains-get_or fields k d below, same) in
+    let low = has.1 in
+    absurd (omega arith))))
 class_by_run fields run class exact false is =
     let some : length run ≡ 0 → ⊥ = λ none. (let yes = eq-eqb (length run) 0 none in cc) in
     let d : FieldPlace = record { class = 0; place = 0 } in
