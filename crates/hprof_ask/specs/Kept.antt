@@ -5,17 +5,20 @@ use Rattle.hprof_items.specs.FactValue.{FactValue}
 use Rattle.hprof_reach.specs.Reaching.{IsReach}
 use Rattle.hprof_reach.specs.Index.{IsIndexOf}
 use Rattle.hprof_retained.specs.Tree.{IsTreeOf}
+use Rattle.hprof_retained.specs.Weakly.{AreWeaklyHeld}
 use Rattle.hprof_reports.specs.HistogramText.{IsHistogramText}
 use Rattle.hprof_reports.specs.ClassesText.{IsClassesText}
 use Rattle.hprof_ask.specs.declared.kept.Kept.{Kept}
 use Rattle.hprof_ask.specs.Surveys.{AreReferences, IsSurvey}
 
--- if a search, a survey, what is known of references, what nodes retain, an index or the text of a report are kept, they are those of these facts
+-- if a search, a survey, what is known of references, what nodes retain, the nodes that only weak references reach, an index or the text of
+-- a report are kept, they are those of these facts
 pub record IsKept (ids : IdSize) (facts : List FactValue) (kept : Kept) : Type 0 where
   pub reach : IfSome kept.reach (IsReach ids facts)
   pub survey : IfSome kept.survey (IsSurvey ids facts)
   pub references : IfSome kept.references (AreReferences ids facts)
   pub retained : IfSome kept.retained (IsTreeOf ids facts)
+  pub weakly : IfSome kept.weakly (AreWeaklyHeld ids facts)
   pub referrers : IfSome kept.referrers (IsIndexOf ids facts)
   pub histogram : IfSome kept.histogram (λ text. IsHistogramText ids facts text.bytes.items)
   pub classes : IfSome kept.classes (λ text. IsClassesText ids facts text.bytes.items)

@@ -21,7 +21,7 @@ ghost use Rattle.hprof_why.specs.WhyText.{IsWhyText};
 ghost use Rattle.hprof_ask.specs.Kept.{IsKept};
 ghost use Rattle.hprof_ask.specs.Report.{IsHeapReport, IsKindReport, IsNodeReport, IsReport, RefusesReport, TakesMemory};
 
-use crate::kept::{Kept, kept_or_made};
+use crate::kept::{Kept, kept_or_made, retained_or_made};
 use crate::report::{HeapReport, KindReport, Kinds, Node, NodeReport, Report};
 use crate::survey::view_of;
 use hprof_devices::{Target, push_all};
@@ -267,17 +267,20 @@ impl<'a> Answerer<'a> {
     {
         holds_of_heap(self.heap);
         let survey = kept_or_made(alloc, self.heap, kept.survey.take())?;
-        let retained = kept_or_made(alloc, self.heap, kept.retained.take())?;
+        let references = kept_or_made(alloc, self.heap, kept.references.take())?;
+        let retained = retained_or_made(alloc, self.heap, &references.weak, kept.retained.take())?;
         let outcome = write_keeps(
             alloc,
             self.heap,
             &survey.classes,
+            &references.weak,
             &retained,
-            &mut kept.reach,
+            &mut kept.weakly,
             id,
             target,
         );
         kept.survey = Some(survey);
+        kept.references = Some(references);
         kept.retained = Some(retained);
         outcome
     }
@@ -352,9 +355,11 @@ impl<'a> Answerer<'a> {
     {
         holds_of_heap(self.heap);
         let survey = kept_or_made(alloc, self.heap, kept.survey.take())?;
-        let retained = kept_or_made(alloc, self.heap, kept.retained.take())?;
+        let references = kept_or_made(alloc, self.heap, kept.references.take())?;
+        let retained = retained_or_made(alloc, self.heap, &references.weak, kept.retained.take())?;
         let outcome = write_biggest(alloc, self.heap, &survey.classes, &retained, choice, target);
         kept.survey = Some(survey);
+        kept.references = Some(references);
         kept.retained = Some(retained);
         outcome
     }

@@ -1,17 +1,22 @@
 //! What is kept between reports.
 
-ghost use Rattle.std.specs.Prelude.{List, IfOk, IfSome};
+ghost use Rattle.std.specs.Prelude.{◌↔◌, List, IfOk, IfSome};
 ghost use Rattle.hprof_values.specs.declared.ids.IdSize.{IdSize};
 ghost use Rattle.hprof_items.specs.FactValue.{FactValue};
+ghost use Rattle.hprof_edges.specs.Edges.{IsEdge};
+ghost use Rattle.hprof_edges.specs.LeftOut.{IsLeftOut, fields_in};
+ghost use Rattle.hprof_edges.specs.declared.edge.Edge.{Edge};
 ghost use Rattle.hprof_heap.specs.HeapFacts.{facts_of, size_of};
+ghost use Rattle.hprof_weak.specs.Weak.{IsWeak};
+ghost use Rattle.hprof_retained.specs.Tree.{IsTreeOf};
 
 use crate::survey::{References, Survey};
 use hprof_devices::Device;
+use hprof_edges::LeftOut;
 use hprof_heap::Heap;
 use hprof_reach::{Reach, ReferrerIndex, index_referrers, reach_of};
 use hprof_reports::{write_classes, write_histogram};
-use hprof_retained::{Retained, retained_of};
-use hprof_weak::weak_fields;
+use hprof_retained::{Retained, WeaklyHeld, retained_of};
 use std::alloc::{AllocError, Global};
 
 /// A value that is made of a heap, at the first report that wants it, and may be kept for others.
@@ -53,15 +58,22 @@ impl OfHeap for Reach {
     }
 }
 
-/// Without weak references.
-impl OfHeap for Retained {
-    ghost use Rattle.hprof_retained.specs.Tree.{IsTreeOf};
-
-    ghost is_of = { IsTreeOf };
-
-    fn make(alloc: Global, heap: &Heap) -> Result<Retained, AllocError> {
-        let weak = weak_fields(alloc, heap)?;
-        retained_of(alloc, heap, &weak)
+/// Returns what each node retains, if it is kept, or makes it. `weak` are the weak fields of the heap's classes. The error is that memory ran
+/// out.
+pub(crate) fn retained_or_made(
+    alloc: Global,
+    heap: &Heap,
+    weak: &LeftOut,
+    kept: Option<Retained>,
+) -> Result<Retained, AllocError>
+    requires weak { (edge : Edge) → IsEdge (size_of heap.now) (facts_of heap.now) edge
+        → IsLeftOut (fields_in weak.now) (facts_of heap.now) edge ↔ IsWeak (facts_of heap.now) edge }
+    requires kept { IfSome kept (IsTreeOf (size_of heap.now) (facts_of heap.now)) }
+    ensures { IfOk result (IsTreeOf (size_of heap.now) (facts_of heap.now)) }
+{
+    match kept {
+        Some(retained) => Ok(retained),
+        None => retained_of(alloc, heap, weak),
     }
 }
 
@@ -134,6 +146,8 @@ pub struct Kept {
     pub(crate) references: Option<References>,
     /// What each node retains.
     pub(crate) retained: Option<Retained>,
+    /// The nodes that only weak references reach.
+    pub(crate) weakly: Option<WeaklyHeld>,
     /// The index of referrers.
     pub(crate) referrers: Option<ReferrerIndex>,
     /// The text of the class histogram.
@@ -155,6 +169,7 @@ impl Kept {
             survey: None,
             references: None,
             retained: None,
+            weakly: None,
             referrers: None,
             histogram: None,
             classes: None,

@@ -1,9 +1,6 @@
 pub mod Found
 pub mod Held
 pub mod LineParts
-pub mod Summing
-pub mod Dumped
-pub mod WeakNodes
 pub mod Told
 pub mod Places
 pub mod Reached

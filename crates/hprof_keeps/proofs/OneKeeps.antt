@@ -17,7 +17,8 @@ use Rattle.hprof_describe.proofs.OneFinding.{one_findings}
 use Rattle.hprof_histogram.proofs.Members.{IsIn, Contains-from_in, in_from_Contains, one_sorted}
 use Rattle.hprof_retained.specs.Retained.{Dominates, HasParent, IsHeld, Sum}
 use Rattle.hprof_retained.proofs.OneSums.{one_sum}
-use Rattle.hprof_keeps.specs.KeepsText.{IsHeldText, IsKeepsText, IsNodeText, IsNotReached, IsRootsText, IsWeaklyHeld}
+use Rattle.hprof_retained.specs.Weakly.{IsWeaklyHeld}
+use Rattle.hprof_keeps.specs.KeepsText.{IsHeldText, IsKeepsText, IsNodeText, IsNotReached, IsRootsText}
 use Rattle.hprof_keeps.specs.KeepsText.{above_lines, child_lines, retained_line, sum_words, total_line, weakly_line}
 use Rattle.hprof_keeps.specs.Order.{AreChildren, AreDominators, AreLargestFirst, AreRetained, retained_cmp}
 use Rattle.hprof_keeps.proofs.SomeChildren.{order_total}

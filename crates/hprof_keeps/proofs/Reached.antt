@@ -26,20 +26,6 @@ module _ (ids : IdSize) (facts : List FactValue) (node : ℕ) where
     λ reached. absurd (no_walk (IsStart facts) (IsStepBy AnyEdge ids facts) node reached.0 is reached.1),
   )
 
-  -- what has a distance is reached, and the other way round
-  pub reached_if_distance : IsConsistent facts → (test : Bool)
-      → (IsTrue test ↔ ((references : ℕ) × IsDistanceFromRoots ids facts node (Some references))) → IsTrue test ↔ IsReachedByAny
-  reached_if_distance agree test is = (
-    λ passes. let distance = is.0 passes in (reached_as (Some distance.0) distance.1).0 refl,
-    λ reached. by some.0 some.1 reached,
-  ) where
-    some : (distance : Option ℕ) × IsDistanceFromRoots ids facts node distance
-    some = some_distance ids facts agree node
-
-    by : (distance : Option ℕ) → IsDistanceFromRoots ids facts node distance → IsReachedByAny → IsTrue test
-    by (Some references) has reached = is.1 (references, has)
-    by None none reached = let wrong = (reached_as None none).1 reached in absurd cc
-
   -- it is reached, or it is not
   pub reached_or_not : IsConsistent facts → IsReachedByAny ⊎ (¬ IsReachedByAny)
   reached_or_not agree = go some.0 (reached_as some.0 some.1) where

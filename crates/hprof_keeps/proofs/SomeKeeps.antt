@@ -28,7 +28,8 @@ use Rattle.hprof_retained.proofs.NodeLists.{held_dumped, nodes_exist}
 use Rattle.hprof_retained.proofs.OneParent.{one_parent}
 use Rattle.hprof_retained.proofs.SomeParent.{parent_exists}
 use Rattle.hprof_retained.proofs.SomeSums.{sum_exists, total_exists}
-use Rattle.hprof_keeps.specs.KeepsText.{IsHeldText, IsKeepsText, IsNodeText, IsRootsText, IsWeaklyHeld}
+use Rattle.hprof_retained.specs.Weakly.{IsWeaklyHeld}
+use Rattle.hprof_keeps.specs.KeepsText.{IsHeldText, IsKeepsText, IsNodeText, IsRootsText}
 use Rattle.hprof_keeps.specs.KeepsText.{above_lines, child_lines, total_line, weakly_line}
 use Rattle.hprof_keeps.specs.Order.{AreChildren, AreDominators}
 use Rattle.hprof_keeps.proofs.LargestFirst.{are_sums, in_on, largest_exist, on_in, sums}
@@ -166,7 +167,7 @@ module _ (ids : IdSize) (facts : List FactValue) (agree : IsConsistent facts) wh
     go [] start = start.0.1
     go (before ∷ nodes) step = step.0.1.1
 
-  weakly_exists : (sum : Sum) × IsSumOver ids facts (IsWeaklyHeld ids facts) sum
+  pub weakly_exists : (sum : Sum) × IsSumOver ids facts (IsWeaklyHeld ids facts) sum
   weakly_exists = sum_exists ids facts agree (IsWeaklyHeld ids facts)
       (λ node. both_decided (reached_or_not ids facts node agree) (not_decided (held_or_not ids facts agree node)))
       (λ node weakly. reached_dumped node weakly.0)

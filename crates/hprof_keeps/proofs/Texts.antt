@@ -13,7 +13,8 @@ use Rattle.hprof_describe.specs.Findings.{AreFindings, Findings}
 use Rattle.hprof_retained.specs.Retained.{IsSumOver, Sum}
 use Rattle.hprof_retained.specs.Tree.{IsTreeOf, count_of, node_at, total_of}
 use Rattle.hprof_retained.specs.declared.retained.Retained.{Retained}
-use Rattle.hprof_keeps.specs.KeepsText.{IsHeldText, IsKeepsText, IsNodeText, IsRootsText, IsWeaklyHeld, above_lines, child_lines, total_line, weakly_line}
+use Rattle.hprof_retained.specs.Weakly.{IsWeaklyHeld}
+use Rattle.hprof_keeps.specs.KeepsText.{IsHeldText, IsKeepsText, IsNodeText, IsRootsText, above_lines, child_lines, total_line, weakly_line}
 use Rattle.hprof_keeps.specs.Order.{AreChildren, AreDominators, AreRetained, node_of, retained_in}
 use Rattle.hprof_keeps.specs.Otherwise.{IsDumpedText}
 use Rattle.hprof_keeps.proofs.Held.{are_retained}

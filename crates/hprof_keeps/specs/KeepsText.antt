@@ -12,15 +12,12 @@ use Rattle.hprof_dominators.specs.Dominating as over
 use Rattle.hprof_describe.specs.Findings.{AreFindings, Findings}
 use Rattle.hprof_describe.specs.Nodes.{node_text}
 use Rattle.hprof_retained.specs.Retained.{IsHeld, IsSumOver, IsTotal, Sum}
+use Rattle.hprof_retained.specs.Weakly.{IsWeaklyHeld}
 use Rattle.hprof_keeps.specs.Order.{AreChildren, AreDominators, AreRetained}
 
--- ---- only by weak references
+-- ---- what is not reached
 
--- references of any kind lead there from a root, strong ones alone do not
-abbrev pub IsWeaklyHeld : IdSize → List FactValue → ℕ → Type 0
-IsWeaklyHeld ids facts node = over.IsReached (IsStart facts) (IsStepBy AnyEdge ids facts) node × ¬ (IsHeld ids facts node)
-
--- neither does
+-- references of no kind lead there
 abbrev pub IsNotReached : IdSize → List FactValue → ℕ → Type 0
 IsNotReached ids facts node = ¬ (over.IsReached (IsStart facts) (IsStepBy AnyEdge ids facts) node)
 

@@ -4,7 +4,8 @@ use Rattle.hprof_values.specs.declared.ids.IdSize.{IdSize}
 use Rattle.hprof_items.specs.FactValue.{FactValue}
 use Rattle.hprof_describe.specs.Findings.{Findings}
 use Rattle.hprof_retained.specs.Retained.{Sum}
-use Rattle.hprof_keeps.specs.KeepsText.{IsHeldText, IsNotReached, IsWeaklyHeld}
+use Rattle.hprof_retained.specs.Weakly.{IsWeaklyHeld}
+use Rattle.hprof_keeps.specs.KeepsText.{IsHeldText, IsNotReached}
 
 -- strong references do not reach it
 abbrev pub IsOtherwise : IdSize → List FactValue → ℕ → List ℕ → Type 0

@@ -1,53 +1,45 @@
 //! What only weak references reach.
 
-ghost use Rattle.std.specs.Prelude.{◌≡◌, ◌↔◌, ℕ, Contains, IfOk, IfSome, IsTrue, List};
-ghost use Rattle.std.specs.List.Sorted.{IsStrictlyIncreasing};
-ghost use Rattle.hprof_values.specs.declared.ids.IdSize.{IdSize};
-ghost use Rattle.hprof_items.specs.FactValue.{FactValue};
-ghost use Rattle.hprof_dominators.specs.Dominating.{IsReached};
-ghost use Rattle.hprof_edges.specs.Edges.{AnyEdge};
+ghost use Rattle.std.specs.Prelude.{◌≡◌, ◌↔◌, IfOk, IfSome, IsTrue};
+ghost use Rattle.hprof_edges.specs.Edges.{IsEdge};
+ghost use Rattle.hprof_edges.specs.LeftOut.{IsLeftOut, fields_in};
+ghost use Rattle.hprof_edges.specs.declared.edge.Edge.{Edge};
 ghost use Rattle.hprof_heap.specs.HeapFacts.{facts_of, size_of};
-ghost use Rattle.hprof_reach.specs.Reaching.{IsNode, IsReach, IsStart, IsStepBy};
-ghost use Rattle.hprof_rows.specs.Conflict.{IsConsistent};
+ghost use Rattle.hprof_weak.specs.Weak.{IsWeak};
 ghost use Rattle.hprof_retained.specs.Retained.{IsSumOver};
 ghost use Rattle.hprof_retained.specs.Tree.{IsTreeOf};
-ghost use Rattle.hprof_keeps.specs.KeepsText.{IsWeaklyHeld};
+ghost use Rattle.hprof_retained.specs.Weakly.{AreWeaklyHeld, IsWeaklyHeld, weak_sum_of};
 ghost use Rattle.hprof_keeps.specs.WeakSum.{sum_of};
 
-use hprof_heap::{Finger, Heap, holds_of_heap};
-use hprof_reach::{Reach, nodes_of, reach_of};
-use hprof_retained::{Retained, size_of_node};
+use hprof_edges::LeftOut;
+use hprof_heap::Heap;
+use hprof_retained::{Retained, WeaklyHeld, weakly_held};
 use std::alloc::{AllocError, Global};
 
-/// Returns whether a search by all references reached a node.
-pub(crate) fn is_reached(reach: &Reach, node: u64) -> bool
-    ensures { (ids : IdSize) (facts : List FactValue) → IsConsistent facts → IsReach ids facts reach.now
-        → IsTrue result ↔ IsReached (IsStart facts) (IsStepBy AnyEdge ids facts) node }
-{
-    reach.is_reached(node)
-}
-
-/// Returns whether references of any kind lead from a GC root to a node. `all` is the search by them; it is made, and kept there, if it is
-/// not there yet. If memory runs out, the answer is `AllocError`.
-pub(crate) fn is_reached_by_all(
+/// Returns whether only weak references reach a node. `weakly` are the nodes that only they reach, which are made, and kept there, if they
+/// are not there yet. If memory runs out, the answer is `AllocError`.
+pub(crate) fn is_weakly_held(
     alloc: Global,
     heap: &Heap,
-    all: &mut Option<Reach>,
+    weak: &LeftOut,
+    retained: &Retained,
+    weakly: &mut Option<WeaklyHeld>,
     node: u64,
 ) -> Result<bool, AllocError>
-    requires { IfSome all.old (IsReach (size_of heap.now) (facts_of heap.now)) }
-    ensures reached { IfOk result (λ reached. IsTrue reached
-        ↔ IsReached (IsStart (facts_of heap.now)) (IsStepBy AnyEdge (size_of heap.now) (facts_of heap.now)) node) }
-    ensures all { IfSome all.new (IsReach (size_of heap.now) (facts_of heap.now)) }
+    requires weak { (edge : Edge) → IsEdge (size_of heap.now) (facts_of heap.now) edge
+        → IsLeftOut (fields_in weak.now) (facts_of heap.now) edge ↔ IsWeak (facts_of heap.now) edge }
+    requires retained { IsTreeOf (size_of heap.now) (facts_of heap.now) retained.now }
+    requires weakly { IfSome weakly.old (AreWeaklyHeld (size_of heap.now) (facts_of heap.now)) }
+    ensures held { IfOk result (λ held. IsTrue held ↔ IsWeaklyHeld (size_of heap.now) (facts_of heap.now) node) }
+    ensures weakly { IfSome weakly.new (AreWeaklyHeld (size_of heap.now) (facts_of heap.now)) }
 {
-    holds_of_heap(heap);
-    if let Some(reach) = all {
-        return Ok(is_reached(reach, node));
+    if let Some(nodes) = weakly {
+        return Ok(nodes.is_held(node));
     }
-    let reach = reach_of(alloc, heap)?;
-    let reached = is_reached(&reach, node);
-    *all = Some(reach);
-    Ok(reached)
+    let nodes = weakly_held(alloc, heap, weak, retained)?;
+    let held = nodes.is_held(node);
+    *weakly = Some(nodes);
+    Ok(held)
 }
 
 /// The sizes and the number of the nodes that only weak references reach.
@@ -59,71 +51,38 @@ pub(crate) struct WeakSum {
     pub(crate) objects: usize,
 }
 
-/// Returns whether references of any kind reach a node, and strong ones alone do not.
-fn is_weakly_held(retained: &Retained, reach: &Reach, node: u64) -> bool
-    ensures { (ids : IdSize) (facts : List FactValue) → IsConsistent facts → IsTreeOf ids facts retained.now → IsReach ids facts reach.now
-        → IsTrue result ↔ IsWeaklyHeld ids facts node }
+/// Returns the sum of nodes that only weak references reach.
+fn sum_in(weakly: &WeaklyHeld) -> WeakSum
+    ensures { sum_of result ≡ weak_sum_of weakly.now }
 {
-    retained.place(node) == 0 && is_reached(reach, node)
-}
-
-/// Adds up the nodes that only weak references reach.
-fn sum_among(heap: &Heap, retained: &Retained, reach: &Reach, nodes: &[u64]) -> WeakSum
-    requires retained { IsTreeOf (size_of heap.now) (facts_of heap.now) retained.now }
-    requires reach { IsReach (size_of heap.now) (facts_of heap.now) reach.now }
-    requires ascend { IsStrictlyIncreasing nodes.now }
-    requires nodes { (node : ℕ) → Contains nodes.now node ↔ IsNode (facts_of heap.now) node }
-    ensures { IsSumOver (size_of heap.now) (facts_of heap.now) (IsWeaklyHeld (size_of heap.now) (facts_of heap.now)) (sum_of result) }
-{
-    holds_of_heap(heap);
-    let mut near = Finger::start();
-    let mut bytes: u128 = 0;
-    let mut objects: usize = 0;
-    for node in nodes {
-        if is_weakly_held(retained, reach, *node) {
-            bytes += size_of_node(heap, *node, &mut near) as u128;
-            objects += 1;
-        }
+    WeakSum {
+        bytes: weakly.bytes(),
+        objects: weakly.objects(),
     }
-    WeakSum { bytes, objects }
 }
 
-/// Adds up the nodes of a heap that only weak references reach. `reach` is the search by all references. If memory runs out, the answer is
-/// `AllocError`.
-fn sum_by(
-    alloc: Global,
-    heap: &Heap,
-    retained: &Retained,
-    reach: &Reach,
-) -> Result<WeakSum, AllocError>
-    requires retained { IsTreeOf (size_of heap.now) (facts_of heap.now) retained.now }
-    requires reach { IsReach (size_of heap.now) (facts_of heap.now) reach.now }
-    ensures { IfOk result (λ sum. IsSumOver (size_of heap.now) (facts_of heap.now) (IsWeaklyHeld (size_of heap.now) (facts_of heap.now))
-        (sum_of sum)) }
-{
-    let nodes = nodes_of(alloc, heap)?;
-    Ok(sum_among(heap, retained, reach, &nodes))
-}
-
-/// Adds up the nodes of a heap that only weak references reach. `all` is the search by all references; it is made, and kept there, if it is
-/// not there yet. If memory runs out, the answer is `AllocError`.
+/// Adds up the nodes of a heap that only weak references reach. `weakly` are these nodes, which are made, and kept there, if they are not
+/// there yet. If memory runs out, the answer is `AllocError`.
 pub(crate) fn weak_sum(
     alloc: Global,
     heap: &Heap,
+    weak: &LeftOut,
     retained: &Retained,
-    all: &mut Option<Reach>,
+    weakly: &mut Option<WeaklyHeld>,
 ) -> Result<WeakSum, AllocError>
+    requires weak { (edge : Edge) → IsEdge (size_of heap.now) (facts_of heap.now) edge
+        → IsLeftOut (fields_in weak.now) (facts_of heap.now) edge ↔ IsWeak (facts_of heap.now) edge }
     requires retained { IsTreeOf (size_of heap.now) (facts_of heap.now) retained.now }
-    requires all { IfSome all.old (IsReach (size_of heap.now) (facts_of heap.now)) }
+    requires weakly { IfSome weakly.old (AreWeaklyHeld (size_of heap.now) (facts_of heap.now)) }
     ensures sum { IfOk result (λ sum. IsSumOver (size_of heap.now) (facts_of heap.now) (IsWeaklyHeld (size_of heap.now) (facts_of heap.now))
         (sum_of sum)) }
-    ensures all { IfSome all.new (IsReach (size_of heap.now) (facts_of heap.now)) }
+    ensures weakly { IfSome weakly.new (AreWeaklyHeld (size_of heap.now) (facts_of heap.now)) }
 {
-    if let Some(reach) = all {
-        return sum_by(alloc, heap, retained, reach);
+    if let Some(nodes) = weakly {
+        return Ok(sum_in(nodes));
     }
-    let reach = reach_of(alloc, heap)?;
-    let sum = sum_by(alloc, heap, retained, &reach);
-    *all = Some(reach);
-    sum
+    let nodes = weakly_held(alloc, heap, weak, retained)?;
+    let sum = sum_in(&nodes);
+    *weakly = Some(nodes);
+    Ok(sum)
 }

@@ -9,3 +9,6 @@ pub mod HeldOrNot
 pub mod NodeLists
 pub mod SomeSums
 pub mod SomeParent
+pub mod BorderLists
+pub mod Crossing
+pub mod Ascending

@@ -1,2 +1,4 @@
 pub mod Retained
 pub mod Tree
+pub mod Weakly
+pub mod Border

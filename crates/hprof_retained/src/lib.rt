@@ -2,11 +2,16 @@
 //! them retains.
 #![tactic(auto)]
 
+mod beyond;
+mod border;
 pub mod laws;
 mod making;
 mod retained;
 mod sizes;
+mod weakly;
 
+pub use beyond::weakly_held;
 pub use making::retained_of;
 pub use retained::Retained;
 pub use sizes::size_of_node;
+pub use weakly::WeaklyHeld;

@@ -1,10 +1,14 @@
-use Rattle.std.proofs.Common.{◌∙◌, sym}
-use Rattle.hprof_keeps.proofs.Found.{not_held}
+use Rattle.std.proofs.Common.{subst}
+use Rattle.std.specs.Prelude.{IfSome}
+use Rattle.hprof_heap.specs.HeapFacts.{facts_of, size_of}
+use Rattle.hprof_retained.specs.Weakly.{AreWeaklyHeld}
 use Rattle.hprof_keeps.proofs.weakly.is_weakly_held.Goals as goal
 
-pub returns-then-place-eq0 : goal.returns-then-place-eq0
-returns-then-place-eq0 c = λ ids facts agree tree reach.
-    let is = c.is_reached.ensures ids facts agree reach in (
-      λ yes. (is.0 yes, not_held ids facts c.args.retained.now tree c.args.node (sym c.place.ensures ∙ c.if-place-eq0.true)),
-      λ weakly. is.1 weakly.0,
-    )
+pub returns-in-Some-clause-held : goal.returns-in-Some-clause-held
+returns-in-Some-clause-held c =
+    let ids = size_of c.args.heap.now in
+    let facts = facts_of c.args.heap.now in
+    c.is_held.ensures ids facts (subst (λ nodes. IfSome nodes (AreWeaklyHeld ids facts)) c.in-Some.is c.requires.weakly)
+
+pub returns-clause-held : goal.returns-clause-held
+returns-clause-held c = c.is_held-held.ensures (size_of c.args.heap.now) (facts_of c.args.heap.now) c.in_ok-nodes.ensures

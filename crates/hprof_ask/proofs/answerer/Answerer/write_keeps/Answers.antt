@@ -14,6 +14,14 @@ returns-in_err-survey-clause-bytes g c =
     let p = err_from_is_err_and r.result r.ensures.1 in
     (text.0, text.1, text_unwritten r.result (g.W.Target.written c.args.target.now) p.0 text.0 p.1)
 
+pub returns-in_err-references-clause-bytes : goal.returns-in_err-references-clause-bytes
+returns-in_err-references-clause-bytes g c =
+    let heap = c.args.self.now.heap.now in
+    let text = some_node_report (size_of heap) (facts_of heap) c.holds_of_heap.ensures.agree nodes.Keeps c.args.id in
+    let r = c.from_residual-in_err-references in
+    let p = err_from_is_err_and r.result r.ensures.1 in
+    (text.0, text.1, text_unwritten r.result (g.W.Target.written c.args.target.now) p.0 text.0 p.1)
+
 pub returns-in_err-retained-clause-bytes : goal.returns-in_err-retained-clause-bytes
 returns-in_err-retained-clause-bytes g c =
     let heap = c.args.self.now.heap.now in
