@@ -1,6 +1,6 @@
 -- A node is reached exactly if it has a distance.
 use Rattle.std.specs.Prelude.{◌↔◌, IsTrue, is_some}
-use Rattle.std.proofs.Common.{◌≡◌, ◌⊎◌, ℕ, List, Bool, true, false, Option, Some, None, codes, refl, sym, subst, inl, inr}
+use Rattle.std.proofs.Common.{◌⊎◌, ℕ, List, Option, Some, None, codes, refl, inl, inr}
 use Rattle.hprof_values.specs.declared.ids.IdSize.{IdSize}
 use Rattle.hprof_items.specs.FactValue.{FactValue}
 use Rattle.hprof_rows.specs.Conflict.{IsConsistent}

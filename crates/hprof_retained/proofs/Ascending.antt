@@ -1,6 +1,6 @@
 -- Numbers that ascend, those before a place among them, and the sums over them.
-use Rattle.std.specs.Prelude.{◌↔◌, Contains, IsTrue, sum}
-use Rattle.std.proofs.Common.{◌≡◌, ◌⊎◌, ◌<◌, ◌+◌, ◌++◌, ◌∙◌, ℕ, zero, suc, Bool, true, false, List, [], ◌∷◌, length, slice_index, refl, sym, ap, subst, inl, inr, arith}
+use Rattle.std.specs.Prelude.{◌↔◌, Contains, sum}
+use Rattle.std.proofs.Common.{◌≡◌, ◌⊎◌, ◌<◌, ◌+◌, ◌++◌, ◌∙◌, ℕ, suc, List, [], ◌∷◌, length, slice_index, refl, sym, ap, subst, inl, inr, arith}
 use Rattle.std.specs.List.Sorted.{IsStrictlyIncreasing}
 use Rattle.std.proofs.lemmas.Bool.{cases_eq}
 use Rattle.std.proofs.lemmas.Grind.{get_or_default_zero}
@@ -63,9 +63,6 @@ once_ascending (x ∷ ys) ascend =
 
 abbrev pub Taken : List ℕ → ℕ → ℕ → Type 0
 Taken nodes index node = (place : ℕ) × (place < index) × (slice_index nodes place ≡ node)
-
-pub none_before : (nodes : List ℕ) (node : ℕ) → Taken nodes 0 node → ⊥
-none_before nodes node taken = let low = taken.1 in omega arith
 
 pub one_further : (nodes : List ℕ) (index : ℕ) (node : ℕ)
     → Taken nodes (index + 1) node ↔ (Taken nodes index node ⊎ (node ≡ slice_index nodes index))

@@ -1,7 +1,6 @@
 -- The nodes on both sides of the border, as they are collected.
-use Rattle.std.specs.Prelude.{◌↔◌, ◌≢◌, Contains, IsTrue}
-use Rattle.std.proofs.Common.{◌≡◌, ◌⊎◌, ◌==◌, ◌∙◌, ℕ, Bool, true, false, not, Some, List, [], ◌++◌, ◌∷◌, get_or, length, refl, sym, ap, subst, inl, inr, arith, eq-eqb, eqb-true, ne_eqb}
-use Rattle.std.proofs.lemmas.List.{nil_from_length}
+use Rattle.std.specs.Prelude.{◌↔◌, ◌≢◌, Contains}
+use Rattle.std.proofs.Common.{◌≡◌, ◌⊎◌, ◌==◌, ◌∙◌, ℕ, Bool, true, false, not, Some, List, [], ◌++◌, get_or, length, refl, sym, ap, subst, inl, inr, arith, eq-eqb, eqb-true, ne_eqb}
 use Rattle.std.proofs.lemmas.List.Elements.{Contains-append_cases, Contains-append_left, Contains-append_right, Contains-get_or}
 use Rattle.std.proofs.lemmas.List.Folds.{list_any_at, list_any_none}
 use Rattle.hprof_items.specs.FactValue.{FactValue, Instance}
@@ -14,7 +13,7 @@ use Rattle.hprof_edges.specs.declared.field_place.FieldPlace.{FieldPlace}
 use Rattle.hprof_reach.specs.Nodes.{IsClassNode, IsObjectNode}
 use Rattle.hprof_reach.specs.Reaching.{IsNode}
 use Rattle.hprof_reach.proofs.Reached.{either_dump}
-use Rattle.hprof_reach.proofs.TableNodes.{GivesClass, GivesObject, IsGiven, class_nodes, gives_class, gives_object, object_nodes}
+use Rattle.hprof_reach.proofs.TableNodes.{GivesClass, IsGiven, class_nodes, gives_object, object_nodes}
 use Rattle.hprof_retained.specs.Border.{AreAround, IsBorderNode, IsOfClasses, IsOnBorder, IsOutside, has_class}
 use Rattle.hprof_retained.specs.Tree.{place_of}
 use Rattle.hprof_retained.specs.declared.retained.Retained.{Retained}

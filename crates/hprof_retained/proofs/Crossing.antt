@@ -1,6 +1,6 @@
 -- A node is weakly held exactly if a search from the border reaches it outside.
 use Rattle.std.specs.Prelude.{◌↔◌, Contains, IsTrue}
-use Rattle.std.proofs.Common.{◌≡◌, ◌⊎◌, ◌<◌, ℕ, zero, suc, Bool, true, false, List, [], ◌∷◌, Some, refl, sym, subst, inl, inr, arith, eqb-true, nat_eq}
+use Rattle.std.proofs.Common.{◌≡◌, ◌⊎◌, ◌<◌, ℕ, zero, suc, Bool, List, [], ◌∷◌, Some, refl, inl, inr, arith, eqb-true, nat_eq}
 use Rattle.std.proofs.lemmas.Bool.{cases_Bool, cases_order}
 use Rattle.std.proofs.lemmas.Cmp.{nat_eq_equiv}
 use Rattle.std.proofs.lemmas.Map.Views.{Contains-from_any, list_any-from_Contains}
@@ -18,7 +18,7 @@ use Rattle.hprof_dominators.specs.Walks as listed
 use Rattle.hprof_dominators.proofs.Listed.{same_reached}
 use Rattle.hprof_reach.specs.Reaching.{IsNode, IsStart, IsStepBy, LeadsBy}
 use Rattle.hprof_weak.specs.Weak.{IsStrong, IsWeak}
-use Rattle.hprof_retained.specs.Border.{AreAround, Crossing, IsBorderNode, IsCrossedTo, starts_of, steps_of}
+use Rattle.hprof_retained.specs.Border.{AreAround, Crossing, IsCrossedTo, starts_of, steps_of}
 use Rattle.hprof_retained.specs.Retained.{IsHeld}
 use Rattle.hprof_retained.specs.Tree.{IsTreeOf, place_of}
 use Rattle.hprof_retained.specs.Weakly.{IsWeaklyHeld}

@@ -7,7 +7,6 @@ use Rattle.hprof_rows.specs.Facts.{Has}
 use Rattle.hprof_heap.specs.Objects.{IsObject}
 use Rattle.hprof_edges.specs.declared.field_place.FieldPlace.{FieldPlace}
 use Rattle.hprof_edges.specs.LeftOut.{IsKept}
-use Rattle.hprof_reach.specs.Nodes.{IsObjectNode}
 use Rattle.hprof_reach.specs.Reaching.{IsNode, LeadsBy}
 use Rattle.hprof_search.specs.Walks.{Reaches}
 use Rattle.hprof_retained.specs.Tree.{place_of}

@@ -1,10 +1,10 @@
-use Rattle.std.proofs.Common.{◌≡◌, ◌++◌, ◌∷◌, ◌+◌, ◌∙◌, ℕ, List, [], inl, inr, refl, sym, subst, arith, length}
+use Rattle.std.proofs.Common.{◌≡◌, ◌++◌, ◌∷◌, ◌+◌, ◌∙◌, ℕ, List, [], inl, inr, refl, sym, subst, arith}
 use Rattle.std.proofs.lemmas.Bool.{both_ways}
 use Rattle.std.proofs.lemmas.List.Elements.{Contains-push_cases}
 use Rattle.std.specs.Prelude.{Contains, slice_index}
 use Rattle.std.specs.List.Sorted.{IsStrictlyIncreasing}
 use Rattle.hprof_retained.specs.Border.{IsCrossedTo}
-use Rattle.hprof_retained.proofs.Ascending.{ArePassed, Taken, all_before, less_before, one_fails, one_further, one_passes, push_ascends}
+use Rattle.hprof_retained.proofs.Ascending.{ArePassed, all_before, less_before, one_fails, one_further, one_passes, push_ascends}
 use Rattle.hprof_retained.proofs.beyond.reached_among.Goals as goal
 use Rattle.hprof_retained.proofs.beyond.reached_among.Goals.{then-is_reached+in_ok-push, else-is_reached}
 

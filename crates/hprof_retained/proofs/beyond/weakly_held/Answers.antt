@@ -1,5 +1,5 @@
-use Rattle.std.proofs.Common.{◌≡◌, ◌⊎◌, ℕ, List, subst, sym}
-use Rattle.std.specs.Prelude.{◌↔◌, Contains, sum}
+use Rattle.std.proofs.Common.{◌⊎◌, ℕ, List, subst}
+use Rattle.std.specs.Prelude.{◌↔◌, Contains}
 use Rattle.hprof_heap.specs.declared.heap.Heap.{Heap}
 use Rattle.hprof_heap.specs.HeapFacts.{facts_of, size_of}
 use Rattle.hprof_edges.specs.declared.left_out.LeftOut.{LeftOut}

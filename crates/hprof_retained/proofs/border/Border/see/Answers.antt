@@ -1,4 +1,4 @@
-use Rattle.std.proofs.Common.{◌∙◌, inl, inr, refl, sym, subst}
+use Rattle.std.proofs.Common.{◌∙◌, inl, inr, refl, sym}
 use Rattle.hprof_edges.specs.LeftOut.{fields_in}
 use Rattle.hprof_heap.specs.ObjectDump.{fact_of_object}
 use Rattle.hprof_reach.proofs.TableNodes.{one_more, same_given}

@@ -1,11 +1,10 @@
-use Rattle.std.proofs.Common.{◌∙◌, ◌≡◌, ap, refl, sym, subst}
+use Rattle.std.proofs.Common.{◌∙◌, refl, sym, subst}
 use Rattle.hprof_edges.specs.LeftOut.{fields_in}
-use Rattle.hprof_items.specs.FactValue.{FactValue, value_of}
+use Rattle.hprof_items.specs.FactValue.{value_of}
 use Rattle.hprof_rows.specs.declared.table.Table.TheVariants as tables
 use Rattle.hprof_rows.specs.FactsLeft.{facts_left}
 use Rattle.hprof_rows.specs.Tables.{facts_of_table}
 use Rattle.hprof_heap.specs.HeapFacts.{facts_of}
-use Rattle.hprof_heap.specs.ObjectDump.{fact_of_object}
 use Rattle.hprof_reach.proofs.TableNodes.{GoneOver, IsGiven, gone_over_all, gone_over_none, gone_over_one, gone_over_other, same_given}
 use Rattle.hprof_retained.specs.Border.{IsOnBorder, IsOutside}
 use Rattle.hprof_retained.proofs.BorderLists.{border_nodes, other_objects}
