@@ -144,7 +144,8 @@ module _ (ids : IdSize) (facts : List FactValue) where
       → IsSizeOf ids facts node size → AreSummed after (bytes + size)
   summed_more nodes after node bytes size pushed was is = record {
     sizes = was.sizes ++ size ∷ [];
-    are = subst (λ (l : List ℕ). AreSizesOf ids facts l (was.sizes ++ size ∷ [])) (sym pushed) (sizes_push nodes was.sizes node size was.are is);
+    are = subst (λ (l : List ℕ). AreSizesOf ids facts l (was.sizes ++ size ∷ [])) (sym pushed)
+        (sizes_push nodes was.sizes node size was.are is);
     is = (let same = was.is in let all = sum_by-append (λ (n : ℕ). n) was.sizes (size ∷ []) in omega arith);
   }
 

@@ -83,7 +83,8 @@ module _ (retained : Retained) where
   one_object : (id node : ℕ) (fact : FactValue) → IsObject id fact → IsObject node fact → id ≡ node
   one_object id node fact is too = let same : Some (keys.Object id) ≡ Some (keys.Object node) = sym is ∙ too in cc
 
-  pub not_outside : (id : ℕ) (fact : FactValue) → IsObject id fact → place_of retained id ≢ 0 → (node : ℕ) → IsOutside retained fact node → ⊥
+  pub not_outside : (id : ℕ) (fact : FactValue) → IsObject id fact → place_of retained id ≢ 0 → (node : ℕ)
+      → IsOutside retained fact node → ⊥
   not_outside id fact is some node outside = some (at_place node id (sym (one_object id node fact is outside.0.1)) outside.1)
 
   pub border_one : (fields : List FieldPlace) (id : ℕ) (fact : FactValue) → IsObject id fact → place_of retained id ≢ 0

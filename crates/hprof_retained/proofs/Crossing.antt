@@ -30,7 +30,8 @@ use Rattle.hprof_retained.proofs.HeldOrNot.{held_or_not, steps_along}
 
 module _ (Starts : ℕ → Type 0) (Steps : ℕ → ℕ → Type 0) (node : ℕ) where
   -- where there is no distance, nothing leads there
-  none_reaches : ((count : ℕ) → IsDistance Starts Steps node count → ⊥) → (most count : ℕ) → count < most → Reaches Starts Steps count node → ⊥
+  none_reaches : ((count : ℕ) → IsDistance Starts Steps node count → ⊥) → (most count : ℕ) → count < most
+      → Reaches Starts Steps count node → ⊥
   none_reaches none zero count low reaches = absurd (omega arith)
   none_reaches none (suc most) count low reaches = none count (record {
     reaches = reaches;
@@ -49,7 +50,8 @@ module _ (Starts : ℕ → Type 0) (Steps : ℕ → ℕ → Type 0) (node : ℕ)
     λ passes. (let has = is.0 passes in (has.0, has.1.reaches)),
     λ reached. elim (cases_Bool test) [
       | inl passes ↦ passes
-      | inr fails ↦ absurd (none_reaches (λ count distance. let passes = is.1 (count, distance) in cc) (suc reached.0) reached.0 (omega arith) reached.1)
+      | inr fails ↦ absurd (none_reaches (λ count distance. let passes = is.1 (count, distance) in cc) (suc reached.0) reached.0
+          (omega arith) reached.1)
     ],
   )
 
@@ -67,7 +69,8 @@ crossing_of ids facts kept all sources = record { ids = ids; facts = facts; fiel
 module _ (ids : IdSize) (facts : List FactValue) (agree : IsConsistent facts) (fields : List FieldPlace) (retained : Retained)
     (weak : (edge : Edge) → IsEdge ids facts edge → IsLeftOut fields facts edge ↔ IsWeak facts edge) (tree : IsTreeOf ids facts retained)
     (others sources all : List ℕ) (around : AreAround facts fields retained others sources)
-    (joined : (node : ℕ) → Contains all node ↔ (Contains others node ⊎ Contains sources node)) (kept : List FieldPlace) (none : kept ≡ []) where
+    (joined : (node : ℕ) → Contains all node ↔ (Contains others node ⊎ Contains sources node))
+    (kept : List FieldPlace) (none : kept ≡ []) where
   abbrev crossing : Crossing
   crossing = crossing_of ids facts kept all sources
 

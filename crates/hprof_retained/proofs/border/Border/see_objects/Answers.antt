@@ -63,7 +63,8 @@ returns-clause-others c =
     let facts = facts_of c.args.heap.now in
     let retained = c.args.retained.now in
     let table = facts_of_table tables.Objects facts in
-    same_given (IsGiven (IsOutside retained) table) _ c.args.self.now.others.items c.loop-facts.self.others.items (other_objects retained facts)
+    same_given (IsGiven (IsOutside retained) table) _ c.args.self.now.others.items c.loop-facts.self.others.items
+    (other_objects retained facts)
     (gone_over_all (IsOutside retained) c.args.self.now.others.items c.loop-facts.self.others.items table (facts_left c.loop-facts.facts)
     c.loop-facts.invariant.others (c.next_into.ensures.none c.loop-facts-test.false).0)
 
