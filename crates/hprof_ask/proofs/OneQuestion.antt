@@ -97,7 +97,7 @@ differs = of_each Differs (
                   (refl, refl, refl, refl, refl, refl),
                   (
                     (refl, refl, refl, refl, refl, refl),
-                    ((refl, refl, refl, refl, refl, refl), ((refl, refl, refl, refl, refl, refl), ((refl, refl, refl, refl, refl, refl), ((refl, refl, refl, refl, refl, refl), tt)))),
+                    ((refl, refl, refl, refl, refl, refl), ((refl, refl, refl, refl, refl, refl), ((refl, refl, refl, refl, refl, refl), ((refl, refl, refl, refl, refl, refl), ((refl, refl, refl, refl, refl, refl), tt))))),
                   ),
                 ),
               ),

@@ -26,6 +26,7 @@ use Rattle.hprof_holders.specs.WhoText.{IsWhoText}
 use Rattle.hprof_keeps.specs.BiggestText.{IsBiggestText}
 use Rattle.hprof_keeps.specs.Chosen.{HasObjectOfClasses, HasObjectOfKind, IsClassAlone}
 use Rattle.hprof_keeps.specs.KeepsText.{IsKeepsText}
+use Rattle.hprof_by_label.specs.RetainedText.{IsRetainedText}
 use Rattle.hprof_why.specs.WhyText.{IsWhyText}
 use Rattle.hprof_ask.specs.declared.report.HeapReport.{HeapReport}
 use Rattle.hprof_ask.specs.declared.report.HeapReport.TheVariants as heaps
@@ -44,6 +45,7 @@ IsHeapReport summaries ids facts heaps.Check text = IsCheck summaries facts text
 IsHeapReport summaries ids facts heaps.Histogram text = IsHistogramText ids facts text
 IsHeapReport summaries ids facts heaps.Classes text = IsClassesText ids facts text
 IsHeapReport summaries ids facts heaps.Threads text = IsThreadsText ids facts text
+IsHeapReport summaries ids facts heaps.Retained text = IsRetainedText ids facts text
 
 -- it is the report on the objects of a class or a type among these facts
 abbrev pub IsKindReport : IdSize → List FactValue → KindReport → Kind → List ℕ → Type 0

@@ -10,6 +10,7 @@ ghost use Rattle.hprof_reports.specs.HistogramText.{IsHistogramText};
 ghost use Rattle.hprof_reports.specs.PathText.{IsPathText};
 ghost use Rattle.hprof_reports.specs.RefsText.{IsRefsText};
 ghost use Rattle.hprof_reports.specs.Stopping.{LeavesTarget, WritesText};
+ghost use Rattle.hprof_by_label.specs.RetainedText.{IsRetainedText};
 ghost use Rattle.hprof_edges.specs.Edges.{AreReferrers};
 ghost use Rattle.hprof_show.specs.ShowText.{IsShowText};
 ghost use Rattle.hprof_holders.specs.ThreadsText.{IsThreadsText};
@@ -24,6 +25,7 @@ ghost use Rattle.hprof_ask.specs.Report.{IsHeapReport, IsKindReport, IsNodeRepor
 use crate::kept::{Kept, kept_or_made, retained_or_made};
 use crate::report::{HeapReport, KindReport, Kinds, Node, NodeReport, Report};
 use crate::survey::view_of;
+use hprof_by_label::write_retained;
 use hprof_devices::{Target, push_all};
 use hprof_edges::{Edge, referrers};
 use hprof_engine::WriteStop;
@@ -202,6 +204,31 @@ impl<'a> Answerer<'a> {
         outcome
     }
 
+    /// Writes the report `retained`.
+    fn write_retained<W: Target>(
+        &self,
+        alloc: Global,
+        kept: &mut Kept,
+        target: &mut W,
+    ) -> Result<(), WriteStop>
+        requires well { W.health target.old ≡ Well }
+        requires kept { IsKept (size_of self.now.heap.now) (facts_of self.now.heap.now) kept.old }
+        ensures bytes { (text : List ℕ) × IsRetainedText (size_of self.now.heap.now) (facts_of self.now.heap.now) text
+            × WritesText (W.written target.old) (W.written target.new) result text }
+        ensures health { LeavesTarget result (W.health target.new) }
+        ensures kept { IsKept (size_of self.now.heap.now) (facts_of self.now.heap.now) kept.new }
+    {
+        holds_of_heap(self.heap);
+        let survey = kept_or_made(alloc, self.heap, kept.survey.take())?;
+        let references = kept_or_made(alloc, self.heap, kept.references.take())?;
+        let retained = retained_or_made(alloc, self.heap, &references.weak, kept.retained.take())?;
+        let outcome = write_retained(alloc, self.heap, &survey.classes, &retained, target);
+        kept.survey = Some(survey);
+        kept.references = Some(references);
+        kept.retained = Some(retained);
+        outcome
+    }
+
     /// Writes the report `show` on an identifier.
     fn write_show<W: Target>(
         &self,
@@ -333,6 +360,7 @@ impl<'a> Answerer<'a> {
             HeapReport::Histogram => self.write_histogram(alloc, kept, target),
             HeapReport::Classes => self.write_classes(alloc, kept, target),
             HeapReport::Threads => self.write_threads(alloc, kept, target),
+            HeapReport::Retained => self.write_retained(alloc, kept, target),
         }
     }
 

@@ -58,6 +58,23 @@ early, as head does, is a failed write.
 
 Exit status: 0 done, 1 refused (one line on standard error), 2 not understood.";
 
+/// The report `retained`.
+pub(crate) const RETAINED: &str = "\
+Columns: bytes that the objects of a class or a type retain; their own bytes;
+their number; name. Classes with one name share a line. The most retained bytes
+come first, then the most bytes, then the most objects, then by name.
+
+    $ hprof retained friday.hprof | sed -n 1,3p
+EXAMPLE
+
+Retained bytes would go without the objects. Those of different lines overlap, as
+far as objects of one keep objects of the other alive. What only two lines hold
+together is in neither, so all objects of a class free that much at least. Only
+what strong references reach from a GC root counts. A class is an object of
+java/lang/Class and counts 0 bytes; headers and padding of objects do not count.
+
+Exit status: 0 done, 1 refused (one line on standard error), 2 not understood.";
+
 /// The report `biggest`.
 pub(crate) const BIGGEST: &str = "\
 A line for each object that strong references reach from a GC root: the bytes

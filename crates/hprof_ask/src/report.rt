@@ -13,6 +13,8 @@ pub enum HeapReport {
     Classes,
     /// `threads`: each thread, its stack, and the objects that its frames hold.
     Threads,
+    /// `retained`: the classes and types by what they retain.
+    Retained,
 }
 
 /// A report on the objects of a class or a type.

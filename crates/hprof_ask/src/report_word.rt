@@ -46,11 +46,12 @@ pub struct ReportRow {
 }
 
 /// All reports, in the order in which the dialogue's help lists them.
-pub(crate) const ALL: [ReportWord; 14] = [
+pub(crate) const ALL: [ReportWord; 15] = [
     ReportWord::Heap(HeapReport::Check),
     ReportWord::Heap(HeapReport::Histogram),
     ReportWord::Heap(HeapReport::Classes),
     ReportWord::Heap(HeapReport::Threads),
+    ReportWord::Heap(HeapReport::Retained),
     ReportWord::Kind(KindReport::Biggest),
     ReportWord::Kind(KindReport::Objects),
     ReportWord::Node(NodeReport::Show),
@@ -92,6 +93,12 @@ fn heap_row(report: HeapReport) -> ReportRow
             follows: Follows::Nothing,
             about: "Prints each thread, its stack, and the objects that its frames hold",
             help: help::THREADS,
+        },
+        HeapReport::Retained => ReportRow {
+            word: "retained",
+            follows: Follows::Nothing,
+            about: "Prints the class histogram by retained size",
+            help: help::RETAINED,
         },
     }
 }
