@@ -1,0 +1,3 @@
+pub mod NodeLabel
+pub mod LabelRows
+pub mod RetainedText
