@@ -1,5 +1,5 @@
 -- The report `suspects`: where most of the memory is held, and what it falls apart into. Its form is this project's own.
-use Rattle.std.specs.Prelude.{◌≡◌, ◌≤◌, ◌-◌, ◌*◌, ◌/◌, ◌==◌, ℕ, List, [], ◌∷◌, ◌++◌, Option, Some, None, Contains, length, take, drop, codes}
+use Rattle.std.specs.Prelude.{◌≡◌, ◌≢◌, ◌⊎◌, ◌≤◌, ◌-◌, ◌*◌, ◌/◌, ℕ, List, [], ◌∷◌, ◌++◌, Option, Some, None, Contains, length, take, drop, codes}
 use Rattle.std.specs.Prelude.{if◌then◌else◌, nat_lt}
 use Rattle.std.specs.Cmp.Lexicographic.{slice_cmp}
 use Rattle.std.specs.Fmt.{decimal}
@@ -92,8 +92,8 @@ pub data AreTexts (ids : IdSize) (facts : List FactValue) (found : Findings) (re
 
 -- nothing of a heap without bytes
 abbrev pub IsSuspectsPart : IdSize → List FactValue → Findings → (ℕ → Sum) → Sum → List ℕ → Type 0
-IsSuspectsPart ids facts found retained total text = if total.bytes == 0 then text ≡ []
-    else ((suspects : List Suspect) × AreSuspects ids facts retained total suspects
+IsSuspectsPart ids facts found retained total text = ((total.bytes ≡ 0) × (text ≡ []))
+    ⊎ ((total.bytes ≢ 0) × (suspects : List Suspect) × AreSuspects ids facts retained total suspects
     × AreTexts ids facts found retained total suspects text)
 
 -- the text is the report of these facts, which agree
