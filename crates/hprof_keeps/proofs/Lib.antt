@@ -13,6 +13,7 @@ pub mod SomeDominators
 pub mod TreePlaces
 pub mod PlaceOrder
 pub mod RightBelow
+pub mod NextChild
 pub mod WayDown
 pub mod OneKeeps
 pub mod SomeKeeps

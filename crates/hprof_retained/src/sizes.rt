@@ -35,7 +35,7 @@ pub(crate) fn sizes_of(
     nodes: &Numbered,
     tree: &DominatorTree,
 ) -> Result<Vec<u128>, AllocError>
-    requires { AreRenumbered (length (nodes_in nodes.now)) (items_in tree.now.search.olds) (items_in tree.now.search.news) }
+    requires { AreRenumbered (length (nodes_in nodes.now)) (items_in tree.now.numbers) (items_in tree.now.places) }
     ensures sized { IfOk result (λ sizes. vec_len sizes ≡ count_of tree.now) }
     ensures small { IfOk result (λ sizes. All (λ size. size < 2 ^ 64) sizes.items) }
     ensures top { IfOk result (λ sizes. slice_index sizes.items 0 ≡ 0) }
