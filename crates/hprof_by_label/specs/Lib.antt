@@ -5,3 +5,4 @@ pub mod Texts
 pub mod Kinds
 pub mod Labelling
 pub mod Labels
+pub mod Sums

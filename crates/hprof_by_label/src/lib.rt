@@ -5,6 +5,8 @@ mod kind_numbers;
 mod kinds;
 mod labelling;
 mod labels;
+mod own_sums;
+mod retained_sums;
 mod texts;
 
 pub use labels::{NodeLabels, labels_of};
