@@ -65,7 +65,9 @@ their number; name. Classes with one name share a line. The most retained bytes
 come first, then the most bytes, then the most objects, then by name.
 
     $ hprof retained friday.hprof | sed -n 1,3p
-EXAMPLE
+    1215 288 9 shop/Session
+    1155 176 11 java/util/ArrayList
+    1131 16 1 jdk/internal/loader/ClassLoaders$AppClassLoader
 
 Retained bytes would go without the objects. Those of different lines overlap, as
 far as objects of one keep objects of the other alive. What only two lines hold

@@ -1,3 +1,0 @@
-pub mod Groups
-pub mod Parts
-pub mod SuspectsText
