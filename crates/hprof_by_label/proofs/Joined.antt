@@ -136,6 +136,11 @@ module _ (ids : IdSize) (facts : List FactValue) where
   ]
 
   module _ (agree : IsConsistent facts) where
+    pub one_bytes : (Holds : ℕ → Type 0) (one other : ℕ) → AreBytesOver ids facts Holds one → AreBytesOver ids facts Holds other → one ≡ other
+    one_bytes Holds one other is too =
+        ap (λ (s : Sum). s.bytes) (one_sum ids facts agree Holds (record { bytes = one; objects = length is.nodes })
+        (record { bytes = other; objects = length too.nodes }) (counted Holds one is) (counted Holds other too))
+
     -- the bytes over some of them are not more
     pub bytes_within : (Some All : ℕ → Type 0) (some all : ℕ) → ((node : ℕ) → All node → IsDumped facts node)
         → ((node : ℕ) → Some node → All node) → AreBytesOver ids facts Some some → AreBytesOver ids facts All all → some ≤ all
@@ -148,6 +153,5 @@ module _ (ids : IdSize) (facts : List FactValue) where
           λ holds. elim (decided Some some is node) [ inl one ↦ inl one | inr none ↦ inr (holds, none) ],
           λ either. elim either [ inl one ↦ among node one | inr other ↦ other.0 ],
         )) ids facts some rest.0.bytes is rest.1.0 in
-        let same = ap (λ (s : Sum). s.bytes) (one_sum ids facts agree All (record { bytes = some + rest.0.bytes; objects = length joined.nodes })
-        (record { bytes = all; objects = length are.nodes }) (counted All (some + rest.0.bytes) joined) (counted All all are)) in
+        let same = one_bytes All (some + rest.0.bytes) all joined are in
         omega arith
