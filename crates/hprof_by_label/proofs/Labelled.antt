@@ -1,5 +1,5 @@
 -- Places that have the numbers of their nodes' labels, number by number.
-use Rattle.std.proofs.Common.{◌≡◌, ◌≢◌, ◌⊎◌, ◌<◌, ◌≤◌, ◌+◌, ◌∙◌, ℕ, List, Some, length, refl, sym, ap, subst, inl, inr, arith, slice_index, slice_set, get_or-set_other, get_or-set_same}
+use Rattle.std.proofs.Common.{◌≡◌, ◌≢◌, ◌<◌, ◌+◌, ◌∙◌, ℕ, List, Some, length, sym, ap, subst, inl, inr, arith, slice_index, slice_set, get_or-set_other, get_or-set_same}
 use Rattle.std.specs.BTreeMap.{get_by_text}
 use Rattle.std.proofs.lemmas.Bool.{cases_eq}
 use Rattle.hprof_items.specs.FactValue.{FactValue}
@@ -9,7 +9,7 @@ use Rattle.hprof_numbers.specs.Numbers.{items_in}
 use Rattle.hprof_retained.specs.Tree.{count_of, node_at}
 use Rattle.hprof_retained.specs.declared.retained.Retained.{Retained}
 use Rattle.hprof_by_label.specs.Labels.{AreNodeLabels, label_at, label_count, label_text}
-use Rattle.hprof_by_label.specs.Labelling.{IsLabelling, IsNumberOf}
+use Rattle.hprof_by_label.specs.Labelling.{IsNumberOf}
 use Rattle.hprof_by_label.specs.NodeLabel.{IsNodeLabel}
 use Rattle.hprof_by_label.specs.Texts.{AreNumbered, StaysIn, text_in}
 use Rattle.hprof_by_label.specs.declared.labelling.Labelling.{Labelling}
@@ -91,8 +91,7 @@ module _ (retained : Retained) where
         let is = subst (λ p. IsNumberOf facts labelling (numbered_node number) (slice_index (items_in labels.of_places) p)) here
         (so number (omega (arith, low)) (omega (arith, here))) in
         let many = ap (λ t. length t.items) texts in
-        let in_labelling = is.2.0 in
-        (
+        let in_labelling = is.2.0 in (
           omega (arith, many, in_labelling),
           subst (IsNodeLabel facts (node_at retained place)) (sym is.2.1 ∙ sym (ap (λ t. text_in t.items (label_at labels place)) texts)) is.1,
         )

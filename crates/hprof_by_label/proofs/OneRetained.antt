@@ -1,14 +1,13 @@
 -- Facts have at most one report `retained`.
-use Rattle.std.proofs.Common.{◌≡◌, ◌∙◌, ℕ, List, length, sym, ap, subst}
-use Rattle.std.specs.Prelude.{Contains}
+use Rattle.std.proofs.Common.{◌≡◌, ◌∙◌, ℕ, List, sym, ap, subst}
 use Rattle.std.specs.List.{flat_map}
 use Rattle.hprof_values.specs.declared.ids.IdSize.{IdSize}
 use Rattle.hprof_items.specs.FactValue.{FactValue}
 use Rattle.hprof_rows.specs.Conflict.{IsConsistent}
 use Rattle.hprof_histogram.proofs.Members.{Contains-from_in, IsIn, in_from_Contains, one_sorted}
-use Rattle.hprof_retained.specs.Retained.{AreBytesOver, IsSumOver, Sum}
+use Rattle.hprof_retained.specs.Retained.{AreBytesOver, IsSumOver}
 use Rattle.hprof_retained.proofs.OneSums.{one_sum}
-use Rattle.hprof_by_label.specs.LabelRows.{AreRows, IsHeldWith, IsKeptBy, IsRow, RowValue, row_cmp}
+use Rattle.hprof_by_label.specs.LabelRows.{AreRows, IsHeldWith, IsKeptBy, IsRow, RowValue}
 use Rattle.hprof_by_label.specs.RetainedText.{IsRetainedText, row_line}
 use Rattle.hprof_by_label.proofs.Joined.{one_bytes}
 use Rattle.hprof_by_label.proofs.RowOrder.{row_cmp_total}

@@ -1,6 +1,6 @@
 -- If facts agree, they have a report `retained`.
-use Rattle.std.proofs.Common.{◌≡◌, ◌⊎◌, ◌++◌, ◌∙◌, ℕ, Bool, true, false, List, [], ◌∷◌, Option, Some, None, codes, refl, sym, ap, subst, inl, inr}
-use Rattle.std.specs.Prelude.{Contains, bytes_eq}
+use Rattle.std.proofs.Common.{◌≡◌, ◌++◌, ◌∙◌, ℕ, Bool, true, false, List, [], ◌∷◌, Option, Some, None, codes, refl, sym, ap, subst, inl, inr}
+use Rattle.std.specs.Prelude.{bytes_eq}
 use Rattle.std.specs.List.{flat_map}
 use Rattle.std.specs.List.Sorted.{IsStrictlySortedBy}
 use Rattle.std.proofs.lemmas.Bool.{both_ways}
@@ -80,8 +80,11 @@ module _ (ids : IdSize) (facts : List FactValue) (agree : IsConsistent facts) wh
       (λ x. both_decided (label_or_not label x) (dominates_or_not ids facts agree x node)) nodes.0) [
         | inl some ↦ inl (some.0, some.2.0, some.2.1)
         | inr none ↦ inr (λ kept.
-            none (kept.0, (nodes.2 kept.0).1 (dominator_reached (IsStart facts) (IsStepBy (IsStrong facts) ids facts) kept.0 node kept.2),
-            (kept.1, kept.2)))
+            none (
+              kept.0,
+              (nodes.2 kept.0).1 (dominator_reached (IsStart facts) (IsStepBy (IsStrong facts) ids facts) kept.0 node kept.2),
+              (kept.1, kept.2),
+            ))
       ]
 
   -- ---- rows

@@ -71,8 +71,7 @@ pub fn labels_of(
     for number in 0..nodes.len() {
         let place = retained.place_by_number(number);
         if place != 0 {
-            let label =
-                labelling.number_of(alloc, heap, names, nodes.node(number), &mut near)?;
+            let label = labelling.number_of(alloc, heap, names, nodes.node(number), &mut near)?;
             of_places.set(place, label);
         }
     }

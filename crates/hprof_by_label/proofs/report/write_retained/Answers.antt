@@ -1,8 +1,6 @@
-use Rattle.std.proofs.Common.{map, refl}
 use Rattle.std.proofs.lemmas.Result.{err_from_is_err_and}
 use Rattle.hprof_heap.specs.HeapFacts.{facts_of, size_of}
 use Rattle.hprof_reports.proofs.TextWriting.{text_unwritten}
-use Rattle.hprof_by_label.specs.RowValues.{row_value}
 use Rattle.hprof_by_label.proofs.SomeRetained.{retained_exists}
 use Rattle.hprof_by_label.proofs.report.write_retained.Goals as goal
 

@@ -1,8 +1,8 @@
-use Rattle.std.proofs.Common.{◌≡◌, ◌<◌, ◌+◌, ◌++◌, ◌∷◌, ◌∙◌, [], Global, List, Vec, ap, map, sym, subst, arith, slice_index}
+use Rattle.std.proofs.Common.{◌≡◌, ◌+◌, ◌++◌, ◌∷◌, ◌∙◌, [], Global, List, Vec, ap, map, sym, subst, arith, slice_index}
 use Rattle.std.proofs.lemmas.Grind.{get_or_default_zero}
 use Rattle.std.proofs.lemmas.List.{map-append}
 use Rattle.hprof_by_label.specs.LabelRows.{RowValue}
-use Rattle.hprof_by_label.specs.RowValues.{AreRowsTo, row_at, row_value}
+use Rattle.hprof_by_label.specs.RowValues.{AreRowsTo, row_value}
 use Rattle.hprof_by_label.specs.declared.row.Row.{Row}
 use Rattle.hprof_by_label.proofs.RowsSoFar.{rows_added, rows_begin, rows_skipped}
 use Rattle.hprof_by_label.proofs.row.rows_of.Goals as goal

@@ -1,4 +1,4 @@
-use Rattle.std.proofs.Common.{List, ℕ, map, sym, subst}
+use Rattle.std.proofs.Common.{List, ℕ, map, subst}
 use Rattle.hprof_heap.specs.HeapFacts.{facts_of, size_of}
 use Rattle.hprof_by_label.specs.Labels.{label_count}
 use Rattle.hprof_by_label.specs.RowValues.{AreRowsTo, row_value}
