@@ -21,7 +21,8 @@ pub next_line : (rows : List Row) (place : ℕ) → place < length rows
     → lines_of (drop place rows) ≡ row_line (row_value (get_or rows place no_row)) ++ lines_of (drop (place + 1) rows)
 next_line rows place within = ap lines_of (drop_from rows place no_row within)
 
-regrouped : (retained bytes count label : List ℕ) → retained ++ (codes " " ++ (bytes ++ (codes " " ++ (count ++ (codes " " ++ (label ++ codes "\n"))))))
+regrouped : (retained bytes count label : List ℕ) → retained ++ (codes " " ++ (bytes ++ (codes " " ++ (count ++ (codes " " ++
+    (label ++ codes "\n"))))))
     ≡ retained ++ codes " " ++ bytes ++ codes " " ++ count ++ codes " " ++ label ++ codes "\n"
 regrouped retained bytes count label = simp append_assoc
 

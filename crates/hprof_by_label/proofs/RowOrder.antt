@@ -29,8 +29,10 @@ same_label_flips row other = by_test (same_label row other) (same_label other ro
   by_test : (b d : Bool) → same_label row other ≡ b → same_label other row ≡ d → b ≡ d
   by_test true true e f = refl
   by_test false false e f = refl
-  by_test true false e f = absurd (both_ways _ f ((bytes_eq-Decides other.label row.label).1 (sym ((bytes_eq-Decides row.label other.label).0 e))))
-  by_test false true e f = absurd (both_ways _ e ((bytes_eq-Decides row.label other.label).1 (sym ((bytes_eq-Decides other.label row.label).0 f))))
+  by_test true false e f = absurd (both_ways _ f ((bytes_eq-Decides other.label row.label).1 (sym
+      ((bytes_eq-Decides row.label other.label).0 e))))
+  by_test false true e f = absurd (both_ways _ e ((bytes_eq-Decides row.label other.label).1 (sym
+      ((bytes_eq-Decides other.label row.label).0 f))))
 
 -- ---- rows of which neither is before the other
 
@@ -96,7 +98,8 @@ rows_ascend (first ∷ rows) sorted apart =
     (apart_from_distinct same_label (first ∷ rows) k (k + 1) first apart (omega arith) lt))
 
 -- what is in order by a test of values is in order as values
-pub sorted_map : {X Y : Type 0} (f : X → Y) (lt : Y → Y → Bool) (xs : List X) → IsSortedBy (λ x y. lt (f x) (f y)) xs → IsSortedBy lt (map f xs)
+pub sorted_map : {X Y : Type 0} (f : X → Y) (lt : Y → Y → Bool) (xs : List X) → IsSortedBy (λ x y. lt (f x) (f y)) xs
+    → IsSortedBy lt (map f xs)
 sorted_map f lt [] sorted k d low high = absurd (omega (arith, high))
 sorted_map f lt (x ∷ xs) sorted k d low high =
     let all = x ∷ xs in

@@ -29,10 +29,11 @@ distinct_more : (xs : List RowValue) (y : RowValue) → IsDistinct same_label xs
 unfolding IsDistinct
 distinct_more [] y apart each = (tt, tt)
 distinct_more (x ∷ xs) y apart each = (
-  all_from_in (λ z. same_label x z ≡ false) (xs ++ y ∷ []) (λ z on. elim (Contains-push_cases xs y z (Contains-from_in (xs ++ y ∷ []) z on)) [
-    | inl before ↦ all_in (λ w. same_label x w ≡ false) xs z apart.0 (in_from_Contains xs z before)
-    | inr last ↦ subst (λ w. same_label x w ≡ false) last (each x (inl refl))
-  ]),
+  all_from_in (λ z. same_label x z ≡ false) (xs ++ y ∷ []) (λ z on. elim (Contains-push_cases xs y z (Contains-from_in
+      (xs ++ y ∷ []) z on)) [
+        | inl before ↦ all_in (λ w. same_label x w ≡ false) xs z apart.0 (in_from_Contains xs z before)
+        | inr last ↦ subst (λ w. same_label x w ≡ false) last (each x (inl refl))
+      ]),
   distinct_more xs y apart.1 (λ z on. each z (inr on)),
 )
 
@@ -62,7 +63,8 @@ module _ (labels : NodeLabels) (bytes counts retained : List ℕ) where
       apart = so.apart;
     }
 
-    pub rows_added : ((one other : ℕ) → one < label_count labels → other < label_count labels → label_text labels one ≡ label_text labels other
+    pub rows_added : ((one other : ℕ) → one < label_count labels → other < label_count labels
+        → label_text labels one ≡ label_text labels other
         → one ≡ other) → done < label_count labels → 0 < slice_index counts done
         → AreRowsTo labels bytes counts retained (done + 1) (rows ++ row_at labels bytes counts retained done ∷ [])
     rows_added apart below some_here = record {

@@ -52,8 +52,10 @@ impl NodeLabels {
     }
 }
 
-/// Returns the labels of the nodes of a tree, in one pass over the heap's nodes. Nodes with one label have one number: those of classes with
-/// one label, and those of arrays of a type and of a class that is called so. If memory runs out, the answer is `AllocError`.
+/// Returns the labels of the nodes of a tree, in one pass over the heap's nodes. If memory runs out, the answer is `AllocError`.
+///
+/// Nodes with the same label have the same number: those of two classes with one label, and arrays of a type and instances of a class whose
+/// label reads the same.
 pub fn labels_of(
     alloc: Global,
     heap: &Heap,

@@ -71,7 +71,8 @@ loop-number-preserved c =
             few = omega (arith, texts, before);
             as_many = ap (λ n. length (items_in n)) w.of_places-is ∙ invariant.as_many;
             fits = omega (arith, fits, bound);
-            right = subst₂ (λ l i. AreLabelledTo retained facts l i (number + 1)) (sym w.labelling-is) (ap items_in (sym w.of_places-is)) skipped;
+            right = subst₂ (λ l i. AreLabelledTo retained facts l i (number + 1)) (sym w.labelling-is) (ap items_in
+                (sym w.of_places-is)) skipped;
           }
     ]
 
