@@ -1,5 +1,5 @@
 -- Sums over nodes that are joined.
-use Rattle.std.proofs.Common.{◌≡◌, ◌⊎◌, ◌<◌, ◌≤◌, ◌+◌, ◌++◌, ◌↔◌, ◌∙◌, ℕ, List, [], ◌∷◌, length, refl, sym, ap, inl, inr, arith, length-append}
+use Rattle.std.proofs.Common.{◌≡◌, ◌⊎◌, ◌≤◌, ◌+◌, ◌++◌, ◌↔◌, ℕ, List, [], ◌∷◌, length, refl, ap, inl, inr, arith, length-append}
 use Rattle.std.specs.Prelude.{sum}
 use Rattle.std.proofs.lemmas.List.Sums.{sum_by-append, sum_by-cons}
 use Rattle.hprof_values.specs.declared.ids.IdSize.{IdSize}
@@ -19,7 +19,8 @@ use Rattle.hprof_retained.proofs.SomeSums.{sum_exists}
 abbrev pub both : Sum → Sum → Sum
 both one other = record { bytes = one.bytes + other.bytes; objects = one.objects + other.objects }
 
-module _ (One Other Both : ℕ → Type 0) (apart : (node : ℕ) → One node → Other node → ⊥) (joined : (node : ℕ) → Both node ↔ (One node ⊎ Other node)) where
+module _ (One Other Both : ℕ → Type 0) (apart : (node : ℕ) → One node → Other node → ⊥) (joined : (node : ℕ)
+    → Both node ↔ (One node ⊎ Other node)) where
   module _ (ones others : List ℕ) (once : IsOnce ones) (other_once : IsOnce others) (exact : (node : ℕ) → IsOn node ones ↔ One node)
       (other_exact : (node : ℕ) → IsOn node others ↔ Other node) where
     joined_once : IsOnce (ones ++ others)
@@ -64,7 +65,8 @@ module _ (One Other Both : ℕ → Type 0) (apart : (node : ℕ) → One node �
       is = let all = sum_by-append (λ (n : ℕ). n) is.sizes too.sizes in let a = is.is in let b = too.is in omega arith;
     }
 
-    pub sums_joined : (one other : Sum) → IsSumOver ids facts One one → IsSumOver ids facts Other other → IsSumOver ids facts Both (both one other)
+    pub sums_joined : (one other : Sum) → IsSumOver ids facts One one → IsSumOver ids facts Other other
+        → IsSumOver ids facts Both (both one other)
     sums_joined one other is too =
         (bytes_joined one.bytes other.bytes is.0 too.0, count_joined one.objects other.objects is.1 too.1)
 
@@ -136,6 +138,12 @@ module _ (ids : IdSize) (facts : List FactValue) where
   ]
 
   module _ (agree : IsConsistent facts) where
+    pub one_bytes : (Holds : ℕ → Type 0) (one other : ℕ) → AreBytesOver ids facts Holds one → AreBytesOver ids facts Holds other
+        → one ≡ other
+    one_bytes Holds one other is too =
+        ap (λ (s : Sum). s.bytes) (one_sum ids facts agree Holds (record { bytes = one; objects = length is.nodes })
+        (record { bytes = other; objects = length too.nodes }) (counted Holds one is) (counted Holds other too))
+
     -- the bytes over some of them are not more
     pub bytes_within : (Some All : ℕ → Type 0) (some all : ℕ) → ((node : ℕ) → All node → IsDumped facts node)
         → ((node : ℕ) → Some node → All node) → AreBytesOver ids facts Some some → AreBytesOver ids facts All all → some ≤ all
@@ -148,6 +156,5 @@ module _ (ids : IdSize) (facts : List FactValue) where
           λ holds. elim (decided Some some is node) [ inl one ↦ inl one | inr none ↦ inr (holds, none) ],
           λ either. elim either [ inl one ↦ among node one | inr other ↦ other.0 ],
         )) ids facts some rest.0.bytes is rest.1.0 in
-        let same = ap (λ (s : Sum). s.bytes) (one_sum ids facts agree All (record { bytes = some + rest.0.bytes; objects = length joined.nodes })
-        (record { bytes = all; objects = length are.nodes }) (counted All (some + rest.0.bytes) joined) (counted All all are)) in
+        let same = one_bytes All (some + rest.0.bytes) all joined are in
         omega arith

@@ -1,5 +1,5 @@
 -- Places that have the numbers of their nodes' labels, number by number.
-use Rattle.std.proofs.Common.{◌≡◌, ◌≢◌, ◌⊎◌, ◌<◌, ◌≤◌, ◌+◌, ◌∙◌, ℕ, List, Some, length, refl, sym, ap, subst, inl, inr, arith, slice_index, slice_set, get_or-set_other, get_or-set_same}
+use Rattle.std.proofs.Common.{◌≡◌, ◌≢◌, ◌<◌, ◌+◌, ◌∙◌, ℕ, List, Some, length, sym, ap, subst, inl, inr, arith, slice_index, slice_set, get_or-set_other, get_or-set_same}
 use Rattle.std.specs.BTreeMap.{get_by_text}
 use Rattle.std.proofs.lemmas.Bool.{cases_eq}
 use Rattle.hprof_items.specs.FactValue.{FactValue}
@@ -9,7 +9,7 @@ use Rattle.hprof_numbers.specs.Numbers.{items_in}
 use Rattle.hprof_retained.specs.Tree.{count_of, node_at}
 use Rattle.hprof_retained.specs.declared.retained.Retained.{Retained}
 use Rattle.hprof_by_label.specs.Labels.{AreNodeLabels, label_at, label_count, label_text}
-use Rattle.hprof_by_label.specs.Labelling.{IsLabelling, IsNumberOf}
+use Rattle.hprof_by_label.specs.Labelling.{IsNumberOf}
 use Rattle.hprof_by_label.specs.NodeLabel.{IsNodeLabel}
 use Rattle.hprof_by_label.specs.Texts.{AreNumbered, StaysIn, text_in}
 use Rattle.hprof_by_label.specs.declared.labelling.Labelling.{Labelling}
@@ -35,7 +35,8 @@ module _ (retained : Retained) where
   AreLabelledTo facts labelling items done = (number : ℕ) → number < done → 0 < numbered_place number
       → IsNumberOf facts labelling (numbered_node number) (slice_index items (numbered_place number))
 
-  module _ (facts : List FactValue) (labelling : Labelling) (items : List ℕ) (done : ℕ) (so_far : AreLabelledTo facts labelling items done) where
+  module _ (facts : List FactValue) (labelling : Labelling) (items : List ℕ) (done : ℕ)
+      (so_far : AreLabelledTo facts labelling items done) where
     pub labelled_skipped : numbered_place done ≡ 0 → AreLabelledTo facts labelling items (done + 1)
     labelled_skipped none number low some = elim (cases_eq number done) [
       | inl same ↦ let here = ap numbered_place same in absurd (omega arith)
@@ -49,7 +50,8 @@ module _ (retained : Retained) where
       | inl same ↦
           let put : slice_index (slice_set items (numbered_place done) label) (numbered_place done) ≡ label =
           get_or-set_same items (numbered_place done) label 0 low in
-          subst (λ n. IsNumberOf facts next (numbered_node n) (slice_index (slice_set items (numbered_place done) label) (numbered_place n)))
+          subst (λ n. IsNumberOf facts next (numbered_node n) (slice_index (slice_set items (numbered_place done) label)
+          (numbered_place n)))
           (sym same) (subst (IsNumberOf facts next (numbered_node done)) (sym put) is)
       | inr other ↦
           let was = so_far number (omega arith) some in
@@ -91,8 +93,8 @@ module _ (retained : Retained) where
         let is = subst (λ p. IsNumberOf facts labelling (numbered_node number) (slice_index (items_in labels.of_places) p)) here
         (so number (omega (arith, low)) (omega (arith, here))) in
         let many = ap (λ t. length t.items) texts in
-        let in_labelling = is.2.0 in
-        (
+        let in_labelling = is.2.0 in (
           omega (arith, many, in_labelling),
-          subst (IsNodeLabel facts (node_at retained place)) (sym is.2.1 ∙ sym (ap (λ t. text_in t.items (label_at labels place)) texts)) is.1,
+          subst (IsNodeLabel facts (node_at retained place)) (sym is.2.1 ∙ sym (ap (λ t. text_in t.items
+              (label_at labels place)) texts)) is.1,
         )

@@ -5,3 +5,8 @@ pub mod OneLabel
 pub mod Joined
 pub mod OwnSoFar
 pub mod KeptSoFar
+pub mod RowOrder
+pub mod RowsSoFar
+pub mod SomeRetained
+pub mod OneRetained
+pub mod RowLines

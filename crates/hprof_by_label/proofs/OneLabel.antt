@@ -7,7 +7,8 @@ use Rattle.hprof_naming.proofs.Lookups.{object_once}
 use Rattle.hprof_by_label.specs.NodeLabel.{IsFoundLabel, IsNodeLabel, IsObjectLabel}
 
 module _ (facts : List FactValue) (agree : IsConsistent facts) where
-  one_object_label : (object : FactValue) (one other : List ℕ) → IsObjectLabel facts object one → IsObjectLabel facts object other → one ≡ other
+  one_object_label : (object : FactValue) (one other : List ℕ) → IsObjectLabel facts object one → IsObjectLabel facts object other
+      → one ≡ other
   one_object_label (PrimArray id trace elem bytes) one other is too = is ∙ sym too
   one_object_label (Instance id trace class bytes) one other is too = one_bare_label facts agree class one other is too
   one_object_label (ObjArray id trace class elements) one other is too = one_bare_label facts agree class one other is too

@@ -1,6 +1,6 @@
 -- The sums over the nodes of each label, number by number.
-use Rattle.std.proofs.Common.{◌≡◌, ◌≢◌, ◌⊎◌, ◌<◌, ◌≤◌, ◌+◌, ◌*◌, ◌^◌, ◌↔◌, ◌∙◌, ℕ, List, length, refl, sym, ap, subst, inl, inr, arith, replicate, slice_index, slice_set, get_or-set_other, get_or-set_same}
-use Rattle.std.proofs.lemmas.Bool.{cases_eq, cases_lt}
+use Rattle.std.proofs.Common.{◌≡◌, ◌≢◌, ◌<◌, ◌≤◌, ◌+◌, ◌*◌, ◌^◌, ◌∙◌, ℕ, List, length, refl, sym, ap, subst, inl, inr, arith, replicate, slice_index, slice_set, get_or-set_other, get_or-set_same}
+use Rattle.std.proofs.lemmas.Bool.{cases_eq}
 use Rattle.std.proofs.lemmas.List.{get_or-replicate, length-replicate}
 use Rattle.std.proofs.Math.ListN.{length-set}
 use Rattle.hprof_values.specs.declared.ids.IdSize.{IdSize}
@@ -9,7 +9,7 @@ use Rattle.hprof_rows.specs.Conflict.{IsConsistent}
 use Rattle.hprof_dominators.specs.Tree as tree
 use Rattle.hprof_numbers.specs.Numbered.{nodes_in}
 use Rattle.hprof_retained.specs.Retained.{IsHeld, IsSizeOf, IsSumOver, Sum}
-use Rattle.hprof_retained.specs.Tree.{IsTreeOf, count_of, node_at, place_of}
+use Rattle.hprof_retained.specs.Tree.{IsTreeOf, node_at, place_of}
 use Rattle.hprof_retained.specs.declared.retained.Retained.{Retained}
 use Rattle.hprof_by_label.specs.LabelRows.{IsHeldWith}
 use Rattle.hprof_by_label.specs.Labels.{AreNodeLabels, label_at, label_count, label_text}
@@ -31,7 +31,11 @@ module _ (ids : IdSize) (facts : List FactValue) (retained : Retained) (labels :
     pub as_many : length bytes ≡ label_count labels
     pub as_many_counts : length counts ≡ label_count labels
     pub own : (label : ℕ) → label < label_count labels
-        → IsSumOver ids facts (IsOwnTo retained labels label done) (record { bytes = slice_index bytes label; objects = slice_index counts label })
+        → IsSumOver ids facts (IsOwnTo retained labels label done) (record {
+          bytes = slice_index bytes label;
+          objects = slice_index
+              counts label;
+        })
     pub few : (label : ℕ) → label < label_count labels → slice_index counts label ≤ done
     pub small : (label : ℕ) → label < label_count labels → slice_index bytes label + done ≤ done * 2 ^ 64
 
@@ -75,7 +79,8 @@ module _ (ids : IdSize) (facts : List FactValue) (retained : Retained) (labels :
         → IsSumOver ids facts (IsOwnTo retained labels label done) sum
         → IsSumOver ids facts (IsOwnTo retained labels label (done + 1)) (both sum (record { bytes = size; objects = 1 }))
     own_added tree_is label size sum some here is_size before =
-        sums_joined (IsOwnTo retained labels label done) (λ node. node ≡ numbered_node retained done) (IsOwnTo retained labels label (done + 1))
+        sums_joined (IsOwnTo retained labels label done) (λ node. node ≡ numbered_node retained done) (IsOwnTo retained labels label
+        (done + 1))
         (λ node own same.
         let place = own.3 in
         let one = one_place own.0 place in
@@ -95,13 +100,13 @@ module _ (ids : IdSize) (facts : List FactValue) (retained : Retained) (labels :
           ],
         ))
         ids facts sum (record { bytes = size; objects = 1 }) before (sum_of_one ids facts (numbered_node retained done) size is_size) where
-      -- the place of the node with a number
-      one_place : (number : ℕ) → 0 < numbered_place retained number
-          → place_of retained (numbered_node retained number) ≡ numbered_place retained number
-      one_place number place =
-          let at = retained.numbered.new number place in
-          let same = ap (slice_index (nodes_in retained.nodes)) at.1 in
-          sym (ap (place_of retained) same) ∙ (tree_is.held (numbered_place retained number) place at.0).1
+          -- the place of the node with a number
+          one_place : (number : ℕ) → 0 < numbered_place retained number
+              → place_of retained (numbered_node retained number) ≡ numbered_place retained number
+          one_place number place =
+              let at = retained.numbered.new number place in
+              let same = ap (slice_index (nodes_in retained.nodes)) at.1 in
+              sym (ap (place_of retained) same) ∙ (tree_is.held (numbered_place retained number) place at.0).1
 
   pub own_more_none : (bytes counts : List ℕ) (done : ℕ) → AreOwnTo bytes counts done → numbered_place retained done ≡ 0
       → AreOwnTo bytes counts (done + 1)
@@ -188,8 +193,11 @@ module _ (ids : IdSize) (facts : List FactValue) (retained : Retained) (labels :
         let place = numbered_place retained own.0 in
         let there : node_at retained place ≡ node = ap (slice_index (nodes_in retained.nodes)) at.1 ∙ own.2 in
         let P : ℕ → Type 0 = λ n. IsHeld ids facts n × IsNodeLabel facts n (label_text labels label) in
-        subst P there
-        ((tree_is.held place own.3 at.0).0, subst (λ l. IsNodeLabel facts (node_at retained place) (label_text labels l)) own.4 (are.right place own.3 at.0))
+        subst P there (
+          (tree_is.held place own.3 at.0).0,
+          subst (λ l. IsNodeLabel facts (node_at retained place) (label_text labels l)) own.4
+              (are.right place own.3 at.0),
+        )
 
     back : (label : ℕ) → label < label_count labels → (node : ℕ) → IsHeldWith ids facts (label_text labels label) node
         → IsOwnTo retained labels label done node
@@ -201,9 +209,9 @@ module _ (ids : IdSize) (facts : List FactValue) (retained : Retained) (labels :
         let less = old.0 in
         let at : numbered_place retained number ≡ place = old.1 in
         let text = one_node_label facts agree node (label_text labels (label_at labels place)) (label_text labels label)
-        (subst (λ n. IsNodeLabel facts n (label_text labels (label_at labels place))) found.2 (are.right place found.0 found.1)) with_it.1 in
-        let some = found.0 in
-        (
+        (subst (λ n. IsNodeLabel facts n (label_text labels (label_at labels place))) found.2
+        (are.right place found.0 found.1)) with_it.1 in
+        let some = found.0 in (
           number,
           omega arith,
           found.2,

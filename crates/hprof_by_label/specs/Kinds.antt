@@ -1,5 +1,5 @@
 -- What the label of a node comes from; no public contract speaks of it.
-use Rattle.std.specs.Prelude.{◌≡◌, ◌⊎◌, ◌++◌, ℕ, List, Option, Some, codes}
+use Rattle.std.specs.Prelude.{◌≡◌, ◌⊎◌, ◌++◌, ℕ, List, Some, codes}
 use Rattle.std.specs.BTreeMap.{get}
 use Rattle.std.specs.Ordering.{nat_cmp}
 use Rattle.hprof_values.specs.Basic.{code_of_basic}
@@ -9,7 +9,6 @@ use Rattle.hprof_meaning.specs.BareLabels.{IsBareLabel}
 use Rattle.hprof_by_label.specs.declared.kinds.Kind.{Kind}
 use Rattle.hprof_by_label.specs.declared.kinds.Kind.TheVariants as kinds
 use Rattle.hprof_by_label.specs.declared.kind_numbers.KindNumbers.{KindNumbers}
-use Rattle.hprof_by_label.specs.declared.kind_numbers.LastClass.{LastClass}
 
 -- the label of nodes of a kind
 abbrev pub IsKindLabel : List FactValue → Kind → List ℕ → Type 0

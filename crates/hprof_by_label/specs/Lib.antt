@@ -6,3 +6,4 @@ pub mod Kinds
 pub mod Labelling
 pub mod Labels
 pub mod Sums
+pub mod RowValues

@@ -52,8 +52,10 @@ impl NodeLabels {
     }
 }
 
-/// Returns the labels of the nodes of a tree, in one pass over the heap's nodes. Nodes with one label have one number: those of classes with
-/// one label, and those of arrays of a type and of a class that is called so. If memory runs out, the answer is `AllocError`.
+/// Returns the labels of the nodes of a tree, in one pass over the heap's nodes. If memory runs out, the answer is `AllocError`.
+///
+/// Nodes with the same label have the same number: those of two classes with one label, and arrays of a type and instances of a class whose
+/// label reads the same.
 pub fn labels_of(
     alloc: Global,
     heap: &Heap,
@@ -71,8 +73,7 @@ pub fn labels_of(
     for number in 0..nodes.len() {
         let place = retained.place_by_number(number);
         if place != 0 {
-            let label =
-                labelling.number_of(alloc, heap, names, nodes.node(number), &mut near)?;
+            let label = labelling.number_of(alloc, heap, names, nodes.node(number), &mut near)?;
             of_places.set(place, label);
         }
     }

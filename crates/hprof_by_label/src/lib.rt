@@ -5,8 +5,13 @@ mod kind_numbers;
 mod kinds;
 mod labelling;
 mod labels;
+pub mod laws;
 mod own_sums;
+mod report;
 mod retained_sums;
+mod row;
+mod rows;
 mod texts;
 
 pub use labels::{NodeLabels, labels_of};
+pub use report::write_retained;

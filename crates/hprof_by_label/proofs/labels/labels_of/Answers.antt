@@ -1,11 +1,10 @@
-use Rattle.std.proofs.Common.{◌≡◌, ◌+◌, ◌∙◌, ℕ, List, length, ap, sym, subst, subst₂, refl, arith, slice_index, slice_set}
+use Rattle.std.proofs.Common.{◌≡◌, ◌+◌, ◌∙◌, length, ap, sym, subst, subst₂, refl, arith, slice_index, slice_set}
 use Rattle.std.proofs.lemmas.List.{length-replicate}
 use Rattle.std.proofs.Math.ListN.{length-set}
 use Rattle.hprof_heap.specs.HeapFacts.{facts_of}
 use Rattle.hprof_numbers.specs.Numbered.{nodes_in}
 use Rattle.hprof_numbers.specs.Numbers.{bound_of, items_in}
 use Rattle.hprof_numbers.specs.declared.numbered.Numbered.{Numbered}
-use Rattle.hprof_numbers.specs.declared.numbers.Numbers.{Numbers}
 use Rattle.hprof_by_label.specs.Labelling.{IsLabelling, IsNumberOf}
 use Rattle.hprof_by_label.specs.declared.labelling.Labelling.{Labelling}
 use Rattle.hprof_by_label.proofs.Labelled.{AreLabelledTo, all_labelled, labelled_more, labelled_skipped, numbered_node, numbered_place}
@@ -72,7 +71,8 @@ loop-number-preserved c =
             few = omega (arith, texts, before);
             as_many = ap (λ n. length (items_in n)) w.of_places-is ∙ invariant.as_many;
             fits = omega (arith, fits, bound);
-            right = subst₂ (λ l i. AreLabelledTo retained facts l i (number + 1)) (sym w.labelling-is) (ap items_in (sym w.of_places-is)) skipped;
+            right = subst₂ (λ l i. AreLabelledTo retained facts l i (number + 1)) (sym w.labelling-is) (ap items_in
+                (sym w.of_places-is)) skipped;
           }
     ]
 

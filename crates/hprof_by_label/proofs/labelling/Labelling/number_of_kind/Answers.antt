@@ -16,6 +16,10 @@ returns-clause-labelling c =
         | inl old ↦
             let was = c.requires.labelling.kept kind number (c.number_of.ensures.stays kind number old) in
             (was.0, was.1, c.in_ok-number.ensures.stays number was.0 was.2)
-        | inr new ↦ subst₂ P (sym new.0) (sym new.1) (string_bytes c.in_ok-label.label, c.in_ok-label.ensures, c.in_ok-number.ensures.number)
+        | inr new ↦ subst₂ P (sym new.0) (sym new.1) (
+          string_bytes c.in_ok-label.label,
+          c.in_ok-label.ensures,
+          c.in_ok-number.ensures.number,
+        )
       ];
     }

@@ -1,5 +1,4 @@
-use Rattle.std.proofs.Common.{◌≡◌, ◌∙◌, ◌++◌, ◌∷◌, [], ap, length, string_bytes, Some, sym, rules, length-append}
-use Rattle.std.specs.BTreeMap.{get_by_text}
+use Rattle.std.proofs.Common.{◌≡◌, ◌∙◌, ◌++◌, ◌∷◌, [], ap, length, string_bytes, rules, length-append}
 use Rattle.std.proofs.lemmas.Map.Text.{btree_map_updates_text}
 use Rattle.hprof_by_label.specs.Texts.{text_in}
 use Rattle.hprof_by_label.proofs.Numbering.{numbered_more, text_before, text_last}

@@ -1,0 +1,59 @@
+//! The rows of all labels, in the order of the report.
+
+ghost use Rattle.std.specs.Prelude.{◌≡◌, IfOk, map};
+ghost use Rattle.std.specs.List.{IsDistinct};
+ghost use Rattle.std.specs.List.Sorted.{IsPermutation, IsStrictlySortedBy};
+ghost use Rattle.hprof_heap.specs.HeapFacts.{facts_of, size_of};
+ghost use Rattle.hprof_retained.specs.Tree.{IsTreeOf};
+ghost use Rattle.hprof_by_label.specs.LabelRows.{AreRows, row_cmp};
+ghost use Rattle.hprof_by_label.specs.Labels.{AreNodeLabels};
+ghost use Rattle.hprof_by_label.specs.RowValues.{row_value, same_label};
+
+use crate::labels::NodeLabels;
+use crate::own_sums::own_sums;
+use crate::retained_sums::retained_sums;
+use crate::row::{Row, rows_of};
+use hprof_heap::{Heap, holds_of_heap};
+use hprof_retained::Retained;
+use std::alloc::{AllocError, Global};
+use std::cmp::Ordering;
+
+/// Compares rows: the most retained bytes first, then the most bytes of their own, then the most nodes, then by label.
+fn compare(row: &Row<'_>, other: &Row<'_>) -> Ordering
+    ensures { result ≡ row_cmp (row_value row.now) (row_value other.now) }
+{
+    let by_retained = other.retained.cmp(&row.retained);
+    let by_bytes = other.bytes.cmp(&row.bytes);
+    let by_count = other.count.cmp(&row.count);
+    let by_label = row.label.cmp(&other.label);
+    by_retained.then(by_bytes.then(by_count.then(by_label)))
+}
+
+/// Sorts rows of different labels. Allocates nothing.
+fn sort_rows(rows: &mut Vec<Row<'_>>)
+    requires { IsDistinct same_label (map row_value rows.old.items) }
+    ensures ascend { IsStrictlySortedBy row_cmp (map row_value rows.new.items) }
+    ensures same { IsPermutation (map row_value rows.old.items) (map row_value rows.new.items) }
+{
+    rows.sort_unstable_by(|row, other| compare(row, other));
+}
+
+/// Returns the rows of all labels that some node has which strong references reach, in the order of the report. If memory runs out, the
+/// answer is `AllocError`.
+pub(crate) fn rows_in<'a>(
+    alloc: Global,
+    heap: &Heap,
+    retained: &Retained,
+    labels: &'a NodeLabels,
+) -> Result<Vec<Row<'a>>, AllocError>
+    requires tree { IsTreeOf (size_of heap.now) (facts_of heap.now) retained.now }
+    requires labels { AreNodeLabels (facts_of heap.now) retained.now labels.now }
+    ensures { IfOk result (λ rows. AreRows (size_of heap.now) (facts_of heap.now) (map row_value rows.items)) }
+{
+    holds_of_heap(heap);
+    let own = own_sums(alloc, heap, retained, labels)?;
+    let sums = retained_sums(alloc, heap, retained, labels)?;
+    let mut rows = rows_of(alloc, labels, &own, &sums)?;
+    sort_rows(&mut rows);
+    Ok(rows)
+}
