@@ -43,7 +43,7 @@ module _ (summaries : List PartSummary) (ids : IdSize) (facts : List FactValue) 
   one_heap_report heaps.Histogram = one_histogram_text ids facts
   one_heap_report heaps.Classes = one_classes_text ids facts
   one_heap_report heaps.Threads = λ one other are too. threads_once facts are.agree ids one other are too
-  one_heap_report heaps.Retained = λ one other are too. retained_once ids facts are.agree one other are too
+  one_heap_report heaps.Retained = retained_once ids facts
 
   one_node_report : (report : NodeReport) (id : ℕ) (one other : List ℕ) → IsNodeReport ids facts report id one
       → IsNodeReport ids facts report id other → one ≡ other
