@@ -1,0 +1,99 @@
+-- Rows in order, and late rows.
+use Rattle.std.proofs.Common.{◌≡◌, ◌<◌, ◌≤◌, ◌++◌, ◌⊎◌, ℕ, List, [], ◌∷◌, Bool, refl, sym, ap, subst, ◌∙◌, inl, inr, cond, arith}
+use Rattle.std.specs.List.Sorted.{IsPermutation}
+use Rattle.std.proofs.lemmas.Bool.{cases_lt, lt-ltb, le-ltb}
+use Rattle.std.proofs.lemmas.List.{append_assoc}
+use Rattle.std.proofs.lemmas.List.Sorted.{IsPermutation-refl, IsPermutation-trans, IsPermutation-cons, IsPermutation-append_comm, IsPermutation-append_left}
+use Rattle.hprof_merge.specs.Rows.{Row, Has, IsAscending}
+use Rattle.hprof_merge.specs.Late.{in_order_above, late_above, rows_in_order, late_rows}
+
+-- one list with a row before it, in another place
+behind_row : (row : Row) (kept out : List Row) → IsPermutation (kept ++ row ∷ out) (row ∷ (kept ++ out))
+behind_row row kept out =
+    let P : List Row → Type 0 = λ l. IsPermutation l (row ∷ (kept ++ out)) in
+    subst P (append_assoc kept (row ∷ []) out)
+    (IsPermutation-append_left out (kept ++ row ∷ []) (row ∷ kept) (IsPermutation-append_comm kept (row ∷ [])))
+
+pub in_order_and_late_above : (key : ℕ) (rows : List Row) → IsPermutation (in_order_above key rows ++ late_above key rows) rows
+in_order_and_late_above key [] = IsPermutation-refl []
+in_order_and_late_above key (row ∷ rows) = elim (cases_lt key row.0) [
+  | inl lt ↦
+      let t = lt-ltb key row.0 lt in
+      let kept : in_order_above key (row ∷ rows) ≡ row ∷ in_order_above row.0 rows =
+      ap (λ (b : Bool). cond b (row ∷ in_order_above row.0 rows) (in_order_above key rows)) t in
+      let out : late_above key (row ∷ rows) ≡ late_above row.0 rows =
+      ap (λ (b : Bool). cond b (late_above row.0 rows) (row ∷ late_above key rows)) t in
+      let P : List Row → List Row → Type 0 = λ l m. IsPermutation (l ++ m) (row ∷ rows) in
+      subst (λ (l : List Row). P l (late_above key (row ∷ rows))) (sym kept)
+      (subst (λ (m : List Row). P (row ∷ in_order_above row.0 rows) m) (sym out)
+      (IsPermutation-cons row (in_order_above row.0 rows ++ late_above row.0 rows) rows (in_order_and_late_above row.0 rows)))
+  | inr le ↦
+      let t = le-ltb key row.0 le in
+      let kept : in_order_above key (row ∷ rows) ≡ in_order_above key rows =
+      ap (λ (b : Bool). cond b (row ∷ in_order_above row.0 rows) (in_order_above key rows)) t in
+      let out : late_above key (row ∷ rows) ≡ row ∷ late_above key rows =
+      ap (λ (b : Bool). cond b (late_above row.0 rows) (row ∷ late_above key rows)) t in
+      let P : List Row → List Row → Type 0 = λ l m. IsPermutation (l ++ m) (row ∷ rows) in
+      subst (λ (l : List Row). P l (late_above key (row ∷ rows))) (sym kept)
+      (subst (λ (m : List Row). P (in_order_above key rows) m) (sym out)
+      (IsPermutation-trans (in_order_above key rows ++ row ∷ late_above key rows) (row ∷ (in_order_above key rows ++ late_above key rows))
+      (row ∷ rows) (behind_row row (in_order_above key rows) (late_above key rows))
+      (IsPermutation-cons row (in_order_above key rows ++ late_above key rows) rows (in_order_and_late_above key rows))))
+]
+
+-- those in order and the late ones are all
+pub in_order_and_late : (rows : List Row) → IsPermutation (rows_in_order rows ++ late_rows rows) rows
+in_order_and_late [] = IsPermutation-refl []
+in_order_and_late (first ∷ rows) =
+    IsPermutation-cons first (in_order_above first.0 rows ++ late_above first.0 rows) rows (in_order_and_late_above first.0 rows)
+
+-- of rows that ascend none is late
+none_late : (key : ℕ) (rows : List Row) → ((row : Row) → Has rows row → key < row.0) → IsAscending rows
+    → (in_order_above key rows ≡ rows) × (late_above key rows ≡ [])
+none_late key [] above up = (refl, refl)
+none_late key (row ∷ rows) above up =
+    let t = lt-ltb key row.0 (above row (inl refl)) in
+    let rest = none_late row.0 rows up.0 up.1 in (
+      ap (λ (b : Bool). cond b (row ∷ in_order_above row.0 rows) (in_order_above key rows)) t ∙ ap (λ (l : List Row). row ∷ l) rest.0,
+      ap (λ (b : Bool). cond b (late_above row.0 rows) (row ∷ late_above key rows)) t ∙ rest.1,
+    )
+
+pub ascending_in_order : (rows : List Row) → IsAscending rows → (rows_in_order rows ≡ rows) × (late_rows rows ≡ [])
+ascending_in_order [] up = (refl, refl)
+ascending_in_order (first ∷ rows) up =
+    let rest = none_late first.0 rows up.0 up.1 in
+    (ap (λ (l : List Row). first ∷ l) rest.0, rest.1)
+
+-- ---- rows in order ascend
+
+in_order_above-cons : (key : ℕ) (row : Row) (rows : List Row) → ((key < row.0) × (in_order_above key (row ∷ rows) ≡ row ∷ in_order_above row.0 rows))
+    ⊎ ((row.0 ≤ key) × (in_order_above key (row ∷ rows) ≡ in_order_above key rows))
+in_order_above-cons key row rows = elim (cases_lt key row.0) [
+  | inl lt ↦ inl (lt, ap (λ (t : Bool). cond t (row ∷ in_order_above row.0 rows) (in_order_above key rows)) (lt-ltb key row.0 lt))
+  | inr le ↦ inr (le, ap (λ (t : Bool). cond t (row ∷ in_order_above row.0 rows) (in_order_above key rows)) (le-ltb key row.0 le))
+]
+
+pub in_order_above-above : (key : ℕ) (rows : List Row) (row : Row) → Has (in_order_above key rows) row → key < row.0
+in_order_above-above key [] row has = absurd has
+in_order_above-above key (first ∷ rows) row has =
+    let P : List Row → Type 0 = λ l. Has l row in
+    elim (in_order_above-cons key first rows) [
+      | inl kept ↦ elim (subst P kept.1 has) [
+        | inl e ↦ let f : row.0 ≡ first.0 = ap (λ (r : Row). r.0) e in let lt = kept.0 in omega arith
+        | inr there ↦ let more = in_order_above-above first.0 rows row there in let lt = kept.0 in omega arith
+      ]
+      | inr out ↦ in_order_above-above key rows row (subst P out.1 has)
+    ]
+
+pub in_order_above-ascends : (key : ℕ) (rows : List Row) → IsAscending (in_order_above key rows)
+in_order_above-ascends key [] = tt
+in_order_above-ascends key (first ∷ rows) =
+    let P : List Row → Type 0 = λ l. IsAscending l in
+    elim (in_order_above-cons key first rows) [
+      | inl kept ↦ subst P (sym kept.1) (in_order_above-above first.0 rows, in_order_above-ascends first.0 rows)
+      | inr out ↦ subst P (sym out.1) (in_order_above-ascends key rows)
+    ]
+
+pub rows_in_order-ascends : (rows : List Row) → IsAscending (rows_in_order rows)
+rows_in_order-ascends [] = tt
+rows_in_order-ascends (first ∷ rows) = (in_order_above-above first.0 rows, in_order_above-ascends first.0 rows)

@@ -1,0 +1,67 @@
+-- Rows that ascending cursors show later.
+use Rattle.std.proofs.Common.{◌≡◌, ◌<◌, ◌⊎◌, ℕ, List, [], ◌∷◌, Option, Some, inl, inr, refl, sym, ap, subst, ◌∙◌, arith, length, get_or}
+use Rattle.hprof_merge.specs.Rows.{Row, Has, IsAscending}
+use Rattle.hprof_merge.specs.Union.{list_at, AnyHas, AllFrom}
+use Rattle.hprof_merge.specs.Showing.{only, all_shown, Shows, AllShow}
+use Rattle.hprof_merge.proofs.Lists.{list_at-map, place_of_row}
+
+module _ {C : Type 0} (shown : C → Option Row) (goes : C → C → Type 0)
+    (rises : (old new : C) (row next : Row) → goes old new → shown old ≡ Some row → shown new ≡ Some next → row.0 < next.0) where
+  -- what is shown behind the first row is above it
+  shows_above : (old new : C) (row : Row) (rows : List Row) → Shows shown goes old (row ∷ rows) new → (other : Row) → Has rows other → row.0 < other.0
+  shows_above old new row [] shows other has = absurd has
+  shows_above old new row (next ∷ rows) shows other has =
+      let mid : C = shows.1.0 in
+      let lt : row.0 < next.0 = rises old mid row next shows.1.1 shows.0 shows.1.2.0 in
+      elim has [
+        | inl e ↦ let same : other.0 ≡ next.0 = ap (λ (r : Row). r.0) e in omega arith
+        | inr behind ↦ let more = shows_above mid new next rows shows.1.2 other behind in omega arith
+      ]
+
+  pub shows_ascend : (old new : C) (rows : List Row) → Shows shown goes old rows new → IsAscending rows
+  shows_ascend old new [] shows = tt
+  shows_ascend old new (row ∷ rows) shows = (shows_above old new row rows shows, shows_ascend shows.1.0 new rows shows.1.2)
+
+  -- the row that is shown in the end is above all before
+  pub shows_below : (old new : C) (rows : List Row) (next : Row) → Shows shown goes old rows new → shown new ≡ Some next → (row : Row) → Has rows row
+      → row.0 < next.0
+  shows_below old new [] next shows is row has = absurd has
+  shows_below old new (first ∷ rows) next shows is row (inr behind) = shows_below shows.1.0 new rows next shows.1.2 is row behind
+  shows_below old new (first ∷ []) next shows is row (inl e) =
+      let mid : C = shows.1.0 in
+      let lt : first.0 < next.0 = rises old mid first next shows.1.1 shows.0 (ap shown shows.1.2 ∙ is) in
+      let same : row.0 ≡ first.0 = ap (λ (r : Row). r.0) e in
+      omega arith
+  shows_below old new (first ∷ second ∷ rows) next shows is row (inl e) =
+      let mid : C = shows.1.0 in
+      let lt : first.0 < second.0 = rises old mid first second shows.1.1 shows.0 shows.1.2.0 in
+      let more = shows_below mid new (second ∷ rows) next shows.1.2 is second (inl refl) in
+      let same : row.0 ≡ first.0 = ap (λ (r : Row). r.0) e in
+      omega arith
+
+  -- each row is shown already, or above a row that is
+  shown_or_above : (old new : C) (rows : List Row) → Shows shown goes old rows new → (row : Row) → Has rows row
+      → (shown old ≡ Some row) ⊎ ((first : Row) × (shown old ≡ Some first) × (first.0 < row.0))
+  shown_or_above old new [] shows row has = absurd has
+  shown_or_above old new (first ∷ rows) shows row (inl e) = inl (shows.0 ∙ ap (λ (r : Row). Some r) (sym e))
+  shown_or_above old new (first ∷ rows) shows row (inr behind) = inr (first, shows.0, shows_above old new first rows shows row behind)
+
+  pub later_above : (old new : List C) (later : List (List Row)) (key : ℕ) → AllShow shown goes old new later → AllFrom key (all_shown shown old)
+      → (row : Row) → AnyHas later row → AnyHas (all_shown shown old) row ⊎ (key < row.0)
+  later_above [] new later key all from row has =
+      let lt = place_of_row later has.0 row has.1 in let none = all.lists in absurd (omega arith)
+  later_above (cursor ∷ cursors) new later key all from row has =
+      let place : ℕ = has.0 in
+      let inside = place_of_row later place row has.1 in
+      let as_many = all.lists in
+      let lt : place < length (cursor ∷ cursors) = omega arith in
+      let here : C = get_or (cursor ∷ cursors) place cursor in
+      let is : list_at (all_shown shown (cursor ∷ cursors)) place ≡ only (shown here) =
+      list_at-map (λ one. only (shown one)) (cursor ∷ cursors) place cursor lt in
+      let P : List Row → Row → Type 0 = λ l r. Has l r in
+      let there : (one : Row) → shown here ≡ Some one → Has (list_at (all_shown shown (cursor ∷ cursors)) place) one =
+      λ one shows. subst (λ (l : List Row). P l one) (sym (is ∙ ap only shows)) (inl refl) in
+      elim (shown_or_above here (get_or new place cursor) (list_at later place) (all.each place cursor lt) row has.1) [
+        | inl shows ↦ inl (place, there row shows)
+        | inr above ↦ let le = from above.0 (place, there above.0 above.1) in let more = above.2 in inr (omega arith)
+      ]
