@@ -30,7 +30,7 @@ pass_equals-requires-clause-least g c =
 pub returns-in-Err-clause-stop : goal.returns-in-Err-clause-stop
 returns-in-Err-clause-stop g c =
     let now = c.loop-key in
-    let over = c.in-Err.ensures in
+    let over = c.in-Err.ensures.stop in
     over_stops g.C.RowCursor.shown g.C.RowCursor.goes g.T.RowSink.steps g.C.RowCursor.fails g.T.RowSink.refuses c.args.cursors.now now.cursors
     (heads_of now.contest) c.in-Some.key c.in-Some.place c.args.sink.now now.sink now.invariant.so_far now.invariant.matches
     c.in-Some.ensures over.mid over.heads over.passes c.pass_equals.new.cursors c.in-Err.stop over.leaves over.stops
@@ -60,7 +60,7 @@ returns-in-Err-advance-clause-stop g c =
     c.in-Some.ensures mid (heads_of c.pass_equals.new.contest) level.level level.above
     (rows (get_or mid c.in-Some.place c.index-cursors-place.result))
     (list_at-map rows mid c.in-Some.place c.index-cursors-place.result lt) c.give.new.sink c.in_default-give.ensures
-    c.advance.new.cursors c.in-Err-advance.stop c.in-Err-advance.ensures.0 c.in-Err-advance.ensures.1
+    c.advance.new.cursors c.in-Err-advance.stop c.in-Err-advance.ensures.stop.0 c.in-Err-advance.ensures.stop.1
 
 pub loop-key-smaller : goal.loop-key-smaller
 loop-key-smaller g c =

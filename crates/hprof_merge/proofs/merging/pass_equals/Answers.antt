@@ -40,7 +40,7 @@ pub returns-in-Err-clause-stop : goal.returns-in-Err-clause-stop
 returns-in-Err-clause-stop g c =
     passes_fault g.C.RowCursor.shown g.C.RowCursor.goes c.args.key c.args.held c.in-Some.place c.args.cursors.now c.loop-place.cursors
     (heads_of c.loop-place.contest) c.loop-place.invariant.passes c.in-Some.ensures.1 g.C.RowCursor.fails c.advance.new.cursors c.in-Err.stop
-    c.in-Err.ensures.0 c.in-Err.ensures.1
+    c.in-Err.ensures.stop.0 c.in-Err.ensures.stop.1
 
 pub loop-place-smaller : goal.loop-place-smaller
 loop-place-smaller g c =
