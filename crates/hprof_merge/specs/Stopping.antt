@@ -1,5 +1,5 @@
 -- Where a merge of cursors ends, and where it stops.
-use Rattle.std.specs.Prelude.{◌≡◌, ◌⊎◌, ◌-◌, ◌+◌, ◌^◌, ◌++◌, ℕ, List, [], ◌∷◌, Option, Some, slice_set}
+use Rattle.std.specs.Prelude.{◌≡◌, ◌⊎◌, ◌-◌, ◌+◌, ◌^◌, ◌++◌, ℕ, List, [], ◌∷◌, Option, Some, slice_set, ⊤}
 use Rattle.std.specs.List.{HoldsAt}
 use Rattle.hprof_merge.specs.declared.merge_stop.MergeStop.{MergeStop}
 use Rattle.hprof_merge.specs.declared.merge_stop.MergeStop.TheVariants.{OutOfMemory, TwoContents, Cursor, Sink}
@@ -29,6 +29,13 @@ IsFaultAt place (Cursor at fault) = at ≡ place
 IsFaultAt place OutOfMemory = ⊥
 IsFaultAt place (TwoContents key) = ⊥
 IsFaultAt place (Sink fault) = ⊥
+
+-- unless the sink refused a row, this holds
+abbrev pub UnlessRefused : {F G : Type 0} → Type 0 → MergeStop F G → Type 0
+UnlessRefused P (Sink fault) = ⊤
+UnlessRefused P OutOfMemory = P
+UnlessRefused P (TwoContents key) = P
+UnlessRefused P (Cursor place fault) = P
 
 -- among rows of which none is below the key: a fault of a cursor that shows the key, or two contents of it
 abbrev pub StopsLevel : {F G : Type 0} → ℕ → List (List Row) → MergeStop F G → Type 0

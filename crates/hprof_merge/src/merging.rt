@@ -6,7 +6,7 @@ ghost use Rattle.hprof_merge.specs.Union.{list_at, AnyHas};
 ghost use Rattle.hprof_merge.specs.Contest.{heads_of, Matches, MatchesBut};
 ghost use Rattle.hprof_merge.specs.Merging.{GivesFirst, AllAbove};
 ghost use Rattle.hprof_merge.specs.Showing.{only, all_shown, GoesAt};
-ghost use Rattle.hprof_merge.specs.Stopping.{IsFaultAt, Leaves, PassesOver, StopsOver, MergesAll, StopsAt, room_of};
+ghost use Rattle.hprof_merge.specs.Stopping.{IsFaultAt, Leaves, PassesOver, StopsOver, MergesAll, StopsAt, UnlessRefused, room_of};
 
 use crate::contest::Contest;
 use crate::merge_stop::MergeStop;
@@ -55,7 +55,9 @@ fn agree<C: RowCursor>(one: &C, other: &C) -> bool
 /// Gives the row that a cursor shows to a sink.
 fn give<C: RowCursor, T: RowSink>(cursor: &C, sink: &mut T) -> Result<(), T::Fault>
     requires well { C.well cursor.now }
-    ensures { GivesFirst T.steps T.refuses (only (C.shown cursor.now)) result sink.old sink.new }
+    requires sink { T.well sink.old }
+    ensures given { GivesFirst T.steps T.refuses (only (C.shown cursor.now)) result sink.old sink.new }
+    ensures sink { OnOk result (T.well sink.new) }
 {
     match cursor.current() {
         Some((key, bytes)) => sink.take(key, bytes),
@@ -135,9 +137,11 @@ pub fn merge_rows<C: AscendingCursor, T: RowSink>(
     sink: &mut T,
 ) -> Result<(), MergeStop<C::Fault, T::Fault>>
     requires well { All C.well cursors.old }
+    requires sink { T.well sink.old }
     ensures merged { OnOk result (MergesAll C.shown C.goes T.steps cursors.old cursors.new sink.old sink.new) }
-    ensures well { OnOk result (All C.well cursors.new) }
+    ensures well { OnOk result (All C.well cursors.new × T.well sink.new) }
     ensures stop { IfErr result (λ stop. StopsAt C.shown C.goes T.steps C.fails T.refuses cursors.old cursors.new stop sink.old sink.new) }
+    ensures sink { IfErr result (UnlessRefused (T.well sink.new)) }
 {
     let Ok(mut contest) = enter(alloc, cursors) else {
         return Err(MergeStop::OutOfMemory);

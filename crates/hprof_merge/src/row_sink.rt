@@ -10,11 +10,16 @@ pub trait RowSink {
     // What a fault tells about the sink before the call, the row, and the sink after it.
     ghost refuses: { Self → ℕ → List ℕ → Self.Fault → Self → Type 0 };
 
+    // It may be called.
+    ghost well: { Self → Type 0 };
+
     /// The reason why it refuses a row.
     type Fault;
 
     /// Takes a row.
     fn take(&mut self, key: u64, bytes: &[u8]) -> Result<(), Self::Fault>
+        requires { well self.old }
         ensures steps { OnOk result (steps self.old key bytes.now self.new) }
+        ensures well { OnOk result (well self.new) }
         ensures refuses { IfErr result (λ fault. refuses self.old key bytes.now fault self.new) };
 }

@@ -17,6 +17,7 @@ loop-key-init g c = record {
   so_far = so_far_begins g.C.RowCursor.shown g.C.RowCursor.goes g.T.RowSink.steps c.args.cursors.now c.args.sink.now;
   matches = c.in-Ok.ensures.heads;
   well = c.requires.well;
+  sink = c.requires.sink;
   heads = c.in-Ok.ensures.count;
 }
 
@@ -46,7 +47,7 @@ returns-in-Err-give-clause-stop g c =
     (heads_of now.contest) c.in-Some.key c.in-Some.place c.args.sink.now now.sink now.invariant.so_far now.invariant.matches
     c.in-Some.ensures mid (heads_of c.pass_equals.new.contest) level.level level.above
     (rows (get_or mid c.in-Some.place c.index-cursors-place.result))
-    (list_at-map rows mid c.in-Some.place c.index-cursors-place.result lt) c.in-Err-give.fault c.give.new.sink c.in-Err-give.ensures
+    (list_at-map rows mid c.in-Some.place c.index-cursors-place.result lt) c.in-Err-give.fault c.give.new.sink c.in-Err-give.ensures.given
 
 pub returns-in-Err-advance-clause-stop : goal.returns-in-Err-advance-clause-stop
 returns-in-Err-advance-clause-stop g c =
@@ -59,7 +60,7 @@ returns-in-Err-advance-clause-stop g c =
     (heads_of now.contest) c.in-Some.key c.in-Some.place c.args.sink.now now.sink now.invariant.so_far now.invariant.matches
     c.in-Some.ensures mid (heads_of c.pass_equals.new.contest) level.level level.above
     (rows (get_or mid c.in-Some.place c.index-cursors-place.result))
-    (list_at-map rows mid c.in-Some.place c.index-cursors-place.result lt) c.give.new.sink c.in_default-give.ensures
+    (list_at-map rows mid c.in-Some.place c.index-cursors-place.result lt) c.give.new.sink c.in_default-give.ensures.given
     c.advance.new.cursors c.in-Err-advance.stop c.in-Err-advance.ensures.stop.0 c.in-Err-advance.ensures.stop.1
 
 pub loop-key-smaller : goal.loop-key-smaller
@@ -90,11 +91,12 @@ loop-key-preserved g c =
           (heads_of now.contest) c.in-Some.key c.in-Some.place c.args.sink.now now.sink now.invariant.so_far now.invariant.matches
           c.in-Some.ensures mid (heads_of c.pass_equals.new.contest) level.level level.above
           (rows (get_or mid c.in-Some.place c.index-cursors-place.result))
-          (list_at-map rows mid c.in-Some.place c.index-cursors-place.result lt) c.give.new.sink c.in_default-give.ensures
+          (list_at-map rows mid c.in-Some.place c.index-cursors-place.result lt) c.give.new.sink c.in_default-give.ensures.given
           g.met.C.AscendingCursor.rises c.advance.new.cursors lt ok.goes;
       matches = round_keys g.C.RowCursor.shown g.C.RowCursor.goes c.in-Some.place mid c.advance.new.cursors (heads_of c.pass_equals.new.contest)
           (heads_of c.advance.new.contest) level.level.matches heads_lt ok.goes ok.heads;
       well = ok.well;
+      sink = c.in_default-give.ensures.sink;
       heads = ap length ok.heads ∙ length-set (heads_of c.pass_equals.new.contest) c.in-Some.place _ ∙ level.heads
           ∙ sym level.level.shows.count ∙ sym (ap length ok.goes.is ∙ length-set mid c.in-Some.place ok.goes.next);
     }

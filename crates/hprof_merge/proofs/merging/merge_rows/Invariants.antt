@@ -12,6 +12,7 @@ invariant-loop-key g l =
       so_far : SoFar g.C.RowCursor.shown g.C.RowCursor.goes g.T.RowSink.steps l.fn.cursors l.cursors l.fn.sink l.sink;
       matches : Matches (heads_of l.contest) (all_shown g.C.RowCursor.shown l.cursors);
       well : All g.C.RowCursor.well l.cursors;
+      sink : g.T.RowSink.well l.sink;
       heads : length (heads_of l.contest) ≡ length l.cursors;
     }
 
