@@ -210,13 +210,17 @@ module _ {C T : Type 0} (shown : C → Option Row) (goes : C → C → Type 0) (
               mid = mid;
               shows = mid_shows;
               leaves = refl;
-              stops = (row, passes.least, record {
-                front = so.front;
-                union = taken_more known (all_shown shown mid) held row first.1 (rows_are ∙ first.2) known_left above so.front known_union;
-                mid = sink;
-                run = so.run;
-                refused = subst P first.2 given;
-              });
+              stops = (
+                row,
+                passes.least,
+                record {
+                  front = so.front;
+                  union = taken_more known (all_shown shown mid) held row first.1 (rows_are ∙ first.2) known_left above so.front known_union;
+                  mid = sink;
+                  run = so.run;
+                  refused = subst P first.2 given;
+                },
+              );
             }
 
         module _ (after : T) (given : GivesFirst steps refuses {A = Unit {0}} rows (Ok tt) sink after) where
@@ -237,11 +241,16 @@ module _ {C T : Type 0} (shown : C → Option Row) (goes : C → C → Type 0) (
                 mid = mid;
                 shows = mid_shows;
                 leaves = leaves;
-                stops = (key, passes.least, subst P (sym is) (ap first_key rows_are ∙ rows_first), inr (record {
-                  front = so.front ++ row ∷ [];
-                  union = taken_more known (all_shown shown mid) held row first.1 (rows_are ∙ first.2) known_left above so.front known_union;
-                  run = Runs-append steps old_sink so.front sink row after so.run (given_step first.0 first.1 first.2);
-                }));
+                stops = (
+                  key,
+                  passes.least,
+                  subst P (sym is) (ap first_key rows_are ∙ rows_first),
+                  inr (record {
+                    front = so.front ++ row ∷ [];
+                    union = taken_more known (all_shown shown mid) held row first.1 (rows_are ∙ first.2) known_left above so.front known_union;
+                    run = Runs-append steps old_sink so.front sink row after so.run (given_step first.0 first.1 first.2);
+                  }),
+                );
               }
           over_fault new (Sink fault) never leaves = absurd never
 

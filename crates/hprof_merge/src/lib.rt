@@ -13,6 +13,8 @@ mod refuse_late;
 mod row_cursor;
 mod row_sink;
 mod skip_late;
+#[cfg(test)]
+mod tests;
 
 pub use merge_stop::MergeStop;
 pub use merging::merge_rows;

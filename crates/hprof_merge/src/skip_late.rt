@@ -96,6 +96,5 @@ impl<C: RowCursor> RowCursor for SkipLate<C> {
 }
 
 impl<C: RowCursor> AscendingCursor for SkipLate<C> {
-
     ghost rises = { λ old new row next goes is next_is. (goes.next row is).skipped.high next next_is };
 }
