@@ -1,9 +1,13 @@
 -- Rows that ascending cursors show later.
-use Rattle.std.proofs.Common.{◌≡◌, ◌<◌, ◌⊎◌, ℕ, List, [], ◌∷◌, Option, Some, inl, inr, refl, sym, ap, subst, ◌∙◌, arith, length, get_or}
+use Rattle.std.proofs.Common.{◌≡◌, ◌<◌, ◌++◌, ◌⊎◌, ℕ, List, [], ◌∷◌, Option, Some, inl, inr, refl, sym, ap, subst, ◌∙◌, arith, length, get_or}
+use Rattle.std.proofs.lemmas.List.{length-map}
 use Rattle.hprof_merge.specs.Rows.{Row, Has, IsAscending}
 use Rattle.hprof_merge.specs.Union.{list_at, AnyHas, AllFrom}
 use Rattle.hprof_merge.specs.Showing.{only, all_shown, Shows, AllShow}
+use Rattle.hprof_merge.specs.TwoContents.{IsLeastWithTwoContents}
 use Rattle.hprof_merge.proofs.Lists.{list_at-map, place_of_row}
+use Rattle.hprof_merge.proofs.Showing.{only-has}
+use Rattle.hprof_merge.proofs.Unions.{either_has, front_has, back_has, least_same, later_rows}
 
 module _ {C : Type 0} (shown : C → Option Row) (goes : C → C → Type 0)
     (rises : (old new : C) (row next : Row) → goes old new → shown old ≡ Some row → shown new ≡ Some next → row.0 < next.0) where
@@ -65,3 +69,53 @@ module _ {C : Type 0} (shown : C → Option Row) (goes : C → C → Type 0)
         | inl shows ↦ inl (place, there row shows)
         | inr above ↦ let le = from above.0 (place, there above.0 above.1) in let more = above.2 in inr (omega arith)
       ]
+
+  -- up to the end, the rows that are shown come among the later ones
+  shown_later : (old new : List C) (later : List (List Row)) → AllShow shown goes old new later → ((row : Row) → AnyHas (all_shown shown new) row → ⊥)
+      → (row : Row) → AnyHas (all_shown shown old) row → AnyHas later row
+  shown_later [] new later all ended row has = absurd has.1
+  shown_later (cursor ∷ cursors) new later all ended row has =
+      let old : List C = cursor ∷ cursors in
+      let place : ℕ = has.0 in
+      let inside = place_of_row (all_shown shown old) place row has.1 in
+      let lt : place < length old = omega (arith, length-map old (λ one. only (shown one))) in
+      let here : C = get_or old place cursor in
+      let after : C = get_or new place cursor in
+      let P : List Row → Type 0 = λ l. Has l row in
+      let is : shown here ≡ Some row =
+      only-has (shown here) row (subst P (list_at-map (λ one. only (shown one)) old place cursor lt) has.1) in
+      let after_lt : place < length new = omega (arith, all.count) in
+      let ended_here : shown after ≡ Some row → ⊥ =
+      λ same. ended row (place, subst P (sym (list_at-map (λ one. only (shown one)) new place cursor after_lt ∙ ap only same)) (inl refl)) in
+      (place, among here after row (list_at later place) (all.each place cursor lt) is ended_here)
+    where
+      among : (here after : C) (row : Row) (rows : List Row) → Shows shown goes here rows after → shown here ≡ Some row → (shown after ≡ Some row → ⊥)
+          → Has rows row
+      among here after row [] same is never = absurd (never (ap shown (sym same) ∙ is))
+      among here after row (first ∷ rows) shows is never = let both : Some row ≡ Some first = sym is ∙ shows.0 in inl cc
+
+  -- the least key with two contents stays the least
+  pub least_later : (old new : List C) (came later : List (List Row)) (key : ℕ) → AllShow shown goes old new later
+      → ((row : Row) → AnyHas (all_shown shown new) row → ⊥) → AllFrom key (all_shown shown old)
+      → IsLeastWithTwoContents (came ++ all_shown shown old) key → IsLeastWithTwoContents (came ++ later) key
+  least_later old new came later key all ended from least =
+      let now : List (List Row) = all_shown shown old in
+      least_same ((came ++ now) ++ later) (came ++ later) (λ row. (
+        (λ has. elim (either_has (came ++ now) later row has.0 has.1) [
+          | inl early ↦ elim (either_has came now row early.0 early.1) [
+            | inl before ↦ front_has came later row before.0 before.1
+            | inr shows ↦ back_has came later row (shown_later old new later all ended row shows)
+          ]
+          | inr behind ↦ back_has came later row behind
+        ]),
+        (λ has. elim (either_has came later row has.0 has.1) [
+          | inl before ↦
+              let there = front_has came now row before.0 before.1 in
+              front_has (came ++ now) later row there.0 there.1
+          | inr behind ↦ back_has (came ++ now) later row behind
+        ]),
+      )) key
+      (later_rows (came ++ now) later key (λ row has. elim (later_above old new later key all from row has) [
+        | inl shows ↦ inl (back_has came now row shows)
+        | inr above ↦ inr above
+      ]) least)

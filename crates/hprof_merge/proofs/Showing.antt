@@ -23,7 +23,7 @@ pub only-some : (shown : Option Row) (row : Row) (rest : List Row) → only show
 only-some None row rest is = cc
 only-some (Some first) row rest is = let e : first ≡ row = cc in ap (λ (r : Row). Some r) e
 
-only-has : (shown : Option Row) (row : Row) → Has (only shown) row → shown ≡ Some row
+pub only-has : (shown : Option Row) (row : Row) → Has (only shown) row → shown ≡ Some row
 only-has None row has = absurd has
 only-has (Some first) row (inl e) = ap (λ (r : Row). Some r) (sym e)
 only-has (Some first) row (inr none) = absurd none
@@ -67,6 +67,10 @@ module _ {C : Type 0} (shown : C → Option Row) where
 
 -- ---- going on
 
+-- there are as many cursors as before
+pub goes_count : {C : Type 0} (goes : C → C → Type 0) (place : ℕ) (old new : List C) → GoesAt goes place old new → length new ≡ length old
+goes_count goes place old new step = ap length step.is ∙ length-set old place step.next
+
 module _ {C : Type 0} (shown : C → Option Row) (goes : C → C → Type 0) where
   pub shows_then : (old : C) (rows more : List Row) (mid new : C) → Shows shown goes old rows mid → Shows shown goes mid more new
       → Shows shown goes old (rows ++ more) new
@@ -101,7 +105,7 @@ module _ {C : Type 0} (shown : C → Option Row) (goes : C → C → Type 0) whe
   pub one_gone : (old new : List C) (place : ℕ) (row : Row) (rest : List Row) → place < length old → GoesAt goes place old new
       → list_at (all_shown shown old) place ≡ row ∷ rest → AllShow shown goes old new (one_row (length old) place row)
   one_gone old new place row rest lt step is = record {
-    count = ap length step.is ∙ length-set old place step.next;
+    count = goes_count goes place old new step;
     lists = length-set (nothing (length old)) place (row ∷ []) ∙ length-replicate (length old) [];
     each = λ other cursor other_lt. elim (cases_eq other place) [
       | inl here ↦

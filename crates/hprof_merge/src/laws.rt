@@ -103,11 +103,17 @@ pub fn cursors_ascend<C: AscendingCursor>()
         → (row : Row) → Has rows row → row.0 < next.0 }
 {}
 
-/// Whatever ascending cursors show later is shown already, or is above a key below which they show none. So the least key with two
-/// contents stays the least.
+/// Whatever ascending cursors show later is shown already, or is above a key below which they show none.
 pub fn later_rows_are_above<C: AscendingCursor>()
     ensures { (old new : List C) (later : List (List Row)) (key : ℕ) → AllShow C.shown C.goes old new later
         → AllFrom key (all_shown C.shown old) → (row : Row) → AnyHas later row → AnyHas (all_shown C.shown old) row ⊎ (key < row.0) }
+{}
+
+/// If a merge stops at the least key with two contents, it is the least of all rows that the cursors would show up to their ends.
+pub fn least_of_all_rows<C: AscendingCursor>()
+    ensures { (old new : List C) (came later : List (List Row)) (key : ℕ) → AllShow C.shown C.goes old new later
+        → ((row : Row) → AnyHas (all_shown C.shown new) row → ⊥) → AllFrom key (all_shown C.shown old)
+        → IsLeastWithTwoContents (came ++ all_shown C.shown old) key → IsLeastWithTwoContents (came ++ later) key }
 {}
 
 /// The rows that `SkipLate` shows, up to its end, are the rows in order of the cursor below.

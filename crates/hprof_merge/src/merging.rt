@@ -77,6 +77,7 @@ fn advance<C: RowCursor, F>(
     ensures goes { OnOk result (GoesAt C.goes place cursors.old cursors.new) }
     ensures heads { OnOk result (heads_of contest.new
         ≡ slice_set (heads_of contest.old) place (first_key (list_at (all_shown C.shown cursors.new) place))) }
+    ensures count { OnOk result (length (heads_of contest.new) ≡ length (heads_of contest.old)) }
     ensures well { OnOk result (All C.well cursors.new) }
     ensures stop { IfErr result (λ stop. IsFaultAt place stop × Leaves C.fails stop cursors.old cursors.new) }
 {

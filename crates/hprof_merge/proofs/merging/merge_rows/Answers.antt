@@ -1,9 +1,9 @@
-use Rattle.std.proofs.Common.{◌<◌, List, length, get_or, arith, ap, ◌∙◌, sym}
-use Rattle.std.proofs.lemmas.List.{length-set}
+use Rattle.std.proofs.Common.{◌<◌, List, length, get_or, arith, ◌∙◌, sym}
 use Rattle.hprof_merge.specs.Rows.{Row}
 use Rattle.hprof_merge.specs.Contest.{heads_of}
 use Rattle.hprof_merge.specs.Showing.{only}
 use Rattle.hprof_merge.proofs.Lists.{list_at-map}
+use Rattle.hprof_merge.proofs.Showing.{goes_count}
 use Rattle.hprof_merge.proofs.Rounds.{so_far_begins, no_memory, so_far_ends, shown_key, shown_least, over_stops, over_refused}
 use Rattle.hprof_merge.proofs.Rounds.{over_fault, over_goes, round_less, round_keys}
 use Rattle.hprof_merge.proofs.merging.merge_rows.Goals as goal
@@ -97,8 +97,8 @@ loop-key-preserved g c =
           (heads_of c.advance.new.contest) level.level.matches heads_lt ok.goes ok.heads;
       well = ok.well;
       sink = c.in_default-give.ensures.sink;
-      heads = ap length ok.heads ∙ length-set (heads_of c.pass_equals.new.contest) c.in-Some.place _ ∙ level.heads
-          ∙ sym level.level.shows.count ∙ sym (ap length ok.goes.is ∙ length-set mid c.in-Some.place ok.goes.next);
+      heads = ok.count ∙ level.heads ∙ sym level.level.shows.count
+          ∙ sym (goes_count g.C.RowCursor.goes c.in-Some.place mid c.advance.new.cursors ok.goes);
     }
 
 pub returns-clause-merged : goal.returns-clause-merged

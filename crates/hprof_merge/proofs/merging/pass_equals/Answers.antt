@@ -1,10 +1,9 @@
-use Rattle.std.proofs.Common.{◌<◌, ◌^◌, List, refl, length, arith, ap, ◌∙◌}
-use Rattle.std.proofs.lemmas.List.{length-set}
+use Rattle.std.proofs.Common.{◌<◌, ◌^◌, List, refl, length, arith, ◌∙◌}
 use Rattle.hprof_merge.specs.Rows.{Row}
 use Rattle.hprof_merge.specs.Contest.{heads_of}
 use Rattle.hprof_merge.specs.Showing.{only, all_shown}
 use Rattle.hprof_merge.proofs.Entering.{same_lists, not_true}
-use Rattle.hprof_merge.proofs.Showing.{shown_ascend}
+use Rattle.hprof_merge.proofs.Showing.{shown_ascend, goes_count}
 use Rattle.hprof_merge.proofs.PassingOver.{passes_none, no_lower, passes_contents, passes_fault, passes_less, passes_more, others_above}
 use Rattle.hprof_merge.proofs.merging.pass_equals.Goals as goal
 
@@ -70,8 +69,8 @@ loop-place-preserved g c =
           c.index-cursors-held.is c.index-cursors-place.is).1 (c.if-not-agree.ensures.0 refl))
           ok.goes ok.heads;
       well = ok.well;
-      count = ap length ok.goes.is ∙ length-set now.cursors c.in-Some.place ok.goes.next ∙ now.invariant.count;
-      heads = ap length ok.heads ∙ length-set (heads_of now.contest) c.in-Some.place _ ∙ now.invariant.heads;
+      count = goes_count g.C.RowCursor.goes c.in-Some.place now.cursors c.advance.new.cursors ok.goes ∙ now.invariant.count;
+      heads = ok.count ∙ now.invariant.heads;
       fewer = omega (arith, less, now.invariant.fewer);
     }
 
