@@ -6,7 +6,8 @@ use Rattle.hprof_merge.specs.Rows.{Row}
 use Rattle.hprof_merge.specs.Showing.{Shows}
 use Rattle.hprof_merge.specs.OneOf.{of_either, goes_either}
 
-module _ {A B : Type 0} (first : A → Option Row) (second : B → Option Row) (goes_first : A → A → Type 0) (goes_second : B → B → Type 0) where
+module _ {A B : Type 0} (first : A → Option Row) (second : B → Option Row) (goes_first : A → A → Type 0)
+    (goes_second : B → B → Type 0) where
   pub shows_first : (old : A) (new : OneOf A B) (rows : List Row)
       → Shows (of_either first second) (goes_either goes_first goes_second) (First old) rows new
       → (after : A) × (new ≡ First after) × Shows first goes_first old rows after

@@ -52,8 +52,10 @@ same_lists rows cursors held place one other held_lt lt one_is other_is =
     let P : List Row → List Row → Type 0 = λ l m. HaveSameFirst l m in
     let first : list_at (map rows cursors) held ≡ rows one = rows_there rows cursors held one held_lt one_is in
     let second : list_at (map rows cursors) place ≡ rows other = rows_there rows cursors place other lt other_is in (
-      (λ same. subst (λ (l : List Row). P l (rows other)) first (subst (λ (m : List Row). P (list_at (map rows cursors) held) m) second same)),
-      (λ same. subst (λ (l : List Row). P l (list_at (map rows cursors) place)) (sym first) (subst (λ (m : List Row). P (rows one) m) (sym second) same)),
+      (λ same. subst (λ (l : List Row). P l (rows other)) first
+          (subst (λ (m : List Row). P (list_at (map rows cursors) held) m) second same)),
+      (λ same. subst (λ (l : List Row). P l (list_at (map rows cursors) place)) (sym first)
+          (subst (λ (m : List Row). P (rows one) m) (sym second) same)),
     )
 
 pub not_true : IsTrue false → ⊥

@@ -26,7 +26,8 @@ joined [] more = more
 joined (rows ∷ lists) [] = rows ∷ lists
 joined (rows ∷ lists) (next ∷ more) = (rows ++ next) ∷ joined lists more
 
-pub list_at-joined : (lists more : List (List Row)) (place : ℕ) → list_at (joined lists more) place ≡ list_at lists place ++ list_at more place
+pub list_at-joined : (lists more : List (List Row)) (place : ℕ) → list_at (joined lists more) place
+    ≡ list_at lists place ++ list_at more place
 list_at-joined [] more place = refl
 list_at-joined (rows ∷ lists) [] place = sym (append-nil (list_at (rows ∷ lists) place))
 list_at-joined (rows ∷ lists) (next ∷ more) zero = refl
@@ -35,7 +36,8 @@ list_at-joined (rows ∷ lists) (next ∷ more) (suc place) = list_at-joined lis
 pub length-joined : (lists more : List (List Row)) → length lists ≡ length more → length (joined lists more) ≡ length lists
 length-joined [] more same = sym same
 length-joined (rows ∷ lists) [] same = refl
-length-joined (rows ∷ lists) (next ∷ more) same = let e : length lists ≡ length more = omega arith in ap (λ (n : ℕ). suc n) (length-joined lists more e)
+length-joined (rows ∷ lists) (next ∷ more) same = let e : length lists ≡ length more = omega arith in
+    ap (λ (n : ℕ). suc n) (length-joined lists more e)
 
 pub any_joined : (lists more : List (List Row)) (row : Row) → AnyHas (joined lists more) row → AnyHas lists row ⊎ AnyHas more row
 any_joined lists more row has =

@@ -3,7 +3,8 @@ use Rattle.std.proofs.Common.{◌≡◌, ◌<◌, ◌≤◌, ◌++◌, ◌⊎◌
 use Rattle.std.specs.List.Sorted.{IsPermutation}
 use Rattle.std.proofs.lemmas.Bool.{cases_lt, lt-ltb, le-ltb}
 use Rattle.std.proofs.lemmas.List.{append_assoc}
-use Rattle.std.proofs.lemmas.List.Sorted.{IsPermutation-refl, IsPermutation-trans, IsPermutation-cons, IsPermutation-append_comm, IsPermutation-append_left}
+use Rattle.std.proofs.lemmas.List.Sorted.{IsPermutation-refl, IsPermutation-trans, IsPermutation-cons, IsPermutation-append_comm}
+use Rattle.std.proofs.lemmas.List.Sorted.{IsPermutation-append_left}
 use Rattle.hprof_merge.specs.Rows.{Row, Has, IsAscending}
 use Rattle.hprof_merge.specs.Late.{in_order_above, late_above, rows_in_order, late_rows}
 
@@ -66,7 +67,8 @@ ascending_in_order (first ∷ rows) up =
 
 -- ---- rows in order ascend
 
-in_order_above-cons : (key : ℕ) (row : Row) (rows : List Row) → ((key < row.0) × (in_order_above key (row ∷ rows) ≡ row ∷ in_order_above row.0 rows))
+in_order_above-cons : (key : ℕ) (row : Row) (rows : List Row)
+    → ((key < row.0) × (in_order_above key (row ∷ rows) ≡ row ∷ in_order_above row.0 rows))
     ⊎ ((row.0 ≤ key) × (in_order_above key (row ∷ rows) ≡ in_order_above key rows))
 in_order_above-cons key row rows = elim (cases_lt key row.0) [
   | inl lt ↦ inl (lt, ap (λ (t : Bool). cond t (row ∷ in_order_above row.0 rows) (in_order_above key rows)) (lt-ltb key row.0 lt))
@@ -97,3 +99,45 @@ in_order_above-ascends key (first ∷ rows) =
 pub rows_in_order-ascends : (rows : List Row) → IsAscending (rows_in_order rows)
 rows_in_order-ascends [] = tt
 rows_in_order-ascends (first ∷ rows) = (in_order_above-above first.0 rows, in_order_above-ascends first.0 rows)
+
+-- ---- a late row is not above a row in order
+
+late_above-low : (key : ℕ) (rows : List Row) (row : Row) → Has (late_above key rows) row
+    → (row.0 ≤ key) ⊎ ((other : Row) × Has (in_order_above key rows) other × (row.0 ≤ other.0))
+late_above-low key [] row has = absurd has
+late_above-low key (first ∷ rows) row has =
+    let P : List Row → Type 0 = λ l. Has l row in
+    let Q : List Row → Type 0 = λ l. (other : Row) × Has l other × (row.0 ≤ other.0) in
+    elim (cases_lt key first.0) [
+      | inl lt ↦
+          let t = lt-ltb key first.0 lt in
+          let out : late_above key (first ∷ rows) ≡ late_above first.0 rows =
+          ap (λ (b : Bool). cond b (late_above first.0 rows) (first ∷ late_above key rows)) t in
+          let early : in_order_above key (first ∷ rows) ≡ first ∷ in_order_above first.0 rows =
+          ap (λ (b : Bool). cond b (first ∷ in_order_above first.0 rows) (in_order_above key rows)) t in
+          elim (late_above-low first.0 rows row (subst P out has)) [
+            | inl low ↦ inr (subst Q (sym early) (first, inl refl, low))
+            | inr other ↦ inr (subst Q (sym early) (other.0, inr other.1, other.2))
+          ]
+      | inr le ↦
+          let t = le-ltb key first.0 le in
+          let out : late_above key (first ∷ rows) ≡ first ∷ late_above key rows =
+          ap (λ (b : Bool). cond b (late_above first.0 rows) (first ∷ late_above key rows)) t in
+          let early : in_order_above key (first ∷ rows) ≡ in_order_above key rows =
+          ap (λ (b : Bool). cond b (first ∷ in_order_above first.0 rows) (in_order_above key rows)) t in
+          elim (subst P out has) [
+            | inl e ↦ let same : row.0 ≡ first.0 = ap (λ (r : Row). r.0) e in inl (omega arith)
+            | inr behind ↦ elim (late_above-low key rows row behind) [
+              | inl low ↦ inl low
+              | inr other ↦ inr (subst Q (sym early) other)
+            ]
+          ]
+    ]
+
+pub late_rows-low : (rows : List Row) (row : Row) → Has (late_rows rows) row
+    → (other : Row) × Has (rows_in_order rows) other × (row.0 ≤ other.0)
+late_rows-low [] row has = absurd has
+late_rows-low (first ∷ rows) row has = elim (late_above-low first.0 rows row has) [
+  | inl low ↦ (first, inl refl, low)
+  | inr other ↦ (other.0, inr other.1, other.2)
+]

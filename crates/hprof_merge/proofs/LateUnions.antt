@@ -12,18 +12,21 @@ module _ (key : ℕ) (first : Row) (rows : List Row) where
   abbrev EitherHas : Row → Type 0
   EitherHas row = Has (in_order_above key (first ∷ rows)) row ⊎ Has (late_above key (first ∷ rows)) row
 
-  when_above : key < first.0 → (row : Row) → EitherHas row ↔ (Has (first ∷ in_order_above first.0 rows) row ⊎ Has (late_above first.0 rows) row)
+  when_above : key < first.0 → (row : Row) → EitherHas row
+      ↔ (Has (first ∷ in_order_above first.0 rows) row ⊎ Has (late_above first.0 rows) row)
   when_above lt row =
       let t = lt-ltb key first.0 lt in
       let P : Bool → Type 0 =
-      λ b. (Has (cond b (first ∷ in_order_above first.0 rows) (in_order_above key rows)) row ⊎ Has (cond b (late_above first.0 rows) (first ∷ late_above key rows)) row) in
+      λ b. (Has (cond b (first ∷ in_order_above first.0 rows) (in_order_above key rows)) row
+      ⊎ Has (cond b (late_above first.0 rows) (first ∷ late_above key rows)) row) in
       (subst P t, subst P (sym t))
 
   when_not : first.0 ≤ key → (row : Row) → EitherHas row ↔ (Has (in_order_above key rows) row ⊎ Has (first ∷ late_above key rows) row)
   when_not le row =
       let t = le-ltb key first.0 le in
       let P : Bool → Type 0 =
-      λ b. (Has (cond b (first ∷ in_order_above first.0 rows) (in_order_above key rows)) row ⊎ Has (cond b (late_above first.0 rows) (first ∷ late_above key rows)) row) in
+      λ b. (Has (cond b (first ∷ in_order_above first.0 rows) (in_order_above key rows)) row
+      ⊎ Has (cond b (late_above first.0 rows) (first ∷ late_above key rows)) row) in
       (subst P t, subst P (sym t))
 
 either_above : (key : ℕ) (rows : List Row) (row : Row) → Has rows row ↔ (Has (in_order_above key rows) row ⊎ Has (late_above key rows) row)

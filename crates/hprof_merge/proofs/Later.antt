@@ -1,5 +1,6 @@
 -- Rows that ascending cursors show later.
-use Rattle.std.proofs.Common.{◌≡◌, ◌<◌, ◌++◌, ◌⊎◌, ℕ, List, [], ◌∷◌, Option, Some, inl, inr, refl, sym, ap, subst, ◌∙◌, arith, length, get_or}
+use Rattle.std.proofs.Common.{◌≡◌, ◌<◌, ◌++◌, ◌⊎◌, ℕ, List, [], ◌∷◌, Option, Some, inl, inr, refl, sym, ap, subst, ◌∙◌, arith, length}
+use Rattle.std.proofs.Common.{get_or}
 use Rattle.std.proofs.lemmas.List.{length-map}
 use Rattle.hprof_merge.specs.Rows.{Row, Has, IsAscending}
 use Rattle.hprof_merge.specs.Union.{list_at, AnyHas, AllFrom}
@@ -12,7 +13,8 @@ use Rattle.hprof_merge.proofs.Unions.{either_has, front_has, back_has, least_sam
 module _ {C : Type 0} (shown : C → Option Row) (goes : C → C → Type 0)
     (rises : (old new : C) (row next : Row) → goes old new → shown old ≡ Some row → shown new ≡ Some next → row.0 < next.0) where
   -- what is shown behind the first row is above it
-  shows_above : (old new : C) (row : Row) (rows : List Row) → Shows shown goes old (row ∷ rows) new → (other : Row) → Has rows other → row.0 < other.0
+  shows_above : (old new : C) (row : Row) (rows : List Row) → Shows shown goes old (row ∷ rows) new → (other : Row) → Has rows other
+      → row.0 < other.0
   shows_above old new row [] shows other has = absurd has
   shows_above old new row (next ∷ rows) shows other has =
       let mid : C = shows.1.0 in
@@ -27,7 +29,8 @@ module _ {C : Type 0} (shown : C → Option Row) (goes : C → C → Type 0)
   shows_ascend old new (row ∷ rows) shows = (shows_above old new row rows shows, shows_ascend shows.1.0 new rows shows.1.2)
 
   -- the row that is shown in the end is above all before
-  pub shows_below : (old new : C) (rows : List Row) (next : Row) → Shows shown goes old rows new → shown new ≡ Some next → (row : Row) → Has rows row
+  pub shows_below : (old new : C) (rows : List Row) (next : Row) → Shows shown goes old rows new → shown new ≡ Some next → (row : Row)
+      → Has rows row
       → row.0 < next.0
   shows_below old new [] next shows is row has = absurd has
   shows_below old new (first ∷ rows) next shows is row (inr behind) = shows_below shows.1.0 new rows next shows.1.2 is row behind
@@ -50,7 +53,8 @@ module _ {C : Type 0} (shown : C → Option Row) (goes : C → C → Type 0)
   shown_or_above old new (first ∷ rows) shows row (inl e) = inl (shows.0 ∙ ap (λ (r : Row). Some r) (sym e))
   shown_or_above old new (first ∷ rows) shows row (inr behind) = inr (first, shows.0, shows_above old new first rows shows row behind)
 
-  pub later_above : (old new : List C) (later : List (List Row)) (key : ℕ) → AllShow shown goes old new later → AllFrom key (all_shown shown old)
+  pub later_above : (old new : List C) (later : List (List Row)) (key : ℕ) → AllShow shown goes old new later
+      → AllFrom key (all_shown shown old)
       → (row : Row) → AnyHas later row → AnyHas (all_shown shown old) row ⊎ (key < row.0)
   later_above [] new later key all from row has =
       let lt = place_of_row later has.0 row has.1 in let none = all.lists in absurd (omega arith)
@@ -71,7 +75,8 @@ module _ {C : Type 0} (shown : C → Option Row) (goes : C → C → Type 0)
       ]
 
   -- up to the end, the rows that are shown come among the later ones
-  shown_later : (old new : List C) (later : List (List Row)) → AllShow shown goes old new later → ((row : Row) → AnyHas (all_shown shown new) row → ⊥)
+  shown_later : (old new : List C) (later : List (List Row)) → AllShow shown goes old new later
+      → ((row : Row) → AnyHas (all_shown shown new) row → ⊥)
       → (row : Row) → AnyHas (all_shown shown old) row → AnyHas later row
   shown_later [] new later all ended row has = absurd has.1
   shown_later (cursor ∷ cursors) new later all ended row has =
@@ -86,10 +91,15 @@ module _ {C : Type 0} (shown : C → Option Row) (goes : C → C → Type 0)
       only-has (shown here) row (subst P (list_at-map (λ one. only (shown one)) old place cursor lt) has.1) in
       let after_lt : place < length new = omega (arith, all.count) in
       let ended_here : shown after ≡ Some row → ⊥ =
-      λ same. ended row (place, subst P (sym (list_at-map (λ one. only (shown one)) new place cursor after_lt ∙ ap only same)) (inl refl)) in
+      λ same. ended row (
+        place,
+        subst P (sym (list_at-map (λ one. only (shown one)) new place cursor after_lt ∙ ap only same))
+            (inl refl),
+      ) in
       (place, among here after row (list_at later place) (all.each place cursor lt) is ended_here)
     where
-      among : (here after : C) (row : Row) (rows : List Row) → Shows shown goes here rows after → shown here ≡ Some row → (shown after ≡ Some row → ⊥)
+      among : (here after : C) (row : Row) (rows : List Row) → Shows shown goes here rows after → shown here ≡ Some row
+          → (shown after ≡ Some row → ⊥)
           → Has rows row
       among here after row [] same is never = absurd (never (ap shown (sym same) ∙ is))
       among here after row (first ∷ rows) shows is never = let both : Some row ≡ Some first = sym is ∙ shows.0 in inl cc

@@ -30,7 +30,8 @@ ascending_first first rest up row (inl same) = let e : row.0 ≡ first.0 = ap (�
 ascending_first first rest up row (inr has) = let lt = up.0 row has in omega arith
 
 -- a list that has a first key
-pub first_row : (rows : List Row) (key : ℕ) → first_key rows ≡ Some key → (bytes : List ℕ) × (rest : List Row) × (rows ≡ (key, bytes) ∷ rest)
+pub first_row : (rows : List Row) (key : ℕ) → first_key rows ≡ Some key → (bytes : List ℕ) × (rest : List Row)
+    × (rows ≡ (key, bytes) ∷ rest)
 first_row [] key is = cc
 first_row (first ∷ rest) key is =
     let e : first.0 ≡ key = cc in (first.1, rest, ap (λ (k : ℕ). let row : Row = (k, first.1) in row ∷ rest) e)
@@ -47,7 +48,8 @@ same_first rows others key is other_is same =
     let one = first_row rows key is in
     let other = first_row others key other_is in
     let P : List Row → List Row → Type 0 = λ l m. HaveSameFirst l m in
-    let bytes : one.0 ≡ other.0 = subst (λ (m : List Row). P ((key, one.0) ∷ one.1) m) other.2 (subst (λ (l : List Row). P l others) one.2 same) in
+    let bytes : one.0 ≡ other.0 = subst (λ (m : List Row). P ((key, one.0) ∷ one.1) m) other.2
+    (subst (λ (l : List Row). P l others) one.2 same) in
     (one.0, one.1, other.1, one.2, other.2 ∙ ap (λ (b : List ℕ). let row : Row = (key, b) in row ∷ other.1) (sym bytes))
 
 -- a row at the front
@@ -55,9 +57,11 @@ pub Has-front : (rows : List Row) (row : Row) (rest : List Row) → rows ≡ row
 Has-front rows row rest is = let P : List Row → Type 0 = λ l. Has l row in subst P (sym is) (inl refl)
 
 -- two ascending rows of one key are one
-pub one_at_key : (rows : List Row) → IsAscending rows → (key : ℕ) (one other : List ℕ) → Has rows (key, one) → Has rows (key, other) → one ≡ other
+pub one_at_key : (rows : List Row) → IsAscending rows → (key : ℕ) (one other : List ℕ) → Has rows (key, one) → Has rows (key, other) → one
+    ≡ other
 one_at_key [] up key one other has_one has_other = absurd has_one
-one_at_key (first ∷ rest) up key one other (inl here) (inl there) = let e : (key, one) ≡ (key, other) = here ∙ sym there in ap (λ (r : Row). r.1) e
+one_at_key (first ∷ rest) up key one other (inl here) (inl there) = let e : (key, one) ≡ (key, other) = here ∙ sym there in
+    ap (λ (r : Row). r.1) e
 one_at_key (first ∷ rest) up key one other (inl here) (inr there) =
     let lt = up.0 (key, other) there in let e : key ≡ first.0 = ap (λ (r : Row). r.0) here in absurd (omega arith)
 one_at_key (first ∷ rest) up key one other (inr here) (inl there) =

@@ -34,7 +34,8 @@ least_contents was now key front left taken contents = record {
 
 -- ---- the row that is held is taken, behind those below its key
 
-module _ (was now : List (List Row)) (held : ℕ) (row : Row) (rest : List Row) (is : list_at now held ≡ row ∷ rest) (left : AreLeft was now row.0)
+module _ (was now : List (List Row)) (held : ℕ) (row : Row) (rest : List Row) (is : list_at now held ≡ row ∷ rest)
+    (left : AreLeft was now row.0)
     (above : AllAbove row.0 held now) where
   -- each row with its key is that row; all others that are left are above it
   one_or_above : (other : Row) → AnyHas now other → (other ≡ row) ⊎ (row.0 < other.0)

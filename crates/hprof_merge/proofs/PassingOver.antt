@@ -28,7 +28,8 @@ module _ (held : ℕ) (lists : List (List Row)) (heads : List (Option ℕ)) (mat
   pub place_begins : (place key : ℕ) → head_at heads place ≡ Some key → first_key (list_at lists place) ≡ Some key
   place_begins place key here = sym (matches.others place (place_not_held place key here)) ∙ here
 
-  pub no_lower : (key : ℕ) → ((row : Row) → AnyHas lists row → key ≤ row.0) → (place other : ℕ) → head_at heads place ≡ Some other → key ≤ other
+  pub no_lower : (key : ℕ) → ((row : Row) → AnyHas lists row → key ≤ row.0) → (place other : ℕ) → head_at heads place ≡ Some other
+      → key ≤ other
   no_lower key least place other is =
       let first = first_row (list_at lists place) other (place_begins place other is) in
       least (other, first.0) (place, Has-front (list_at lists place) (other, first.0) first.1 first.2)
@@ -59,7 +60,8 @@ module _ {C : Type 0} (shown : C → Option Row) (goes : C → C → Type 0) whe
 
   -- one more is passed over
   module _ (rises : (old new : C) (row next : Row) → goes old new → shown old ≡ Some row → shown new ≡ Some next → row.0 < next.0)
-      (key held place : ℕ) (old mid new : List C) (heads next_heads : List (Option ℕ)) (passes : PassesOver shown goes key held old mid heads)
+      (key held place : ℕ) (old mid new : List C) (heads next_heads : List (Option ℕ))
+      (passes : PassesOver shown goes key held old mid heads)
       (here : head_at heads place ≡ Some key) (heads_lt : place < length heads) (lt : place < length mid)
       (head : first_key (list_at (all_shown shown old) held) ≡ Some key)
       (same : HaveSameFirst (list_at (all_shown shown mid) held) (list_at (all_shown shown mid) place)) (step : GoesAt goes place mid new)
@@ -71,7 +73,8 @@ module _ {C : Type 0} (shown : C → Option Row) (goes : C → C → Type 0) whe
     passes_more =
         let held_begins : first_key (list_at (all_shown shown mid) held) ≡ Some key = ap first_key passes.kept ∙ head in
         let there_begins = place_begins held (all_shown shown mid) heads passes.matches place key here in
-        let both = same_first (list_at (all_shown shown mid) held) (list_at (all_shown shown mid) place) key held_begins there_begins same in
+        let both = same_first (list_at (all_shown shown mid) held)
+        (list_at (all_shown shown mid) place) key held_begins there_begins same in
         let row : Row = (key, both.0) in
         let held_is : list_at (all_shown shown mid) held ≡ row ∷ both.1 = both.3 in
         let is : list_at (all_shown shown mid) place ≡ row ∷ both.2 = both.4 in
@@ -93,7 +96,8 @@ module _ {C : Type 0} (shown : C → Option Row) (goes : C → C → Type 0) whe
             others = λ other off. ap (λ (h : List (Option ℕ)). head_at h other) heads_are ∙ elim (cases_eq other place) [
               | inl e ↦
                   let P : ℕ → Type 0 =
-                  λ k. head_at (set heads place (first_key (list_at (all_shown shown new) place))) k ≡ first_key (list_at (all_shown shown new) k) in
+                  λ k. head_at (set heads place (first_key (list_at (all_shown shown new) place))) k
+                  ≡ first_key (list_at (all_shown shown new) k) in
                   subst P (sym e) (get_or-set_same heads place (first_key (list_at (all_shown shown new) place)) None heads_lt)
               | inr away ↦
                   get_or-set_other heads place other (first_key (list_at (all_shown shown new) place)) None away

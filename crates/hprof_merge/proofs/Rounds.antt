@@ -16,7 +16,8 @@ use Rattle.hprof_merge.specs.Stopping.{Leaves, IsFaultAt, StopsLevel, Stops, Pas
 use Rattle.hprof_merge.proofs.Lists.{ascending_first, first_row, no_row, Has-front}
 use Rattle.hprof_merge.proofs.Merged.{AreLeft, least_contents, taken_more, Runs-append}
 use Rattle.hprof_merge.proofs.Unions.{either_has, front_has, back_has}
-use Rattle.hprof_merge.proofs.Joined.{joined, any_joined, joined_front, joined_back, nothing, nothing_has, one_row, one_row_has, one_row_only}
+use Rattle.hprof_merge.proofs.Joined.{joined, any_joined, joined_front, joined_back, nothing, nothing_has, one_row, one_row_has}
+use Rattle.hprof_merge.proofs.Joined.{one_row_only}
 use Rattle.hprof_merge.proofs.Showing.{shown_ascend, shown_same, shown_other, above_here, gone_then, none_gone, one_gone, less_room}
 
 module _ (now : List (List Row)) (heads : List (Option ℕ)) (key place : ℕ) (up : AllAscend now) (matches : Matches heads now)
@@ -96,7 +97,8 @@ module _ {C T : Type 0} (shown : C → Option Row) (goes : C → C → Type 0) (
   }
 
   module _ {F G : Type 0} (fails : C → F → C → Type 0) (refuses : T → ℕ → List ℕ → G → T → Type 0) (old now : List C)
-      (heads : List (Option ℕ)) (key held : ℕ) (old_sink sink : T) (so : SoFar old now old_sink sink) (matches : Matches heads (all_shown shown now))
+      (heads : List (Option ℕ)) (key held : ℕ) (old_sink sink : T) (so : SoFar old now old_sink sink)
+      (matches : Matches heads (all_shown shown now))
       (is_least : IsLeast heads (Some (key, held))) where
     pub shown_key : first_key (list_at (all_shown shown now) held) ≡ Some key
     shown_key = key_first (all_shown shown now) heads key held (shown_ascend shown now) matches is_least
@@ -195,7 +197,8 @@ module _ {C T : Type 0} (shown : C → Option Row) (goes : C → C → Type 0) (
           record { came = mid_came; mid = mid; shows = mid_shows; leaves = leaves; stops = (key, passes.least, stops, inl known_taken) }
       over_stops new (Sink fault) leaves never = absurd never
 
-      module _ (above : AllAbove key held (all_shown shown mid)) (rows : List Row) (rows_are : list_at (all_shown shown mid) held ≡ rows) where
+      module _ (above : AllAbove key held (all_shown shown mid)) (rows : List Row)
+          (rows_are : list_at (all_shown shown mid) held ≡ rows) where
         rows_first : first_key rows ≡ Some key
         rows_first = ap first_key (sym rows_are ∙ passes.kept) ∙ shown_key
 
@@ -215,7 +218,8 @@ module _ {C T : Type 0} (shown : C → Option Row) (goes : C → C → Type 0) (
                 passes.least,
                 record {
                   front = so.front;
-                  union = taken_more known (all_shown shown mid) held row first.1 (rows_are ∙ first.2) known_left above so.front known_union;
+                  union = taken_more known (all_shown shown mid) held row first.1
+                      (rows_are ∙ first.2) known_left above so.front known_union;
                   mid = sink;
                   run = so.run;
                   refused = subst P first.2 given;
@@ -247,14 +251,16 @@ module _ {C T : Type 0} (shown : C → Option Row) (goes : C → C → Type 0) (
                   subst P (sym is) (ap first_key rows_are ∙ rows_first),
                   inr (record {
                     front = so.front ++ row ∷ [];
-                    union = taken_more known (all_shown shown mid) held row first.1 (rows_are ∙ first.2) known_left above so.front known_union;
+                    union = taken_more known (all_shown shown mid) held row first.1
+                        (rows_are ∙ first.2) known_left above so.front known_union;
                     run = Runs-append steps old_sink so.front sink row after so.run (given_step first.0 first.1 first.2);
                   }),
                 );
               }
           over_fault new (Sink fault) never leaves = absurd never
 
-          module _ (rises : (one next : C) (row other : Row) → goes one next → shown one ≡ Some row → shown next ≡ Some other → row.0 < other.0)
+          module _ (rises : (one next : C) (row other : Row) → goes one next → shown one ≡ Some row → shown next ≡ Some other
+              → row.0 < other.0)
               (new : List C) (lt : held < length mid) (step : GoesAt goes held mid new) where
             pub over_goes : SoFar old new old_sink after
             over_goes =
@@ -291,7 +297,8 @@ module _ {C T : Type 0} (shown : C → Option Row) (goes : C → C → Type 0) (
                           | inr last ↦
                               let e : other ≡ row = one_row_only (length mid) held row lt other last in
                               let P : Row → Type 0 = λ r. AnyHas known r in
-                              subst P (sym e) (back_has mid_came (all_shown shown mid) row (held, Has-front (list_at (all_shown shown mid) held) row first.1 is))
+                              subst P (sym e) (back_has mid_came (all_shown shown mid) row
+                              (held, Has-front (list_at (all_shown shown mid) held) row first.1 is))
                         ],
                         both.1,
                       )),
@@ -335,7 +342,8 @@ module _ {C T : Type 0} (shown : C → Option Row) (goes : C → C → Type 0) (
                         let f : other.0 ≡ key = ap (λ (r : Row). r.0) e in
                         omega arith
 
-                came_below : (row : Row) (rest : List Row) → list_at (all_shown shown mid) held ≡ row ∷ rest → (other : Row) → AnyHas known other
+                came_below : (row : Row) (rest : List Row) → list_at (all_shown shown mid) held ≡ row ∷ rest → (other : Row)
+                    → AnyHas known other
                     → other.0 < key + 1 → AnyHas (joined mid_came (one_row (length mid) held row)) other
                 came_below row rest is other has lt_next = elim (either_has mid_came (all_shown shown mid) other has.0 has.1) [
                   | inl came ↦ joined_front mid_came (one_row (length mid) held row) other came
@@ -358,14 +366,16 @@ module _ {C : Type 0} (shown : C → Option Row) (goes : C → C → Type 0)
       omega arith
 
 -- the contest behind a round
-pub round_keys : {C : Type 0} (shown : C → Option Row) (goes : C → C → Type 0) (held : ℕ) (mid new : List C) (mid_heads heads : List (Option ℕ))
+pub round_keys : {C : Type 0} (shown : C → Option Row) (goes : C → C → Type 0) (held : ℕ) (mid new : List C)
+    (mid_heads heads : List (Option ℕ))
     → MatchesBut held mid_heads (all_shown shown mid) → held < length mid_heads → GoesAt goes held mid new
     → heads ≡ set mid_heads held (first_key (list_at (all_shown shown new) held)) → Matches heads (all_shown shown new)
 round_keys shown goes held mid new mid_heads heads matches lt step heads_are at =
     ap (λ (h : List (Option ℕ)). head_at h at) heads_are ∙ elim (cases_eq at held) [
       | inl e ↦
           let P : ℕ → Type 0 =
-          λ k. head_at (set mid_heads held (first_key (list_at (all_shown shown new) held))) k ≡ first_key (list_at (all_shown shown new) k) in
+          λ k. head_at (set mid_heads held (first_key (list_at (all_shown shown new) held))) k
+          ≡ first_key (list_at (all_shown shown new) k) in
           subst P (sym e) (get_or-set_same mid_heads held (first_key (list_at (all_shown shown new) held)) None lt)
       | inr apart ↦
           get_or-set_other mid_heads held at (first_key (list_at (all_shown shown new) held)) None apart ∙ matches.others at apart

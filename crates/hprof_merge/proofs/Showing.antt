@@ -1,5 +1,6 @@
 -- Cursors that go on, and the rows that they show.
-use Rattle.std.proofs.Common.{◌≡◌, ◌≢◌, ◌<◌, ◌+◌, ◌-◌, ◌^◌, ◌++◌, ℕ, zero, suc, List, [], ◌∷◌, Option, Some, None, refl, sym, ap, subst, ◌∙◌}
+use Rattle.std.proofs.Common.{◌≡◌, ◌≢◌, ◌<◌, ◌+◌, ◌-◌, ◌^◌, ◌++◌, ℕ, zero, suc, List, [], ◌∷◌, Option, Some, None, refl, sym, ap, subst}
+use Rattle.std.proofs.Common.{◌∙◌}
 use Rattle.std.proofs.Common.{inl, inr, arith, length, set, get_or}
 use Rattle.std.specs.Prelude.{sum_by, slice_index_or}
 use Rattle.std.proofs.lemmas.List.{map-set, get_or-set_same, get_or-set_other, length-set, length-map, length-replicate}
@@ -156,7 +157,8 @@ module _ {C : Type 0} (shown : C → Option Row) (goes : C → C → Type 0) whe
         ap (λ (l : List (List Row)). sum_by room_of l) (shown_next shown old new place step.next step.is) in
         less (2 ^ 64 - row.0) _ _ _ _ _ sums was now same
       where
-        less : (room was next all set_all new_all : ℕ) → set_all + was ≡ all + next → was ≡ room → next < room → new_all ≡ set_all → new_all < all
+        less : (room was next all set_all new_all : ℕ) → set_all + was ≡ all + next → was ≡ room → next < room → new_all ≡ set_all
+            → new_all < all
         less room was next all set_all new_all sums is lt same = omega arith
 
         gap : (top low high : ℕ) → low < high → low < top → top - high < top - low

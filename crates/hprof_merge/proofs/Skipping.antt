@@ -1,5 +1,6 @@
 -- Late rows that are skipped one by one, and what comes of it.
-use Rattle.std.proofs.Common.{◌≡◌, ◌<◌, ◌≤◌, ◌+◌, ◌++◌, ℕ, List, [], ◌∷◌, Bool, Option, Some, None, refl, sym, ap, subst, ◌∙◌, inl, inr, cond}
+use Rattle.std.proofs.Common.{◌≡◌, ◌<◌, ◌≤◌, ◌+◌, ◌++◌, ℕ, List, [], ◌∷◌, Bool, Option, Some, None, refl, sym, ap, subst, ◌∙◌, inl, inr}
+use Rattle.std.proofs.Common.{cond}
 use Rattle.std.proofs.Common.{arith, length}
 use Rattle.std.proofs.lemmas.Bool.{cases_lt, lt-ltb, le-ltb}
 use Rattle.std.proofs.lemmas.List.{length-append}
@@ -78,10 +79,12 @@ module _ {C : Type 0} (shown : C → Option Row) (goes : C → C → Type 0) whe
   -- ---- all that is shown once late rows are skipped
 
   -- rows that are not above the key are late
-  late_behind : (key : ℕ) (out rest : List Row) → ((row : Row) → Has out row → row.0 ≤ key) → in_order_above key (out ++ rest) ≡ in_order_above key rest
+  late_behind : (key : ℕ) (out rest : List Row) → ((row : Row) → Has out row → row.0 ≤ key) → in_order_above key (out ++ rest)
+      ≡ in_order_above key rest
   late_behind key [] rest low = refl
   late_behind key (row ∷ out) rest low =
-      ap (λ (t : Bool). cond t (row ∷ in_order_above row.0 (out ++ rest)) (in_order_above key (out ++ rest))) (le-ltb key row.0 (low row (inl refl)))
+      ap (λ (t : Bool). cond t (row ∷ in_order_above row.0 (out ++ rest)) (in_order_above key (out ++ rest)))
+      (le-ltb key row.0 (low row (inl refl)))
       ∙ late_behind key out rest (λ other has. low other (inr has))
 
   -- if the first of them is above the key, it is in order
@@ -100,9 +103,18 @@ module _ {C : Type 0} (shown : C → Option Row) (goes : C → C → Type 0) whe
       let next = shows.1.1.next row shows.0 in
       let rest = all_in_order after new came shows.1.2 end in (
         row ∷ (next.skipped.out ++ rest.0),
-        (shows.0, (next.mid, next.went, shows_then shown goes next.mid next.skipped.out rest.0 after.cursor new.cursor next.skipped.shows rest.1)),
+        (
+          shows.0,
+          (
+            next.mid,
+            next.went,
+            shows_then shown goes next.mid next.skipped.out rest.0 after.cursor new.cursor next.skipped.shows
+                rest.1,
+          ),
+        ),
         ap (λ (l : List Row). row ∷ l)
-            (rest.2 ∙ sym (late_behind row.0 next.skipped.out rest.0 next.skipped.low ∙ behind row after.cursor rest.0 rest.1 next.skipped.high)),
+            (rest.2 ∙ sym (late_behind row.0 next.skipped.out rest.0 next.skipped.low
+            ∙ behind row after.cursor rest.0 rest.1 next.skipped.high)),
       )
     where
       behind : (row : Row) (after : C) (rest : List Row) → Shows shown goes after rest new.cursor

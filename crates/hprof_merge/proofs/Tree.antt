@@ -1,7 +1,8 @@
 -- A tree of contests: its first node has a least key, and what a change of a leaf does.
 use Rattle.std.proofs.Common.{◌≡◌, ◌≢◌, ◌<◌, ◌≤◌, ◌+◌, ◌-◌, ◌*◌, ◌/◌, ◌⊎◌, ℕ, zero, suc, List, Bool, Option, Some, None, refl, sym}
 use Rattle.std.proofs.Common.{ap, subst, ◌∙◌, inl, inr, arith, length, set, drop, cond}
-use Rattle.std.proofs.lemmas.List.{get_or-set_same, get_or-set_other, get_or_past, get_or-drop, length-drop, length-map, length-set, ext_get_or}
+use Rattle.std.proofs.lemmas.List.{get_or-set_same, get_or-set_other, get_or_past, get_or-drop, length-drop, length-map, length-set}
+use Rattle.std.proofs.lemmas.List.{ext_get_or}
 use Rattle.std.proofs.Math.ListN.{get_or-map}
 use Rattle.std.proofs.lemmas.Bool.{cases_eq, cases_lt, lt-ltb, le-ltb}
 use Rattle.hprof_merge.specs.Tree.{node_at, lesser_of, IsDecided, IsDecidedBut, HasPlaces, IsTree, key_of, keys_from}
@@ -37,12 +38,14 @@ lesser-at_most None other = ((λ head is. cc), at_most_self other)
 lesser-at_most (Some one) None = (at_most_self (Some one), (λ head is. cc))
 lesser-at_most (Some one) (Some other) = elim (cases_lt other.0 one.0) [
   | inl lt ↦
-      let won : lesser_of (Some one) (Some other) ≡ Some other = ap (λ (t : Bool). cond t (Some other) (Some one)) (lt-ltb other.0 one.0 lt) in (
+      let won : lesser_of (Some one) (Some other) ≡ Some other =
+      ap (λ (t : Bool). cond t (Some other) (Some one)) (lt-ltb other.0 one.0 lt) in (
         (λ head is. let e : one ≡ head = cc in let f : one.0 ≡ head.0 = ap (λ (h : ℕ × ℕ). h.0) e in (other, won, omega arith)),
         (λ head is. let e : other ≡ head = cc in let f : other.0 ≡ head.0 = ap (λ (h : ℕ × ℕ). h.0) e in (other, won, omega arith)),
       )
   | inr le ↦
-      let won : lesser_of (Some one) (Some other) ≡ Some one = ap (λ (t : Bool). cond t (Some other) (Some one)) (le-ltb other.0 one.0 le) in (
+      let won : lesser_of (Some one) (Some other) ≡ Some one =
+      ap (λ (t : Bool). cond t (Some other) (Some one)) (le-ltb other.0 one.0 le) in (
         (λ head is. let e : one ≡ head = cc in let f : one.0 ≡ head.0 = ap (λ (h : ℕ × ℕ). h.0) e in (one, won, omega arith)),
         (λ head is. let e : other ≡ head = cc in let f : other.0 ≡ head.0 = ap (λ (h : ℕ × ℕ). h.0) e in (one, won, omega arith)),
       )
@@ -107,7 +110,8 @@ module _ (nodes : List (Option (ℕ × ℕ))) (count : ℕ) (decided : IsDecided
 
 -- ---- the keys of the leaves
 
-pub head-node : (count : ℕ) (nodes : List (Option (ℕ × ℕ))) (place : ℕ) → head_at (keys_from count nodes) place ≡ key_of (node_at nodes (count + place))
+pub head-node : (count : ℕ) (nodes : List (Option (ℕ × ℕ))) (place : ℕ) → head_at (keys_from count nodes) place
+    ≡ key_of (node_at nodes (count + place))
 head-node count nodes place = get_or-map key_of (drop count nodes) place None ∙ ap key_of (get_or-drop count nodes place None)
 
 pub keys-length : (count : ℕ) (nodes : List (Option (ℕ × ℕ))) → length nodes ≡ 2 * count → length (keys_from count nodes) ≡ count
@@ -118,7 +122,8 @@ key_of-some None key is = cc
 key_of-some (Some one) key is = (one, refl, cc)
 
 -- the first node has a least key, with its place
-pub first_least : (nodes : List (Option (ℕ × ℕ))) (count : ℕ) → IsTree nodes count → 0 < count → IsLeast (keys_from count nodes) (node_at nodes 1)
+pub first_least : (nodes : List (Option (ℕ × ℕ))) (count : ℕ) → IsTree nodes count → 0 < count
+    → IsLeast (keys_from count nodes) (node_at nodes 1)
 first_least nodes count tree some = by (node_at nodes 1) refl
   where
     low : (place : ℕ) → place < count → AtMost (node_at nodes 1) (node_at nodes (count + place))
@@ -174,13 +179,15 @@ first_least nodes count tree some = by (node_at nodes 1) refl
 -- a contest decided again: the one above it is left
 pub settled_step : (nodes : List (Option (ℕ × ℕ))) (count node : ℕ) → length nodes ≡ 2 * count → 1 < node → node < 2 * count
     → IsDecidedBut (node / 2) nodes count
-    → IsDecidedBut (node / 2 / 2) (set nodes (node / 2) (lesser_of (node_at nodes (2 * (node / 2))) (node_at nodes (2 * (node / 2) + 1)))) count
+    → IsDecidedBut (node / 2 / 2) (set nodes (node / 2) (lesser_of (node_at nodes (2 * (node / 2))) (node_at nodes (2 * (node / 2) + 1))))
+    count
 settled_step nodes count node sized more lt but at up below apart =
     let p : ℕ = node / 2 in
     let won : Option (ℕ × ℕ) = lesser_of (node_at nodes (2 * (node / 2))) (node_at nodes (2 * (node / 2) + 1)) in
     let left_off : 2 * at ≢ node / 2 = λ e. apart (omega arith) in
     let right_off : 2 * at + 1 ≢ node / 2 = λ e. apart (omega arith) in
-    let left : node_at (set nodes (node / 2) won) (2 * at) ≡ node_at nodes (2 * at) = get_or-set_other nodes (node / 2) (2 * at) won None left_off in
+    let left : node_at (set nodes (node / 2) won) (2 * at) ≡ node_at nodes (2 * at) =
+    get_or-set_other nodes (node / 2) (2 * at) won None left_off in
     let right : node_at (set nodes (node / 2) won) (2 * at + 1) ≡ node_at nodes (2 * at + 1) =
     get_or-set_other nodes (node / 2) (2 * at + 1) won None right_off in
     let under : lesser_of (node_at nodes (2 * at)) (node_at nodes (2 * at + 1))
@@ -210,11 +217,13 @@ changed_decided nodes count place head decided at up below apart =
     let left : 2 * at ≢ count + place = λ e. apart (omega arith) in
     let right : 2 * at + 1 ≢ count + place = λ e. apart (omega arith) in
     get_or-set_other nodes (count + place) at head None here ∙ decided at up below
-    ∙ ap (λ (h : Option (ℕ × ℕ)). lesser_of h (node_at nodes (2 * at + 1))) (sym (get_or-set_other nodes (count + place) (2 * at) head None left))
+    ∙ ap (λ (h : Option (ℕ × ℕ)). lesser_of h (node_at nodes (2 * at + 1)))
+    (sym (get_or-set_other nodes (count + place) (2 * at) head None left))
     ∙ ap (λ (h : Option (ℕ × ℕ)). lesser_of (node_at (set nodes (count + place) head) (2 * at)) h)
     (sym (get_or-set_other nodes (count + place) (2 * at + 1) head None right))
 
-module _ (nodes new : List (Option (ℕ × ℕ))) (count place : ℕ) (head : Option (ℕ × ℕ)) (sized : length nodes ≡ 2 * count) (lt : place < count)
+module _ (nodes new : List (Option (ℕ × ℕ))) (count place : ℕ) (head : Option (ℕ × ℕ)) (sized : length nodes ≡ 2 * count)
+    (lt : place < count)
     (leaves : (leaf : ℕ) → count ≤ leaf → node_at new leaf ≡ node_at (set nodes (count + place) head) leaf) where
   leaf_here : node_at new (count + place) ≡ head
   leaf_here =
@@ -232,11 +241,13 @@ module _ (nodes new : List (Option (ℕ × ℕ))) (count place : ℕ) (head : Op
     | inr apart ↦ placed other one (sym (leaf_other other apart) ∙ is)
   ]
 
-  pub changed_keys : length new ≡ 2 * count → (key : Option ℕ) → key_of head ≡ key → keys_from count new ≡ set (keys_from count nodes) place key
+  pub changed_keys : length new ≡ 2 * count → (key : Option ℕ) → key_of head ≡ key → keys_from count new
+      ≡ set (keys_from count nodes) place key
   changed_keys new_sized key is =
       let all : length (keys_from count nodes) ≡ count = keys-length count nodes sized in
       let new_all : length (keys_from count new) ≡ count = keys-length count new new_sized in
-      let set_all : length (set (keys_from count nodes) place key) ≡ length (keys_from count nodes) = length-set (keys_from count nodes) place key in
+      let set_all : length (set (keys_from count nodes) place key) ≡ length (keys_from count nodes) =
+      length-set (keys_from count nodes) place key in
       let there : place < length (keys_from count nodes) = omega arith in
       ext_get_or None (keys_from count new) (set (keys_from count nodes) place key) (new_all ∙ sym all ∙ sym set_all) (λ at at_lt.
       elim (cases_eq at place) [
@@ -256,6 +267,7 @@ pub empty_tree : (nodes : List (Option (ℕ × ℕ))) (count : ℕ) → length n
 empty_tree nodes count sized empty = record {
   sized = sized;
   decided = λ node up lt.
-      empty node ∙ sym (empty (2 * node + 1)) ∙ ap (λ (h : Option (ℕ × ℕ)). lesser_of h (node_at nodes (2 * node + 1))) (sym (empty (2 * node)));
+      empty node ∙ sym (empty (2 * node + 1)) ∙ ap (λ (h : Option (ℕ × ℕ)). lesser_of h (node_at nodes (2 * node + 1)))
+      (sym (empty (2 * node)));
   placed = λ place head is. let e : None ≡ Some head = sym (empty (count + place)) ∙ is in cc;
 }

@@ -39,7 +39,8 @@ same_behind first rest others up same row has = elim (same row (inr has)) [
 ]
 
 -- so they are one
-pub same_rows : (rows others : List Row) → IsAscending rows → IsAscending others → ((row : Row) → Has rows row ↔ Has others row) → rows ≡ others
+pub same_rows : (rows others : List Row) → IsAscending rows → IsAscending others → ((row : Row) → Has rows row ↔ Has others row) → rows
+    ≡ others
 same_rows [] [] up more same = refl
 same_rows [] (other ∷ others) up more same = absurd ((same other).1 (inl refl))
 same_rows (first ∷ rest) [] up more same = absurd ((same first).0 (inl refl))
@@ -142,7 +143,8 @@ union_same lists others same all union = record {
   same = λ row. ((λ has. (same row).0 ((union.same row).0 has)), (λ has. (union.same row).1 ((same row).1 has)));
 }
 
-pub contents_same : (lists others : List (List Row)) → HaveSameRows lists others → (key : ℕ) → HasTwoContents lists key → HasTwoContents others key
+pub contents_same : (lists others : List (List Row)) → HaveSameRows lists others → (key : ℕ) → HasTwoContents lists key
+    → HasTwoContents others key
 contents_same lists others same key contents = record {
   one = contents.one;
   other = contents.other;
@@ -151,7 +153,8 @@ contents_same lists others same key contents = record {
   differ = contents.differ;
 }
 
-pub least_same : (lists others : List (List Row)) → HaveSameRows lists others → (key : ℕ) → IsLeastWithTwoContents lists key → IsLeastWithTwoContents others key
+pub least_same : (lists others : List (List Row)) → HaveSameRows lists others → (key : ℕ) → IsLeastWithTwoContents lists key
+    → IsLeastWithTwoContents others key
 least_same lists others same key least = record {
   contents = contents_same lists others same key least.contents;
   least = λ lower lt contents. least.least lower lt (contents_same others lists (turned lists others same) lower contents);
@@ -174,7 +177,8 @@ permuted lists others moves row = (moved lists others moves row, moved others li
 -- ---- in groups
 
 -- a row of lists behind others is in either
-pub either_has : (lists rest : List (List Row)) (row : Row) (place : ℕ) → Has (list_at (lists ++ rest) place) row → AnyHas lists row ⊎ AnyHas rest row
+pub either_has : (lists rest : List (List Row)) (row : Row) (place : ℕ) → Has (list_at (lists ++ rest) place) row → AnyHas lists row
+    ⊎ AnyHas rest row
 either_has [] rest row place has = inr (place, has)
 either_has (rows ∷ lists) rest row zero has = inl (0, has)
 either_has (rows ∷ lists) rest row (suc place) has = elim (either_has lists rest row place has) [
@@ -191,7 +195,8 @@ pub back_has : (lists rest : List (List Row)) (row : Row) → AnyHas rest row �
 back_has [] rest row has = has
 back_has (rows ∷ lists) rest row has = let there = back_has lists rest row has in (suc there.0, there.1)
 
-pub first_has : (one : List Row) (rest : List (List Row)) (row : Row) (place : ℕ) → Has (list_at (one ∷ rest) place) row → Has one row ⊎ AnyHas rest row
+pub first_has : (one : List Row) (rest : List (List Row)) (row : Row) (place : ℕ) → Has (list_at (one ∷ rest) place) row → Has one row
+    ⊎ AnyHas rest row
 first_has one rest row zero has = inl has
 first_has one rest row (suc place) has = inr (place, has)
 
@@ -216,7 +221,8 @@ union_apart lists all key union contents =
     ((union.same (key, contents.other)).1 contents.has_other)
     )
 
-pub one_least : (lists : List (List Row)) (key other : ℕ) → IsLeastWithTwoContents lists key → IsLeastWithTwoContents lists other → key ≡ other
+pub one_least : (lists : List (List Row)) (key other : ℕ) → IsLeastWithTwoContents lists key → IsLeastWithTwoContents lists other → key
+    ≡ other
 one_least lists key other least other_least = elim (cases_order key other) [
   | inl e ↦ e
   | inr apart ↦ elim apart [
@@ -227,7 +233,8 @@ one_least lists key other least other_least = elim (cases_order key other) [
 
 -- ---- a contents in a group
 
-pub group_at_most : (lists rest : List (List Row)) (key least : ℕ) → HasTwoContents lists key → IsLeastWithTwoContents (lists ++ rest) least → least ≤ key
+pub group_at_most : (lists rest : List (List Row)) (key least : ℕ) → HasTwoContents lists key
+    → IsLeastWithTwoContents (lists ++ rest) least → least ≤ key
 group_at_most lists rest key least contents is = elim (cases_lt key least) [
   | inr le ↦ le
   | inl lt ↦ absurd (is.least key lt (record {

@@ -9,11 +9,11 @@ use Rattle.hprof_merge.specs.Union.{list_at}
 abbrev pub heads_of : Contest → List (Option ℕ)
 heads_of contest = keys_from contest.count contest.nodes.items
 
--- the key at a place, where there is one
+-- the key at a place, if there is one
 abbrev pub head_at : List (Option ℕ) → ℕ → Option ℕ
 head_at heads place = slice_index_or heads place None
 
--- a least key, and its place; none where there is no key
+-- a least key, and its place; none if there is no key
 abbrev pub IsLeast : List (Option ℕ) → Option (ℕ × ℕ) → Type 0
 IsLeast heads None = (place : ℕ) → head_at heads place ≡ None
 IsLeast heads (Some least) = (least.1 < length heads) × (head_at heads least.1 ≡ Some least.0)
@@ -28,7 +28,7 @@ pub record MatchesBut (held : ℕ) (heads : List (Option ℕ)) (lists : List (Li
   pub none : head_at heads held ≡ None
   pub others : (place : ℕ) → place ≢ held → head_at heads place ≡ first_key (list_at lists place)
 
--- the place of a key that is below none; where there is no place, all keys are above it
+-- the place of a key that is below none; if there is no place, all keys are above it
 abbrev pub IsPlaceOf : List (Option ℕ) → ℕ → Option ℕ → Type 0
 IsPlaceOf heads key None = (place other : ℕ) → head_at heads place ≡ Some other → key < other
 IsPlaceOf heads key (Some place) = (place < length heads) × (head_at heads place ≡ Some key)

@@ -7,7 +7,7 @@ abbrev pub in_order_above : ℕ → List Row → List Row
 in_order_above key [] = []
 in_order_above key (row ∷ rows) = if nat_lt key row.0 then row ∷ in_order_above row.0 rows else in_order_above key rows
 
--- the rows of which that is not true
+-- all others
 abbrev pub late_above : ℕ → List Row → List Row
 late_above key [] = []
 late_above key (row ∷ rows) = if nat_lt key row.0 then late_above row.0 rows else row ∷ late_above key rows

@@ -30,14 +30,15 @@ fails_either first second (First old) (Second fault) new = ⊥
 fails_either first second (Second old) (First fault) new = ⊥
 fails_either first second (Second old) (Second fault) (First new) = ⊥
 
--- where both kinds rise, it does
+-- if both kinds rise, it does
 pub either_rises : {A B : Type 0} (first : A → Option Row) (second : B → Option Row) (goes_first : A → A → Type 0)
     (goes_second : B → B → Type 0)
     → ((old new : A) (row next : Row) → goes_first old new → first old ≡ Some row → first new ≡ Some next → row.0 < next.0)
     → ((old new : B) (row next : Row) → goes_second old new → second old ≡ Some row → second new ≡ Some next → row.0 < next.0)
     → (old new : OneOf A B) (row next : Row) → goes_either goes_first goes_second old new → of_either first second old ≡ Some row
     → of_either first second new ≡ Some next → row.0 < next.0
-either_rises first second goes_first goes_second one other (First old) (First new) row next goes is next_is = one old new row next goes is next_is
+either_rises first second goes_first goes_second one other (First old) (First new) row next goes is next_is =
+    one old new row next goes is next_is
 either_rises first second goes_first goes_second one other (First old) (Second new) row next never is next_is = absurd never
 either_rises first second goes_first goes_second one other (Second old) (First new) row next never is next_is = absurd never
 either_rises first second goes_first goes_second one other (Second old) (Second new) row next goes is next_is =

@@ -5,9 +5,9 @@ ghost use Rattle.hprof_merge.specs.Tree.{IsTree, IsDecided, IsDecidedBut, lesser
 
 use std::alloc::{AllocError, Global};
 
-/// The first keys of cursors, with the places of these. A cursor that is at its end, or is held out, has none. Each of them is a leaf of
-/// a tree, and each other node has the lesser of the two below it: node n has the nodes 2n and 2n + 1 below it, and the leaf of a place
-/// is the node behind all others by as much.
+/// The keys that cursors show, with the places of the cursors, as the leaves of a tree. A cursor at its end, or one that is held out, has
+/// none. Each other node has the lesser of the two below it: node n has the nodes 2n and 2n + 1 below it, and the leaf of a place is the
+/// node with the number of cursors plus the place.
 #[derive(Drop)]
 pub(crate) struct Contest {
     nodes: Vec<Option<(u64, usize)>>,
@@ -15,7 +15,7 @@ pub(crate) struct Contest {
     ghost tree: { IsTree nodes.items count },
 }
 
-/// Returns the one with the lesser key, and the first if they have the same.
+/// Returns the one with the lesser key, or the first if both have the same.
 fn lesser(one: Option<(u64, usize)>, other: Option<(u64, usize)>) -> Option<(u64, usize)>
     ensures { result ≡ lesser_of one other }
 {
@@ -30,7 +30,7 @@ fn lesser(one: Option<(u64, usize)>, other: Option<(u64, usize)>) -> Option<(u64
     }
 }
 
-/// Decides all contests above a node that was changed.
+/// Decides all nodes above a node that was changed.
 fn settle(nodes: &mut [Option<(u64, usize)>], count: usize, changed: usize)
     requires sized { length nodes.old ≡ 2 * count }
     requires changed { changed < length nodes.old }

@@ -39,7 +39,8 @@ pub fn union_or_two_contents()
 
 /// The order of the lists makes no difference.
 pub fn any_order_of_lists()
-    ensures union { (lists others : List (List Row)) (all : List Row) → IsPermutation lists others → IsUnion lists all → IsUnion others all }
+    ensures union { (lists others : List (List Row)) (all : List Row) → IsPermutation lists others → IsUnion lists all
+        → IsUnion others all }
     ensures contents { (lists others : List (List Row)) (key : ℕ) → IsPermutation lists others → IsLeastWithTwoContents lists key
         → IsLeastWithTwoContents others key }
 {}
@@ -63,8 +64,8 @@ pub fn merged_in_groups()
 /// If a key has two contents in some of the lists, the least key of all lists is not above it. Below a bound, those lists may be replaced
 /// by their union.
 pub fn two_contents_in_a_group()
-    ensures at_most { (lists rest : List (List Row)) (key least : ℕ) → HasTwoContents lists key → IsLeastWithTwoContents (lists ++ rest) least
-        → least ≤ key }
+    ensures at_most { (lists rest : List (List Row)) (key least : ℕ) → HasTwoContents lists key
+        → IsLeastWithTwoContents (lists ++ rest) least → least ≤ key }
     ensures below { (lists rest : List (List Row)) (bound lower : ℕ) (front : List Row) → IsUnionBelow lists bound front → lower < bound
         → (HasTwoContents (front ∷ rest) lower ↔ HasTwoContents (lists ++ rest) lower) }
 {}
@@ -83,9 +84,11 @@ pub fn later_rows_change_nothing()
         → IsLeastWithTwoContents lists key → IsLeastWithTwoContents (lists ++ more) key }
 {}
 
-/// The rows in order ascend. They and the late rows are all. If the rows ascend, none is late.
+/// The rows in order ascend. A late row is not above one of them. They and the late rows are all. If the rows ascend, none is late.
 pub fn in_order_or_late()
     ensures ascend { (rows : List Row) → IsAscending (rows_in_order rows) }
+    ensures late { (rows : List Row) (row : Row) → Has (late_rows rows) row
+        → ((other : Row) × Has (rows_in_order rows) other × (row.0 ≤ other.0)) }
     ensures all { (rows : List Row) → IsPermutation (rows_in_order rows ++ late_rows rows) rows }
     ensures ascending { (rows : List Row) → IsAscending rows → (rows_in_order rows ≡ rows) × (late_rows rows ≡ []) }
 {}

@@ -1,7 +1,7 @@
-//! Merges rows of several cursors into a sink. A row is a key and bytes. The rows of each cursor ascend by key, and the sink is given each row
+//! Merges rows of several cursors into a sink. A row is a key and bytes. The rows of a cursor ascend by key. The sink is given each row
 //! once, in ascending order, or the merge tells the least key with two contents.
 //!
-//! Only the merge itself allocates: two entries for each cursor, before the first row.
+//! Only `merge_rows` allocates: two entries for each cursor, before the first row.
 #![tactic(auto)]
 
 mod contest;

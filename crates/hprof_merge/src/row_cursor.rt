@@ -4,8 +4,10 @@ ghost use Rattle.std.specs.Prelude.{◌≡◌, ◌<◌, ℕ, List, Option, Some,
 ghost use Rattle.hprof_merge.specs.Rows.{ShowsFirst};
 ghost use Rattle.hprof_merge.specs.Showing.{only};
 
-/// A cursor over rows, such as those of a file. It shows one row at a time. No contract tells which rows come after it, so what is said of a
-/// cursor is said of the rows that it showed. After a fault it is not called again.
+/// A cursor over rows, such as those of a file. It shows one row at a time.
+///
+/// No contract tells which rows come after the one that it shows, so contracts speak of the rows that it showed. After a fault it is not
+/// called again.
 pub trait RowCursor {
     // The row that it shows, and none at its end.
     ghost shown: { Self → Option (ℕ × List ℕ) };

@@ -14,7 +14,8 @@ loop-place-preserved g c =
     let cursor = c.index-cursors-place in
     let head = c.head_of-head in
     record {
-      count = ap length {y = set (heads_of now.contest) now.place head.result} c.set.ensures ∙ length-set (heads_of now.contest) now.place head.result ∙ now.invariant.count;
+      count = ap length {y = set (heads_of now.contest) now.place head.result} c.set.ensures
+          ∙ length-set (heads_of now.contest) now.place head.result ∙ now.invariant.count;
       heads = one_more_head rows cursors now.place cursor.result c.loop-place-test.true cursor.is (heads_of now.contest) _ head.result
           now.invariant.count
           head.ensures c.set.ensures now.invariant.heads;

@@ -9,6 +9,7 @@ abbrev pub invariant-loop-place : goal.invariant-loop-place
 invariant-loop-place g l =
     record {
       count : length (heads_of l.contest) ≡ length l.cursors;
-      heads : (place : ℕ) → place < l.place → head_at (heads_of l.contest) place ≡ first_key (list_at (all_shown g.C.RowCursor.shown l.cursors) place);
+      heads : (place : ℕ) → place < l.place → head_at (heads_of l.contest) place
+          ≡ first_key (list_at (all_shown g.C.RowCursor.shown l.cursors) place);
       rest : (place : ℕ) → l.place ≤ place → head_at (heads_of l.contest) place ≡ None;
     }

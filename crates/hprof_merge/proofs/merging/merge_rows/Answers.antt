@@ -10,7 +10,8 @@ use Rattle.hprof_merge.proofs.merging.merge_rows.Goals as goal
 
 pub returns-in_default-clause-stop : goal.returns-in_default-clause-stop
 returns-in_default-clause-stop g c =
-    no_memory g.C.RowCursor.shown g.C.RowCursor.goes g.T.RowSink.steps g.C.RowCursor.fails g.T.RowSink.refuses c.args.cursors.now c.args.sink.now
+    no_memory g.C.RowCursor.shown g.C.RowCursor.goes g.T.RowSink.steps g.C.RowCursor.fails g.T.RowSink.refuses c.args.cursors.now
+    c.args.sink.now
 
 pub loop-key-init : goal.loop-key-init
 loop-key-init g c = record {
@@ -24,7 +25,8 @@ loop-key-init g c = record {
 pub pass_equals-requires-clause-least : goal.pass_equals-requires-clause-least
 pass_equals-requires-clause-least g c =
     let now = c.loop-key in
-    shown_least g.C.RowCursor.shown g.C.RowCursor.goes g.T.RowSink.steps g.C.RowCursor.fails g.T.RowSink.refuses c.args.cursors.now now.cursors
+    shown_least g.C.RowCursor.shown g.C.RowCursor.goes g.T.RowSink.steps g.C.RowCursor.fails g.T.RowSink.refuses c.args.cursors.now
+    now.cursors
     (heads_of now.contest) c.in-Some.key c.in-Some.place c.args.sink.now now.sink now.invariant.so_far now.invariant.matches
     c.in-Some.ensures
 
@@ -32,7 +34,8 @@ pub returns-in-Err-clause-stop : goal.returns-in-Err-clause-stop
 returns-in-Err-clause-stop g c =
     let now = c.loop-key in
     let over = c.in-Err.ensures.stop in
-    over_stops g.C.RowCursor.shown g.C.RowCursor.goes g.T.RowSink.steps g.C.RowCursor.fails g.T.RowSink.refuses c.args.cursors.now now.cursors
+    over_stops g.C.RowCursor.shown g.C.RowCursor.goes g.T.RowSink.steps g.C.RowCursor.fails g.T.RowSink.refuses c.args.cursors.now
+    now.cursors
     (heads_of now.contest) c.in-Some.key c.in-Some.place c.args.sink.now now.sink now.invariant.so_far now.invariant.matches
     c.in-Some.ensures over.mid over.heads over.passes c.pass_equals.new.cursors c.in-Err.stop over.leaves over.stops
 
@@ -43,7 +46,8 @@ returns-in-Err-give-clause-stop g c =
     let level = c.in_default-pass_equals.ensures in
     let mid = c.pass_equals.new.cursors in
     let lt : c.in-Some.place < length mid = omega (arith, c.in-Some.ensures.0, now.invariant.heads, level.level.shows.count) in
-    over_refused g.C.RowCursor.shown g.C.RowCursor.goes g.T.RowSink.steps g.C.RowCursor.fails g.T.RowSink.refuses c.args.cursors.now now.cursors
+    over_refused g.C.RowCursor.shown g.C.RowCursor.goes g.T.RowSink.steps g.C.RowCursor.fails g.T.RowSink.refuses c.args.cursors.now
+    now.cursors
     (heads_of now.contest) c.in-Some.key c.in-Some.place c.args.sink.now now.sink now.invariant.so_far now.invariant.matches
     c.in-Some.ensures mid (heads_of c.pass_equals.new.contest) level.level level.above
     (rows (get_or mid c.in-Some.place c.index-cursors-place.result))
@@ -56,7 +60,8 @@ returns-in-Err-advance-clause-stop g c =
     let level = c.in_default-pass_equals.ensures in
     let mid = c.pass_equals.new.cursors in
     let lt : c.in-Some.place < length mid = omega (arith, c.in-Some.ensures.0, now.invariant.heads, level.level.shows.count) in
-    over_fault g.C.RowCursor.shown g.C.RowCursor.goes g.T.RowSink.steps g.C.RowCursor.fails g.T.RowSink.refuses c.args.cursors.now now.cursors
+    over_fault g.C.RowCursor.shown g.C.RowCursor.goes g.T.RowSink.steps g.C.RowCursor.fails g.T.RowSink.refuses c.args.cursors.now
+    now.cursors
     (heads_of now.contest) c.in-Some.key c.in-Some.place c.args.sink.now now.sink now.invariant.so_far now.invariant.matches
     c.in-Some.ensures mid (heads_of c.pass_equals.new.contest) level.level level.above
     (rows (get_or mid c.in-Some.place c.index-cursors-place.result))
@@ -71,7 +76,8 @@ loop-key-smaller g c =
     let lt : c.in-Some.place < length mid = omega (arith, c.in-Some.ensures.0, now.invariant.heads, level.level.shows.count) in
     round_less g.C.RowCursor.shown g.C.RowCursor.goes g.met.C.AscendingCursor.rises c.in-Some.key c.in-Some.place now.cursors mid
     c.advance.new.cursors (heads_of c.pass_equals.new.contest) level.level
-    (shown_key g.C.RowCursor.shown g.C.RowCursor.goes g.T.RowSink.steps g.C.RowCursor.fails g.T.RowSink.refuses c.args.cursors.now now.cursors
+    (shown_key g.C.RowCursor.shown g.C.RowCursor.goes g.T.RowSink.steps g.C.RowCursor.fails g.T.RowSink.refuses c.args.cursors.now
+    now.cursors
     (heads_of now.contest) c.in-Some.key c.in-Some.place c.args.sink.now now.sink now.invariant.so_far now.invariant.matches
     c.in-Some.ensures)
     lt level.fits c.in_default-advance.ensures.goes level.fewer
@@ -87,13 +93,15 @@ loop-key-preserved g c =
     let heads_lt : c.in-Some.place < length (heads_of c.pass_equals.new.contest) =
     omega (arith, c.in-Some.ensures.0, now.invariant.heads, level.heads) in
     record {
-      so_far = over_goes g.C.RowCursor.shown g.C.RowCursor.goes g.T.RowSink.steps g.C.RowCursor.fails g.T.RowSink.refuses c.args.cursors.now now.cursors
+      so_far = over_goes g.C.RowCursor.shown g.C.RowCursor.goes g.T.RowSink.steps g.C.RowCursor.fails g.T.RowSink.refuses
+          c.args.cursors.now now.cursors
           (heads_of now.contest) c.in-Some.key c.in-Some.place c.args.sink.now now.sink now.invariant.so_far now.invariant.matches
           c.in-Some.ensures mid (heads_of c.pass_equals.new.contest) level.level level.above
           (rows (get_or mid c.in-Some.place c.index-cursors-place.result))
           (list_at-map rows mid c.in-Some.place c.index-cursors-place.result lt) c.give.new.sink c.in_default-give.ensures.given
           g.met.C.AscendingCursor.rises c.advance.new.cursors lt ok.goes;
-      matches = round_keys g.C.RowCursor.shown g.C.RowCursor.goes c.in-Some.place mid c.advance.new.cursors (heads_of c.pass_equals.new.contest)
+      matches = round_keys g.C.RowCursor.shown g.C.RowCursor.goes c.in-Some.place mid c.advance.new.cursors
+          (heads_of c.pass_equals.new.contest)
           (heads_of c.advance.new.contest) level.level.matches heads_lt ok.goes ok.heads;
       well = ok.well;
       sink = c.in_default-give.ensures.sink;
@@ -104,5 +112,6 @@ loop-key-preserved g c =
 pub returns-clause-merged : goal.returns-clause-merged
 returns-clause-merged g c =
     let now = c.loop-key in
-    so_far_ends g.C.RowCursor.shown g.C.RowCursor.goes g.T.RowSink.steps c.args.cursors.now now.cursors (heads_of now.contest) c.args.sink.now
+    so_far_ends g.C.RowCursor.shown g.C.RowCursor.goes g.T.RowSink.steps c.args.cursors.now now.cursors
+    (heads_of now.contest) c.args.sink.now
     now.sink now.invariant.so_far now.invariant.matches c.in_default-first.ensures

@@ -38,7 +38,8 @@ returns-then-not-agree-clause-stop g c =
 pub returns-in-Err-clause-stop : goal.returns-in-Err-clause-stop
 returns-in-Err-clause-stop g c =
     passes_fault g.C.RowCursor.shown g.C.RowCursor.goes c.args.key c.args.held c.in-Some.place c.args.cursors.now c.loop-place.cursors
-    (heads_of c.loop-place.contest) c.loop-place.invariant.passes c.in-Some.ensures.1 g.C.RowCursor.fails c.advance.new.cursors c.in-Err.stop
+    (heads_of c.loop-place.contest) c.loop-place.invariant.passes c.in-Some.ensures.1 g.C.RowCursor.fails c.advance.new.cursors
+    c.in-Err.stop
     c.in-Err.ensures.stop.0 c.in-Err.ensures.stop.1
 
 pub loop-place-smaller : goal.loop-place-smaller
@@ -46,7 +47,8 @@ loop-place-smaller g c =
     let now = c.loop-place in
     let lt : c.in-Some.place < length now.cursors = omega (arith, now.invariant.count, now.invariant.heads, c.in-Some.ensures.0) in
     let fits : c.args.key < 2 ^ 64 = omega (arith, c.ranges.key.fits) in
-    passes_less g.C.RowCursor.shown g.C.RowCursor.goes g.met.C.AscendingCursor.rises c.args.key c.args.held c.in-Some.place c.args.cursors.now
+    passes_less g.C.RowCursor.shown g.C.RowCursor.goes g.met.C.AscendingCursor.rises c.args.key c.args.held c.in-Some.place
+    c.args.cursors.now
     now.cursors c.advance.new.cursors (heads_of now.contest) now.invariant.passes c.in-Some.ensures.1 lt fits
     c.in_default-advance.ensures.goes
 
