@@ -4,16 +4,16 @@ use Rattle.std.proofs.Common.{cond}
 use Rattle.std.proofs.Common.{arith, length}
 use Rattle.std.proofs.lemmas.Bool.{cases_lt, lt-ltb, le-ltb}
 use Rattle.std.proofs.lemmas.List.{length-append}
-use Rattle.hprof_merge.specs.Rows.{Row, Has, ShowsFirst}
+use Rattle.hprof_merge.specs.Rows.{Row, Has}
 use Rattle.hprof_merge.specs.Late.{in_order_above, rows_in_order}
-use Rattle.hprof_merge.specs.Showing.{Shows, only}
+use Rattle.hprof_merge.specs.Showing.{Shows}
 use Rattle.hprof_merge.specs.Skipping.{ShowsLate, IsSkippedTo, IsStillLate, FailsBehind}
 use Rattle.hprof_merge.specs.declared.skip_late.SkipLate.{SkipLate}
 use Rattle.hprof_merge.specs.SkipLate.{shown_skipping, GoesSkipping}
 use Rattle.hprof_merge.specs.declared.refuse_late.RefuseLate.{RefuseLate}
 use Rattle.hprof_merge.specs.RefuseLate.{shown_refusing, GoesUp}
 use Rattle.hprof_merge.proofs.Lists.{Has-append}
-use Rattle.hprof_merge.proofs.Showing.{shows_then, only-some}
+use Rattle.hprof_merge.proofs.Showing.{shows_then}
 
 module _ {C : Type 0} (shown : C → Option Row) (goes : C → C → Type 0) where
   -- so many rows whose keys are not above this one were skipped

@@ -1,5 +1,5 @@
 -- What a cursor does that fails at a late row.
-use Rattle.std.specs.Prelude.{◌≡◌, ◌<◌, ℕ, Option, Some}
+use Rattle.std.specs.Prelude.{◌≡◌, ◌<◌, Option, Some}
 use Rattle.hprof_merge.specs.declared.refuse_late.RefuseLate.{RefuseLate}
 use Rattle.hprof_merge.specs.declared.skip_late.LateFault.{LateFault}
 use Rattle.hprof_merge.specs.declared.skip_late.LateFault.TheVariants.{Inner, Late}
