@@ -2,17 +2,17 @@
 use Rattle.std.proofs.Common.{◌<◌, ◌≤◌, ◌++◌, ◌⊎◌, ℕ, zero, suc, Bool, cond, List, [], ◌∷◌, sym, subst, inl, inr}
 use Rattle.std.specs.Prelude.{◌↔◌}
 use Rattle.std.proofs.lemmas.Bool.{cases_lt, lt-ltb, le-ltb}
-use Rattle.hprof_merge.specs.Rows.{Row, Has}
-use Rattle.hprof_merge.specs.Union.{list_at, HaveSameRows}
+use Rattle.hprof_merge.specs.Rows.{ByteRow, Has}
+use Rattle.hprof_merge.specs.Union.{rows_at, HaveSameRows}
 use Rattle.hprof_merge.specs.Late.{in_order_above, late_above, rows_in_order, late_rows}
 use Rattle.hprof_merge.proofs.Unions.{either_has, front_has, back_has, first_has}
 
 -- a row of those in order above a key, or of the late ones
-module _ (key : ℕ) (first : Row) (rows : List Row) where
-  abbrev EitherHas : Row → Type 0
+module _ (key : ℕ) (first : ByteRow) (rows : List ByteRow) where
+  abbrev EitherHas : ByteRow → Type 0
   EitherHas row = Has (in_order_above key (first ∷ rows)) row ⊎ Has (late_above key (first ∷ rows)) row
 
-  when_above : key < first.0 → (row : Row) → EitherHas row
+  when_above : key < first.0 → (row : ByteRow) → EitherHas row
       ↔ (Has (first ∷ in_order_above first.0 rows) row ⊎ Has (late_above first.0 rows) row)
   when_above lt row =
       let t = lt-ltb key first.0 lt in
@@ -21,7 +21,7 @@ module _ (key : ℕ) (first : Row) (rows : List Row) where
       ⊎ Has (cond b (late_above first.0 rows) (first ∷ late_above key rows)) row) in
       (subst P t, subst P (sym t))
 
-  when_not : first.0 ≤ key → (row : Row) → EitherHas row ↔ (Has (in_order_above key rows) row ⊎ Has (first ∷ late_above key rows) row)
+  when_not : first.0 ≤ key → (row : ByteRow) → EitherHas row ↔ (Has (in_order_above key rows) row ⊎ Has (first ∷ late_above key rows) row)
   when_not le row =
       let t = le-ltb key first.0 le in
       let P : Bool → Type 0 =
@@ -29,7 +29,8 @@ module _ (key : ℕ) (first : Row) (rows : List Row) where
       ⊎ Has (cond b (late_above first.0 rows) (first ∷ late_above key rows)) row) in
       (subst P t, subst P (sym t))
 
-either_above : (key : ℕ) (rows : List Row) (row : Row) → Has rows row ↔ (Has (in_order_above key rows) row ⊎ Has (late_above key rows) row)
+either_above : (key : ℕ) (rows : List ByteRow) (row : ByteRow) → Has rows row
+    ↔ (Has (in_order_above key rows) row ⊎ Has (late_above key rows) row)
 either_above key [] row = ((λ has. inl has), (λ either. elim either [ inl has ↦ has | inr has ↦ has ]))
 either_above key (first ∷ rows) row = elim (cases_lt key first.0) [
   | inl lt ↦
@@ -58,7 +59,7 @@ either_above key (first ∷ rows) row = elim (cases_lt key first.0) [
       )
 ]
 
-in_order_or_late : (rows : List Row) (row : Row) → Has rows row ↔ (Has (rows_in_order rows) row ⊎ Has (late_rows rows) row)
+in_order_or_late : (rows : List ByteRow) (row : ByteRow) → Has rows row ↔ (Has (rows_in_order rows) row ⊎ Has (late_rows rows) row)
 in_order_or_late [] row = ((λ has. inl has), (λ either. elim either [ inl has ↦ has | inr has ↦ has ]))
 in_order_or_late (first ∷ rows) row =
     let rest = either_above first.0 rows row in (
@@ -72,11 +73,11 @@ in_order_or_late (first ∷ rows) row =
       ]),
     )
 
-only_has : (rows : List Row) (row : Row) (place : ℕ) → Has (list_at (rows ∷ []) place) row → Has rows row
+only_has : (rows : List ByteRow) (row : ByteRow) (place : ℕ) → Has (rows_at (rows ∷ []) place) row → Has rows row
 only_has rows row zero has = has
 only_has rows row (suc place) has = absurd has
 
-pub beside_late : (rows : List Row) (others rest : List (List Row)) → HaveSameRows others (late_rows rows ∷ [])
+pub beside_late : (rows : List ByteRow) (others rest : List (List ByteRow)) → HaveSameRows others (late_rows rows ∷ [])
     → HaveSameRows (rows_in_order rows ∷ (others ++ rest)) (rows ∷ rest)
 beside_late rows others rest same row = (
   (λ has. elim (first_has (rows_in_order rows) (others ++ rest) row has.0 has.1) [

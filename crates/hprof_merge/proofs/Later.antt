@@ -2,34 +2,36 @@
 use Rattle.std.proofs.Common.{◌≡◌, ◌<◌, ◌++◌, ◌⊎◌, ℕ, List, [], ◌∷◌, Option, Some, inl, inr, refl, sym, ap, subst, ◌∙◌, arith, length}
 use Rattle.std.proofs.Common.{get_or}
 use Rattle.std.proofs.lemmas.List.{length-map}
-use Rattle.hprof_merge.specs.Rows.{Row, Has, IsAscending}
-use Rattle.hprof_merge.specs.Union.{list_at, AnyHas, AllFrom}
+use Rattle.hprof_merge.specs.Rows.{ByteRow, Has, IsAscending}
+use Rattle.hprof_merge.specs.Union.{rows_at, AnyHas, AllFrom}
 use Rattle.hprof_merge.specs.Showing.{only, all_shown, Shows, AllShow}
 use Rattle.hprof_merge.specs.TwoContents.{IsLeastWithTwoContents}
-use Rattle.hprof_merge.proofs.Lists.{list_at-map, place_of_row}
+use Rattle.hprof_merge.proofs.Lists.{rows_at-map, place_of_row}
 use Rattle.hprof_merge.proofs.Showing.{only-has}
 use Rattle.hprof_merge.proofs.Unions.{either_has, front_has, back_has, least_same, later_rows}
 
-module _ {C : Type 0} (shown : C → Option Row) (goes : C → C → Type 0)
-    (rises : (old new : C) (row next : Row) → goes old new → shown old ≡ Some row → shown new ≡ Some next → row.0 < next.0) where
+module _ {C : Type 0} (shown : C → Option ByteRow) (goes : C → C → Type 0)
+    (rises : (old new : C) (row next : ByteRow) → goes old new → shown old ≡ Some row → shown new ≡ Some next → row.0 < next.0) where
   -- what is shown behind the first row is above it
-  shows_above : (old new : C) (row : Row) (rows : List Row) → Shows shown goes old (row ∷ rows) new → (other : Row) → Has rows other
+  shows_above : (old new : C) (row : ByteRow) (rows : List ByteRow) → Shows shown goes old (row ∷ rows) new → (other : ByteRow)
+      → Has rows other
       → row.0 < other.0
   shows_above old new row [] shows other has = absurd has
   shows_above old new row (next ∷ rows) shows other has =
       let mid : C = shows.1.0 in
       let lt : row.0 < next.0 = rises old mid row next shows.1.1 shows.0 shows.1.2.0 in
       elim has [
-        | inl e ↦ let same : other.0 ≡ next.0 = ap (λ (r : Row). r.0) e in omega arith
+        | inl e ↦ let same : other.0 ≡ next.0 = ap (λ (r : ByteRow). r.0) e in omega arith
         | inr behind ↦ let more = shows_above mid new next rows shows.1.2 other behind in omega arith
       ]
 
-  pub shows_ascend : (old new : C) (rows : List Row) → Shows shown goes old rows new → IsAscending rows
+  pub shows_ascend : (old new : C) (rows : List ByteRow) → Shows shown goes old rows new → IsAscending rows
   shows_ascend old new [] shows = tt
   shows_ascend old new (row ∷ rows) shows = (shows_above old new row rows shows, shows_ascend shows.1.0 new rows shows.1.2)
 
   -- the row that is shown in the end is above all before
-  pub shows_below : (old new : C) (rows : List Row) (next : Row) → Shows shown goes old rows new → shown new ≡ Some next → (row : Row)
+  pub shows_below : (old new : C) (rows : List ByteRow) (next : ByteRow) → Shows shown goes old rows new → shown new ≡ Some next
+      → (row : ByteRow)
       → Has rows row
       → row.0 < next.0
   shows_below old new [] next shows is row has = absurd has
@@ -37,25 +39,25 @@ module _ {C : Type 0} (shown : C → Option Row) (goes : C → C → Type 0)
   shows_below old new (first ∷ []) next shows is row (inl e) =
       let mid : C = shows.1.0 in
       let lt : first.0 < next.0 = rises old mid first next shows.1.1 shows.0 (ap shown shows.1.2 ∙ is) in
-      let same : row.0 ≡ first.0 = ap (λ (r : Row). r.0) e in
+      let same : row.0 ≡ first.0 = ap (λ (r : ByteRow). r.0) e in
       omega arith
   shows_below old new (first ∷ second ∷ rows) next shows is row (inl e) =
       let mid : C = shows.1.0 in
       let lt : first.0 < second.0 = rises old mid first second shows.1.1 shows.0 shows.1.2.0 in
       let more = shows_below mid new (second ∷ rows) next shows.1.2 is second (inl refl) in
-      let same : row.0 ≡ first.0 = ap (λ (r : Row). r.0) e in
+      let same : row.0 ≡ first.0 = ap (λ (r : ByteRow). r.0) e in
       omega arith
 
   -- each row is shown already, or above a row that is
-  shown_or_above : (old new : C) (rows : List Row) → Shows shown goes old rows new → (row : Row) → Has rows row
-      → (shown old ≡ Some row) ⊎ ((first : Row) × (shown old ≡ Some first) × (first.0 < row.0))
+  shown_or_above : (old new : C) (rows : List ByteRow) → Shows shown goes old rows new → (row : ByteRow) → Has rows row
+      → (shown old ≡ Some row) ⊎ ((first : ByteRow) × (shown old ≡ Some first) × (first.0 < row.0))
   shown_or_above old new [] shows row has = absurd has
-  shown_or_above old new (first ∷ rows) shows row (inl e) = inl (shows.0 ∙ ap (λ (r : Row). Some r) (sym e))
+  shown_or_above old new (first ∷ rows) shows row (inl e) = inl (shows.0 ∙ ap (λ (r : ByteRow). Some r) (sym e))
   shown_or_above old new (first ∷ rows) shows row (inr behind) = inr (first, shows.0, shows_above old new first rows shows row behind)
 
-  pub later_above : (old new : List C) (later : List (List Row)) (key : ℕ) → AllShow shown goes old new later
+  pub later_above : (old new : List C) (later : List (List ByteRow)) (key : ℕ) → AllShow shown goes old new later
       → AllFrom key (all_shown shown old)
-      → (row : Row) → AnyHas later row → AnyHas (all_shown shown old) row ⊎ (key < row.0)
+      → (row : ByteRow) → AnyHas later row → AnyHas (all_shown shown old) row ⊎ (key < row.0)
   later_above [] new later key all from row has =
       let lt = place_of_row later has.0 row has.1 in let none = all.lists in absurd (omega arith)
   later_above (cursor ∷ cursors) new later key all from row has =
@@ -64,20 +66,20 @@ module _ {C : Type 0} (shown : C → Option Row) (goes : C → C → Type 0)
       let as_many = all.lists in
       let lt : place < length (cursor ∷ cursors) = omega arith in
       let here : C = get_or (cursor ∷ cursors) place cursor in
-      let is : list_at (all_shown shown (cursor ∷ cursors)) place ≡ only (shown here) =
-      list_at-map (λ one. only (shown one)) (cursor ∷ cursors) place cursor lt in
-      let P : List Row → Row → Type 0 = λ l r. Has l r in
-      let there : (one : Row) → shown here ≡ Some one → Has (list_at (all_shown shown (cursor ∷ cursors)) place) one =
-      λ one shows. subst (λ (l : List Row). P l one) (sym (is ∙ ap only shows)) (inl refl) in
-      elim (shown_or_above here (get_or new place cursor) (list_at later place) (all.each place cursor lt) row has.1) [
+      let is : rows_at (all_shown shown (cursor ∷ cursors)) place ≡ only (shown here) =
+      rows_at-map (λ one. only (shown one)) (cursor ∷ cursors) place cursor lt in
+      let P : List ByteRow → ByteRow → Type 0 = λ l r. Has l r in
+      let there : (one : ByteRow) → shown here ≡ Some one → Has (rows_at (all_shown shown (cursor ∷ cursors)) place) one =
+      λ one shows. subst (λ (l : List ByteRow). P l one) (sym (is ∙ ap only shows)) (inl refl) in
+      elim (shown_or_above here (get_or new place cursor) (rows_at later place) (all.each place cursor lt) row has.1) [
         | inl shows ↦ inl (place, there row shows)
         | inr above ↦ let le = from above.0 (place, there above.0 above.1) in let more = above.2 in inr (omega arith)
       ]
 
   -- up to the end, the rows that are shown come among the later ones
-  shown_later : (old new : List C) (later : List (List Row)) → AllShow shown goes old new later
-      → ((row : Row) → AnyHas (all_shown shown new) row → ⊥)
-      → (row : Row) → AnyHas (all_shown shown old) row → AnyHas later row
+  shown_later : (old new : List C) (later : List (List ByteRow)) → AllShow shown goes old new later
+      → ((row : ByteRow) → AnyHas (all_shown shown new) row → ⊥)
+      → (row : ByteRow) → AnyHas (all_shown shown old) row → AnyHas later row
   shown_later [] new later all ended row has = absurd has.1
   shown_later (cursor ∷ cursors) new later all ended row has =
       let old : List C = cursor ∷ cursors in
@@ -86,30 +88,30 @@ module _ {C : Type 0} (shown : C → Option Row) (goes : C → C → Type 0)
       let lt : place < length old = omega (arith, length-map old (λ one. only (shown one))) in
       let here : C = get_or old place cursor in
       let after : C = get_or new place cursor in
-      let P : List Row → Type 0 = λ l. Has l row in
+      let P : List ByteRow → Type 0 = λ l. Has l row in
       let is : shown here ≡ Some row =
-      only-has (shown here) row (subst P (list_at-map (λ one. only (shown one)) old place cursor lt) has.1) in
+      only-has (shown here) row (subst P (rows_at-map (λ one. only (shown one)) old place cursor lt) has.1) in
       let after_lt : place < length new = omega (arith, all.count) in
       let ended_here : shown after ≡ Some row → ⊥ =
       λ same. ended row (
         place,
-        subst P (sym (list_at-map (λ one. only (shown one)) new place cursor after_lt ∙ ap only same))
+        subst P (sym (rows_at-map (λ one. only (shown one)) new place cursor after_lt ∙ ap only same))
             (inl refl),
       ) in
-      (place, among here after row (list_at later place) (all.each place cursor lt) is ended_here)
+      (place, among here after row (rows_at later place) (all.each place cursor lt) is ended_here)
     where
-      among : (here after : C) (row : Row) (rows : List Row) → Shows shown goes here rows after → shown here ≡ Some row
+      among : (here after : C) (row : ByteRow) (rows : List ByteRow) → Shows shown goes here rows after → shown here ≡ Some row
           → (shown after ≡ Some row → ⊥)
           → Has rows row
       among here after row [] same is never = absurd (never (ap shown (sym same) ∙ is))
       among here after row (first ∷ rows) shows is never = let both : Some row ≡ Some first = sym is ∙ shows.0 in inl cc
 
   -- the least key with two contents stays the least
-  pub least_later : (old new : List C) (came later : List (List Row)) (key : ℕ) → AllShow shown goes old new later
-      → ((row : Row) → AnyHas (all_shown shown new) row → ⊥) → AllFrom key (all_shown shown old)
+  pub least_later : (old new : List C) (came later : List (List ByteRow)) (key : ℕ) → AllShow shown goes old new later
+      → ((row : ByteRow) → AnyHas (all_shown shown new) row → ⊥) → AllFrom key (all_shown shown old)
       → IsLeastWithTwoContents (came ++ all_shown shown old) key → IsLeastWithTwoContents (came ++ later) key
   least_later old new came later key all ended from least =
-      let now : List (List Row) = all_shown shown old in
+      let now : List (List ByteRow) = all_shown shown old in
       least_same ((came ++ now) ++ later) (came ++ later) (λ row. (
         (λ has. elim (either_has (came ++ now) later row has.0 has.1) [
           | inl early ↦ elim (either_has came now row early.0 early.1) [

@@ -6,7 +6,7 @@ use Rattle.std.proofs.lemmas.List.{ext_get_or}
 use Rattle.std.proofs.Math.ListN.{get_or-map}
 use Rattle.std.proofs.lemmas.Bool.{cases_eq, cases_lt, lt-ltb, le-ltb}
 use Rattle.hprof_merge.specs.Tree.{node_at, lesser_of, IsDecided, IsDecidedBut, HasPlaces, IsTree, key_of, keys_from}
-use Rattle.hprof_merge.specs.Contest.{head_at, IsLeast}
+use Rattle.hprof_merge.specs.Contest.{head_at, IsLeastHead}
 
 -- one of two wins
 pub lesser-one : (one other : Option (ℕ × ℕ)) → (lesser_of one other ≡ one) ⊎ (lesser_of one other ≡ other)
@@ -123,7 +123,7 @@ key_of-some (Some one) key is = (one, refl, cc)
 
 -- the first node has a least key, with its place
 pub first_least : (nodes : List (Option (ℕ × ℕ))) (count : ℕ) → IsTree nodes count → 0 < count
-    → IsLeast (keys_from count nodes) (node_at nodes 1)
+    → IsLeastHead (keys_from count nodes) (node_at nodes 1)
 first_least nodes count tree some = by (node_at nodes 1) refl
   where
     low : (place : ℕ) → place < count → AtMost (node_at nodes 1) (node_at nodes (count + place))
@@ -150,7 +150,7 @@ first_least nodes count tree some = by (node_at nodes 1) refl
         let no_such : None ≡ Some found.0 = sym is ∙ found.1 in
         cc
 
-    by : (first : Option (ℕ × ℕ)) → node_at nodes 1 ≡ first → IsLeast (keys_from count nodes) first
+    by : (first : Option (ℕ × ℕ)) → node_at nodes 1 ≡ first → IsLeastHead (keys_from count nodes) first
     by None is = λ place. head-node count nodes place ∙ empty is place (node_at nodes (count + place)) refl
     by (Some first) is =
         let from : 2 * count ≤ 1 + 2 * count = omega arith in

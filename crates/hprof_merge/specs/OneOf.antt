@@ -2,7 +2,7 @@
 use Rattle.std.specs.Prelude.{◌≡◌, ◌<◌, Option, Some}
 use Rattle.hprof_merge.specs.declared.one_of.OneOf.{OneOf}
 use Rattle.hprof_merge.specs.declared.one_of.OneOf.TheVariants.{First, Second}
-use Rattle.hprof_merge.specs.Rows.{Row}
+use Rattle.hprof_merge.specs.Rows.{ByteRow}
 
 -- what its own kind shows of it
 abbrev pub of_either : {A B X : Type 0} → (A → X) → (B → X) → OneOf A B → X
@@ -31,11 +31,11 @@ fails_either first second (Second old) (First fault) new = ⊥
 fails_either first second (Second old) (Second fault) (First new) = ⊥
 
 -- if both kinds rise, it does
-pub either_rises : {A B : Type 0} (first : A → Option Row) (second : B → Option Row) (goes_first : A → A → Type 0)
+pub either_rises : {A B : Type 0} (first : A → Option ByteRow) (second : B → Option ByteRow) (goes_first : A → A → Type 0)
     (goes_second : B → B → Type 0)
-    → ((old new : A) (row next : Row) → goes_first old new → first old ≡ Some row → first new ≡ Some next → row.0 < next.0)
-    → ((old new : B) (row next : Row) → goes_second old new → second old ≡ Some row → second new ≡ Some next → row.0 < next.0)
-    → (old new : OneOf A B) (row next : Row) → goes_either goes_first goes_second old new → of_either first second old ≡ Some row
+    → ((old new : A) (row next : ByteRow) → goes_first old new → first old ≡ Some row → first new ≡ Some next → row.0 < next.0)
+    → ((old new : B) (row next : ByteRow) → goes_second old new → second old ≡ Some row → second new ≡ Some next → row.0 < next.0)
+    → (old new : OneOf A B) (row next : ByteRow) → goes_either goes_first goes_second old new → of_either first second old ≡ Some row
     → of_either first second new ≡ Some next → row.0 < next.0
 either_rises first second goes_first goes_second one other (First old) (First new) row next goes is next_is =
     one old new row next goes is next_is

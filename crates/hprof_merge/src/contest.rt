@@ -61,7 +61,7 @@ fn enter(nodes: &mut [Option<(u64, usize)>], count: usize, place: usize, head: O
 }
 
 impl Contest {
-    ghost use Rattle.hprof_merge.specs.Contest.{heads_of, head_at, IsLeast, IsPlaceOf};
+    ghost use Rattle.hprof_merge.specs.Contest.{heads_of, head_at, IsLeastHead, IsPlaceOfHead};
 
     /// Returns a contest of so many cursors, none of which is in it yet.
     pub(crate) fn new(alloc: Global, count: usize) -> Result<Self, AllocError>
@@ -86,7 +86,7 @@ impl Contest {
 
     /// Returns a least key with its place.
     pub(crate) fn first(&self) -> Option<(u64, usize)>
-        ensures { IsLeast (heads_of self.now) result }
+        ensures { IsLeastHead (heads_of self.now) result }
     {
         if self.count == 0 {
             return None;
@@ -97,7 +97,7 @@ impl Contest {
     /// Returns a place of a key to which none is lower.
     pub(crate) fn place_of(&self, key: u64) -> Option<usize>
         requires { (place other : ℕ) → head_at (heads_of self.now) place ≡ Some other → key ≤ other }
-        ensures { IsPlaceOf (heads_of self.now) key result }
+        ensures { IsPlaceOfHead (heads_of self.now) key result }
     {
         match self.first() {
             Some((least, place)) if least == key => Some(place),

@@ -1,12 +1,13 @@
 //! Merging cursors into a sink.
 
 ghost use Rattle.std.specs.Prelude.{◌≡◌, ◌<◌, ◌≤◌, ◌^◌, ◌↔◌, ℕ, Some, All, length, sum_by, slice_set, IsTrue, IfOk, OnOk, IfErr};
-ghost use Rattle.hprof_merge.specs.Rows.{Row, first_key, HaveSameFirst};
-ghost use Rattle.hprof_merge.specs.Union.{list_at, AnyHas};
+ghost use Rattle.hprof_merge.specs.Rows.{ByteRow, first_key, HaveSameFirst};
+ghost use Rattle.hprof_merge.specs.Union.{rows_at, AnyHas};
 ghost use Rattle.hprof_merge.specs.Contest.{heads_of, Matches, MatchesBut};
 ghost use Rattle.hprof_merge.specs.Merging.{GivesFirst, AllAbove};
 ghost use Rattle.hprof_merge.specs.Showing.{only, all_shown, GoesAt};
-ghost use Rattle.hprof_merge.specs.Stopping.{IsFaultAt, Leaves, PassesOver, StopsOver, MergesAll, StopsAt, UnlessRefused, room_of};
+ghost use Rattle.hprof_merge.specs.Stopping.{IsFaultAt, LeavesCursors, PassesEquals, StopsPassing, room_of};
+ghost use Rattle.hprof_merge.specs.Stopping.{MergesAll, StopsMerging, UnlessRefused};
 
 use crate::contest::Contest;
 use crate::merge_stop::MergeStop;
@@ -76,10 +77,10 @@ fn advance<C: RowCursor, F>(
     requires well { All C.well cursors.old }
     ensures goes { OnOk result (GoesAt C.goes place cursors.old cursors.new) }
     ensures heads { OnOk result (heads_of contest.new
-        ≡ slice_set (heads_of contest.old) place (first_key (list_at (all_shown C.shown cursors.new) place))) }
+        ≡ slice_set (heads_of contest.old) place (first_key (rows_at (all_shown C.shown cursors.new) place))) }
     ensures count { OnOk result (length (heads_of contest.new) ≡ length (heads_of contest.old)) }
     ensures well { OnOk result (All C.well cursors.new) }
-    ensures stop { IfErr result (λ stop. IsFaultAt place stop × Leaves C.fails stop cursors.old cursors.new) }
+    ensures stop { IfErr result (λ stop. IsFaultAt place stop × LeavesCursors C.fails stop cursors.old cursors.new) }
 {
     if let Err(fault) = cursors[place].advance() {
         return Err(MergeStop::Cursor(place, fault));
@@ -99,17 +100,17 @@ fn pass_equals<C: AscendingCursor, F>(
     requires held { held < length cursors.old }
     requires count { length (heads_of contest.old) ≡ length cursors.old }
     requires well { All C.well cursors.old }
-    requires key { first_key (list_at (all_shown C.shown cursors.old) held) ≡ Some key }
+    requires key { first_key (rows_at (all_shown C.shown cursors.old) held) ≡ Some key }
     requires matches { MatchesBut held (heads_of contest.old) (all_shown C.shown cursors.old) }
-    requires least { (row : Row) → AnyHas (all_shown C.shown cursors.old) row → key ≤ row.0 }
+    requires least { (row : ByteRow) → AnyHas (all_shown C.shown cursors.old) row → key ≤ row.0 }
     ensures fits { OnOk result (key < 2 ^ 64) }
-    ensures level { OnOk result (PassesOver C.shown C.goes key held cursors.old cursors.new (heads_of contest.new)) }
+    ensures level { OnOk result (PassesEquals C.shown C.goes key held cursors.old cursors.new (heads_of contest.new)) }
     ensures above { OnOk result (AllAbove key held (all_shown C.shown cursors.new)) }
     ensures well { OnOk result (All C.well cursors.new) }
     ensures heads { OnOk result (length (heads_of contest.new) ≡ length cursors.old) }
     ensures fewer { OnOk result
         (sum_by room_of (all_shown C.shown cursors.new) ≤ sum_by room_of (all_shown C.shown cursors.old)) }
-    ensures stop { IfErr result (StopsOver C.shown C.goes C.fails key held cursors.old cursors.new) }
+    ensures stop { IfErr result (StopsPassing C.shown C.goes C.fails key held cursors.old cursors.new) }
 {
     while let Some(place) = contest.place_of(key) {
         if !agree(&cursors[held], &cursors[place]) {
@@ -141,7 +142,8 @@ pub fn merge_rows<C: AscendingCursor, T: RowSink>(
     requires sink { T.well sink.old }
     ensures merged { OnOk result (MergesAll C.shown C.goes T.steps cursors.old cursors.new sink.old sink.new) }
     ensures well { OnOk result (All C.well cursors.new × T.well sink.new) }
-    ensures stop { IfErr result (λ stop. StopsAt C.shown C.goes T.steps C.fails T.refuses cursors.old cursors.new stop sink.old sink.new) }
+    ensures stop { IfErr result (λ stop.
+        StopsMerging C.shown C.goes T.steps C.fails T.refuses cursors.old cursors.new stop sink.old sink.new) }
     ensures sink { IfErr result (UnlessRefused (T.well sink.new)) }
 {
     let Ok(mut contest) = enter(alloc, cursors) else {

@@ -1,6 +1,6 @@
 use Rattle.std.proofs.Common.{List, ◌∙◌, ap, length, set}
 use Rattle.std.proofs.lemmas.List.{length-set}
-use Rattle.hprof_merge.specs.Rows.{Row}
+use Rattle.hprof_merge.specs.Rows.{ByteRow}
 use Rattle.hprof_merge.specs.Showing.{only}
 use Rattle.hprof_merge.specs.Contest.{heads_of}
 use Rattle.hprof_merge.proofs.Entering.{one_more_head, no_more_heads}
@@ -8,7 +8,7 @@ use Rattle.hprof_merge.proofs.merging.enter.Goals as goal
 
 pub loop-place-preserved : goal.loop-place-preserved
 loop-place-preserved g c =
-    let rows : g.row.C.Denot → List Row = λ cursor. only (g.C.RowCursor.shown cursor) in
+    let rows : g.row.C.Denot → List ByteRow = λ cursor. only (g.C.RowCursor.shown cursor) in
     let cursors = c.args.cursors.now in
     let now = c.loop-place in
     let cursor = c.index-cursors-place in

@@ -1,8 +1,8 @@
 use Rattle.std.proofs.Common.{◌<◌, List, length, get_or, arith, ◌∙◌, sym}
-use Rattle.hprof_merge.specs.Rows.{Row}
+use Rattle.hprof_merge.specs.Rows.{ByteRow}
 use Rattle.hprof_merge.specs.Contest.{heads_of}
 use Rattle.hprof_merge.specs.Showing.{only}
-use Rattle.hprof_merge.proofs.Lists.{list_at-map}
+use Rattle.hprof_merge.proofs.Lists.{rows_at-map}
 use Rattle.hprof_merge.proofs.Showing.{goes_count}
 use Rattle.hprof_merge.proofs.Rounds.{so_far_begins, no_memory, so_far_ends, shown_key, shown_least, over_stops, over_refused}
 use Rattle.hprof_merge.proofs.Rounds.{over_fault, over_goes, round_less, round_keys}
@@ -41,7 +41,7 @@ returns-in-Err-clause-stop g c =
 
 pub returns-in-Err-give-clause-stop : goal.returns-in-Err-give-clause-stop
 returns-in-Err-give-clause-stop g c =
-    let rows : g.row.C.Denot → List Row = λ cursor. only (g.C.RowCursor.shown cursor) in
+    let rows : g.row.C.Denot → List ByteRow = λ cursor. only (g.C.RowCursor.shown cursor) in
     let now = c.loop-key in
     let level = c.in_default-pass_equals.ensures in
     let mid = c.pass_equals.new.cursors in
@@ -51,11 +51,11 @@ returns-in-Err-give-clause-stop g c =
     (heads_of now.contest) c.in-Some.key c.in-Some.place c.args.sink.now now.sink now.invariant.so_far now.invariant.matches
     c.in-Some.ensures mid (heads_of c.pass_equals.new.contest) level.level level.above
     (rows (get_or mid c.in-Some.place c.index-cursors-place.result))
-    (list_at-map rows mid c.in-Some.place c.index-cursors-place.result lt) c.in-Err-give.fault c.give.new.sink c.in-Err-give.ensures.given
+    (rows_at-map rows mid c.in-Some.place c.index-cursors-place.result lt) c.in-Err-give.fault c.give.new.sink c.in-Err-give.ensures.given
 
 pub returns-in-Err-advance-clause-stop : goal.returns-in-Err-advance-clause-stop
 returns-in-Err-advance-clause-stop g c =
-    let rows : g.row.C.Denot → List Row = λ cursor. only (g.C.RowCursor.shown cursor) in
+    let rows : g.row.C.Denot → List ByteRow = λ cursor. only (g.C.RowCursor.shown cursor) in
     let now = c.loop-key in
     let level = c.in_default-pass_equals.ensures in
     let mid = c.pass_equals.new.cursors in
@@ -65,7 +65,7 @@ returns-in-Err-advance-clause-stop g c =
     (heads_of now.contest) c.in-Some.key c.in-Some.place c.args.sink.now now.sink now.invariant.so_far now.invariant.matches
     c.in-Some.ensures mid (heads_of c.pass_equals.new.contest) level.level level.above
     (rows (get_or mid c.in-Some.place c.index-cursors-place.result))
-    (list_at-map rows mid c.in-Some.place c.index-cursors-place.result lt) c.give.new.sink c.in_default-give.ensures.given
+    (rows_at-map rows mid c.in-Some.place c.index-cursors-place.result lt) c.give.new.sink c.in_default-give.ensures.given
     c.advance.new.cursors c.in-Err-advance.stop c.in-Err-advance.ensures.stop.0 c.in-Err-advance.ensures.stop.1
 
 pub loop-key-smaller : goal.loop-key-smaller
@@ -84,7 +84,7 @@ loop-key-smaller g c =
 
 pub loop-key-preserved : goal.loop-key-preserved
 loop-key-preserved g c =
-    let rows : g.row.C.Denot → List Row = λ cursor. only (g.C.RowCursor.shown cursor) in
+    let rows : g.row.C.Denot → List ByteRow = λ cursor. only (g.C.RowCursor.shown cursor) in
     let now = c.loop-key in
     let level = c.in_default-pass_equals.ensures in
     let mid = c.pass_equals.new.cursors in
@@ -98,7 +98,7 @@ loop-key-preserved g c =
           (heads_of now.contest) c.in-Some.key c.in-Some.place c.args.sink.now now.sink now.invariant.so_far now.invariant.matches
           c.in-Some.ensures mid (heads_of c.pass_equals.new.contest) level.level level.above
           (rows (get_or mid c.in-Some.place c.index-cursors-place.result))
-          (list_at-map rows mid c.in-Some.place c.index-cursors-place.result lt) c.give.new.sink c.in_default-give.ensures.given
+          (rows_at-map rows mid c.in-Some.place c.index-cursors-place.result lt) c.give.new.sink c.in_default-give.ensures.given
           g.met.C.AscendingCursor.rises c.advance.new.cursors lt ok.goes;
       matches = round_keys g.C.RowCursor.shown g.C.RowCursor.goes c.in-Some.place mid c.advance.new.cursors
           (heads_of c.pass_equals.new.contest)

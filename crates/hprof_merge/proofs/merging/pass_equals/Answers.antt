@@ -1,5 +1,5 @@
 use Rattle.std.proofs.Common.{◌<◌, ◌^◌, List, refl, length, arith, ◌∙◌}
-use Rattle.hprof_merge.specs.Rows.{Row}
+use Rattle.hprof_merge.specs.Rows.{ByteRow}
 use Rattle.hprof_merge.specs.Contest.{heads_of}
 use Rattle.hprof_merge.specs.Showing.{only, all_shown}
 use Rattle.hprof_merge.proofs.Entering.{same_lists, not_true}
@@ -25,7 +25,7 @@ place_of-requires g c =
 
 pub returns-then-not-agree-clause-stop : goal.returns-then-not-agree-clause-stop
 returns-then-not-agree-clause-stop g c =
-    let rows : g.row.C.Denot → List Row = λ cursor. only (g.C.RowCursor.shown cursor) in
+    let rows : g.row.C.Denot → List ByteRow = λ cursor. only (g.C.RowCursor.shown cursor) in
     let now = c.loop-place in
     let held_lt : c.args.held < length now.cursors = omega (arith, c.requires.held, now.invariant.count) in
     let lt : c.in-Some.place < length now.cursors = omega (arith, now.invariant.count, now.invariant.heads, c.in-Some.ensures.0) in
@@ -54,7 +54,7 @@ loop-place-smaller g c =
 
 pub loop-place-preserved : goal.loop-place-preserved
 loop-place-preserved g c =
-    let rows : g.row.C.Denot → List Row = λ cursor. only (g.C.RowCursor.shown cursor) in
+    let rows : g.row.C.Denot → List ByteRow = λ cursor. only (g.C.RowCursor.shown cursor) in
     let now = c.loop-place in
     let held_lt : c.args.held < length now.cursors = omega (arith, c.requires.held, now.invariant.count) in
     let lt : c.in-Some.place < length now.cursors = omega (arith, now.invariant.count, now.invariant.heads, c.in-Some.ensures.0) in
