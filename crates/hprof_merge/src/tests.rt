@@ -17,10 +17,6 @@ struct Listed<'a> {
     rows: &'a [(u64, &'a [u8])],
 }
 
-/// The fault of a cursor that never fails.
-#[derive(Clone, Copy, Debug, PartialEq, Eq)]
-enum Never {}
-
 impl RowCursor for Listed<'_> {
     ghost use Rattle.std.specs.Prelude.{slice_get, drop};
     ghost use Rattle.std.specs.Option.{option_map};
@@ -33,7 +29,7 @@ impl RowCursor for Listed<'_> {
 
     ghost well = { λ it. ⊤ };
 
-    type Fault = Never;
+    type Fault = ();
 
     fn current(&self) -> Option<(u64, &[u8])> {
         match self.rows.first() {
@@ -42,7 +38,7 @@ impl RowCursor for Listed<'_> {
         }
     }
 
-    fn advance(&mut self) -> Result<(), Never> {
+    fn advance(&mut self) -> Result<(), ()> {
         if let [_, rest @ ..] = self.rows {
             self.rows = rest;
         }
