@@ -41,9 +41,9 @@ class Sample(unittest.TestCase):
         self.assertEqual((page.title, page.heading), (f"Overview \u00b7 friday.hprof, {time_of(FRIDAY)}", "Overview"))
         self.assertIn("1,949 bytes in 116 objects of 9 classes and types.", page.text)
         self.assertEqual(page.rows[:3], [
-            ["Class or type", "Bytes", "Share", "Objects", "Identifier"],
-            ["byte[]", "605", "31.0 %", "40", ""],
-            ["java.lang.String", "406", "20.8 %", "29", "740000070"],
+            ["Class or type", "Bytes", "Share", "Objects", "Retained bytes", "Identifier"],
+            ["byte[]", "605", "31.0 %", "40", "509", ""],
+            ["java.lang.String", "406", "20.8 %", "29", "482", "740000070"],
         ])
         self.assertEqual(len([row for row in page.rows if row[0] in ("java.lang.Thread", "shop.Session")]), 2)
         self.assertEqual(page.rows[-1], ["0", "friday.hprof", "1.0.2", "2026-11-27 08:00:00 UTC", "8", "72", "209", "yes"])

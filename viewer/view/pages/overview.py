@@ -15,6 +15,7 @@ from ..visit import Missing
 
 # The rows of a page, and the parts that are told.
 ROWS, PARTS = 100, 2000
+RETAINED = b"retained"
 
 
 def moment(milliseconds):
@@ -76,6 +77,16 @@ class Weights:
         return max((one.bytes for one in self.named.values()), default=0)
 
 
+def retained_by_label(answer):
+    """The retained bytes of each label, but for names that are too long to be told apart."""
+    found = {}
+    for line in answer.lines(limit=LONGEST + 100):
+        size, _, _, label = line.split(b" ", 3)
+        if len(label) <= LONGEST:
+            found[label] = int(size)
+    return found
+
+
 def part_row(name, words):
     """A line `part 0: version 1.0.2 ids 8 time 1 records 2 facts 3 end yes`, of the part with this name."""
     _, index, _, version, _, ids, _, time, _, records, _, facts, _, end = words
@@ -102,7 +113,9 @@ def classes_link(frame, one):
     return joined([link(address, name_of(one.label)), " ", element("small", f"{thousands(one.classes)} classes")])
 
 
-def weight_row(frame, weights, largest, one):
+def weight_row(frame, weights, retained, one):
+    """The row of a class or a type. `retained` is None where hprof cannot tell it."""
+    largest = weights.largest()
     share = f"{100 * one.bytes / weights.bytes:.1f} %" if weights.bytes else ""
     track = element("span", bar(one.bytes, largest), class_="track")
     id = f"{one.kind:x}" if isinstance(one.kind, int) and one.classes == 1 else ""
@@ -111,6 +124,7 @@ def weight_row(frame, weights, largest, one):
         number(thousands(one.bytes)),
         cell(joined([track, share]), "share"),
         number(thousands(one.objects)),
+        *([] if retained is None else [number(thousands(retained.get(one.label, 0)) if len(one.label) <= LONGEST else "")]),
         cell(element("span", id, class_="bits"), "extra"),
     )
 
@@ -132,6 +146,7 @@ def filter_words(word):
 
 
 def summary(weights):
+    """The totals, and how bytes are counted."""
     kinds = counted(len(weights.named), "class or type", "classes and types")
     totals = f"{counted(weights.bytes, 'byte')} in {counted(weights.objects, 'object')} of {kinds}. "
     return element("p", totals, "Bytes are the field and element data in the dump, without object headers and padding.")
@@ -144,8 +159,11 @@ def show(visit):
     part = weights.page_of(Wanted(word), page(visit.number(), ROWS))
     if not is_there(part):
         raise Missing
-    heads = ["Class or type", ("Bytes", "n", "descending"), ("Share", "n share"), ("Objects", "n"), ("Identifier", "plain extra")]
-    rows = [weight_row(visit.frame, weights, weights.largest(), one) for one in part.entries]
+    can_tell = RETAINED in visit.heap.questions
+    retained = visit.heap.ask_once("retained", retained_by_label) if can_tell else None
+    heads = ["Class or type", ("Bytes", "n", "descending"), ("Share", "n share"), ("Objects", "n")]
+    heads += [("Retained bytes", "n")] * can_tell + [("Identifier", "plain extra")]
+    rows = [weight_row(visit.frame, weights, retained, one) for one in part.entries]
     none = "No class or type has such a name." if weights.named else "The dump has no objects."
     return visit.frame.page(
         "Overview",
