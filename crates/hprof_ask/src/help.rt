@@ -67,8 +67,15 @@ keep it alive, from the outermost down to itself, each with the bytes and the
 number of objects that would go without it; and behind two spaces what the pieces
 are, added up by class: bytes, number, class. Sums below a tenth are left out.
 
-    $ hprof suspects friday.hprof | sed -n 2,9p
-EXAMPLE
+    $ hprof suspects friday.hprof | sed -n 3,10p
+    suspect 60% 1050
+    1131 68 740000380 jdk/internal/loader/ClassLoaders$AppClassLoader
+    1098 63 7400004d8 java/util/ArrayList
+    1082 62 7400004b8 [Ljava/lang/Object;
+    1066 61 740000410 class shop/Server
+    1066 60 740000e58 java/util/ArrayList
+    1050 59 740000df8 [Ljava/lang/Object;
+      970 7 shop/Session
 
 Of a long chain of objects the first ten and the last ten are printed. Objects of
 one class that keep each other, as the cells of a list, count as one. A suspect
