@@ -42,7 +42,8 @@ class Suspects(unittest.TestCase):
     def test_the_overview(self):
         viewer = self.viewer(ANSWERS)
         page = viewer.page("")
-        self.assertIn("Where the memory is held60 %Node 1013holds 6,000 bytes: 5,000 bytes in 7 shop.Session; 900 bytes in 3 byte[]", page.text)
+        pieces = "5,000 bytes in 7 shop.Session; 900 bytes in 3 byte[]"
+        self.assertIn(f"Where the memory is held60 %Node 1013holds 6,000 bytes: {pieces}", page.text)
         self.assertIn("kept by 19 objects aboveNode 1000", page.text)
         self.assertIn("Node 1009and 30 moreNode 100a", page.text)
         self.assertIn("30 %class <b> 2aholds 3,000 bytes", page.text)
