@@ -1,0 +1,14 @@
+pub mod Rows
+pub mod Union
+pub mod TwoContents
+pub mod Run
+pub mod Tree
+pub mod Contest
+pub mod Merging
+pub mod Showing
+pub mod Stopping
+pub mod Late
+pub mod Skipping
+pub mod SkipLate
+pub mod RefuseLate
+pub mod OneOf

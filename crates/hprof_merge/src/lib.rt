@@ -1,0 +1,25 @@
+//! Merges rows of several cursors into a sink. A row is a key and bytes. The rows of a cursor ascend by key. The sink is given each row
+//! once, in ascending order, or the merge tells the least key with two contents.
+//!
+//! Only `merge_rows` allocates: two entries for each cursor, before the first row.
+#![tactic(auto)]
+
+mod contest;
+pub mod laws;
+mod merge_stop;
+mod merging;
+mod one_of;
+mod refuse_late;
+mod row_cursor;
+mod row_sink;
+mod skip_late;
+#[cfg(test)]
+mod tests;
+
+pub use merge_stop::MergeStop;
+pub use merging::merge_rows;
+pub use one_of::OneOf;
+pub use refuse_late::RefuseLate;
+pub use row_cursor::{AscendingCursor, RowCursor};
+pub use row_sink::RowSink;
+pub use skip_late::{LateFault, SkipLate};
