@@ -284,6 +284,11 @@ def namesakes(count):
     return b"".join(records) + part(instance(number, number, b"\0") for number in range(1, count + 1))[len(HEADER):]
 
 
+def rooted_namesakes(count):
+    """The same, each a root."""
+    return namesakes(count) + part(sticky(number) for number in range(1, count + 1))[len(HEADER):]
+
+
 def descending(count):
     """So many instances of one class, the last identifier first, each of one byte."""
     return part(instance(number, 1, b"\0") for number in range(count, 0, -1))
@@ -457,6 +462,8 @@ def keeps_cases(less):
         ("3,000,000 diamonds in a row", lambda: diamonds(third), ["keeps", "1"], kept(4 * 4 * third, 3 * third + 1, 3)),
         ("2,000,000 diamonds in one another", lambda: nested(quarter), ["keeps", "1"],
          kept(4 * (3 * quarter + 2 * quarter - 1), 4 * quarter, 3)),
+        ("1,000,000 classes of one name, with an object each that is a root", lambda: rooted_namesakes(million), ["retained"],
+         lambda lines: lines == [f"{million} {million} {million} A"]),
         ("a chain of arrays above a binomial tree, 8,000,000 in all", lambda: forests(8 * million), ["keeps", "1"],
          lambda lines: len(lines) == 3 and lines[1].endswith(f" {8 * million} 1 \\?")),
     ]
