@@ -1,0 +1,7 @@
+pub mod Found
+pub mod Numbering
+pub mod Labelled
+pub mod OneLabel
+pub mod Joined
+pub mod OwnSoFar
+pub mod KeptSoFar

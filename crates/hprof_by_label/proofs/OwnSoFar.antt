@@ -1,0 +1,212 @@
+-- The sums over the nodes of each label, number by number.
+use Rattle.std.proofs.Common.{◌≡◌, ◌≢◌, ◌⊎◌, ◌<◌, ◌≤◌, ◌+◌, ◌*◌, ◌^◌, ◌↔◌, ◌∙◌, ℕ, List, length, refl, sym, ap, subst, inl, inr, arith, replicate, slice_index, slice_set, get_or-set_other, get_or-set_same}
+use Rattle.std.proofs.lemmas.Bool.{cases_eq, cases_lt}
+use Rattle.std.proofs.lemmas.List.{get_or-replicate, length-replicate}
+use Rattle.std.proofs.Math.ListN.{length-set}
+use Rattle.hprof_values.specs.declared.ids.IdSize.{IdSize}
+use Rattle.hprof_items.specs.FactValue.{FactValue}
+use Rattle.hprof_rows.specs.Conflict.{IsConsistent}
+use Rattle.hprof_dominators.specs.Tree as tree
+use Rattle.hprof_numbers.specs.Numbered.{nodes_in}
+use Rattle.hprof_retained.specs.Retained.{IsHeld, IsSizeOf, IsSumOver, Sum}
+use Rattle.hprof_retained.specs.Tree.{IsTreeOf, count_of, node_at, place_of}
+use Rattle.hprof_retained.specs.declared.retained.Retained.{Retained}
+use Rattle.hprof_by_label.specs.LabelRows.{IsHeldWith}
+use Rattle.hprof_by_label.specs.Labels.{AreNodeLabels, label_at, label_count, label_text}
+use Rattle.hprof_by_label.specs.NodeLabel.{IsNodeLabel}
+use Rattle.hprof_by_label.specs.Sums.{AreOwnSums}
+use Rattle.hprof_by_label.specs.declared.labels.NodeLabels.{NodeLabels}
+use Rattle.hprof_by_label.proofs.Joined.{both, sum_of_none, sum_of_one, sums_alike, sums_joined}
+use Rattle.hprof_by_label.proofs.Labelled.{numbered_node, numbered_place, one_number}
+use Rattle.hprof_by_label.proofs.OneLabel.{one_node_label}
+
+-- one of the numbers below a bound is that of the node, which has that label
+abbrev pub IsOwnTo : Retained → NodeLabels → ℕ → ℕ → ℕ → Type 0
+IsOwnTo retained labels label done node = (number : ℕ) × (number < done) × (numbered_node retained number ≡ node)
+    × (0 < numbered_place retained number) × (label_at labels (numbered_place retained number) ≡ label)
+
+module _ (ids : IdSize) (facts : List FactValue) (retained : Retained) (labels : NodeLabels) where
+  -- the sums over the numbers below a bound
+  pub record AreOwnTo (bytes counts : List ℕ) (done : ℕ) : Type 0 where
+    pub as_many : length bytes ≡ label_count labels
+    pub as_many_counts : length counts ≡ label_count labels
+    pub own : (label : ℕ) → label < label_count labels
+        → IsSumOver ids facts (IsOwnTo retained labels label done) (record { bytes = slice_index bytes label; objects = slice_index counts label })
+    pub few : (label : ℕ) → label < label_count labels → slice_index counts label ≤ done
+    pub small : (label : ℕ) → label < label_count labels → slice_index bytes label + done ≤ done * 2 ^ 64
+
+  pub own_begin : (bytes counts : List ℕ) → bytes ≡ replicate (label_count labels) 0 → counts ≡ replicate (label_count labels) 0
+      → AreOwnTo bytes counts 0
+  own_begin bytes counts bytes_are counts_are =
+      let zero_bytes : (label : ℕ) → label < label_count labels → slice_index bytes label ≡ 0 =
+      λ label low. ap (λ l. slice_index l label) bytes_are ∙ get_or-replicate (label_count labels) label 0 0 low in
+      let zero_counts : (label : ℕ) → label < label_count labels → slice_index counts label ≡ 0 =
+      λ label low. ap (λ l. slice_index l label) counts_are ∙ get_or-replicate (label_count labels) label 0 0 low in
+      record {
+        as_many = ap length bytes_are ∙ length-replicate (label_count labels) 0;
+        as_many_counts = ap length counts_are ∙ length-replicate (label_count labels) 0;
+        own = λ label low.
+            let none = sum_of_none ids facts (IsOwnTo retained labels label 0) (λ node own. let less = own.1 in omega arith) in
+            subst (IsSumOver ids facts (IsOwnTo retained labels label 0))
+            (λ i. record { bytes = sym (zero_bytes label low) i; objects = sym (zero_counts label low) i }) none;
+        few = λ label low. let none = zero_counts label low in omega arith;
+        small = λ label low. let none = zero_bytes label low in omega arith;
+      }
+
+  module _ (done : ℕ) where
+    -- a number that is not of the label
+    own_skipped : (label : ℕ) (sum : Sum)
+        → (0 < numbered_place retained done → label_at labels (numbered_place retained done) ≡ label → ⊥)
+        → IsSumOver ids facts (IsOwnTo retained labels label done) sum → IsSumOver ids facts (IsOwnTo retained labels label (done + 1)) sum
+    own_skipped label sum other =
+        sums_alike ids facts (IsOwnTo retained labels label done) (IsOwnTo retained labels label (done + 1)) sum (λ node. (
+          λ own. let low = own.1 in (own.0, omega arith, own.2, own.3, own.4),
+          λ own. let low = own.1 in elim (cases_eq own.0 done) [
+            | inl same ↦
+                absurd (other (subst (λ n. 0 < numbered_place retained n) same own.3)
+                (subst (λ n. label_at labels (numbered_place retained n) ≡ label) same own.4))
+            | inr before ↦ (own.0, omega arith, own.2, own.3, own.4)
+          ],
+        ))
+
+    -- one that is
+    own_added : IsTreeOf ids facts retained → (label size : ℕ) (sum : Sum) → 0 < numbered_place retained done
+        → label_at labels (numbered_place retained done) ≡ label → IsSizeOf ids facts (numbered_node retained done) size
+        → IsSumOver ids facts (IsOwnTo retained labels label done) sum
+        → IsSumOver ids facts (IsOwnTo retained labels label (done + 1)) (both sum (record { bytes = size; objects = 1 }))
+    own_added tree_is label size sum some here is_size before =
+        sums_joined (IsOwnTo retained labels label done) (λ node. node ≡ numbered_node retained done) (IsOwnTo retained labels label (done + 1))
+        (λ node own same.
+        let place = own.3 in
+        let one = one_place own.0 place in
+        let this = one_place done some in
+        let places = sym one ∙ ap (place_of retained) (own.2 ∙ same) ∙ this in
+        let numbers = one_number retained own.0 done place places in
+        let low = own.1 in
+        omega arith)
+        (λ node. (
+          λ own. let low = own.1 in elim (cases_eq own.0 done) [
+            | inl same ↦ inr (sym own.2 ∙ ap (numbered_node retained) same)
+            | inr other ↦ inl (own.0, omega arith, own.2, own.3, own.4)
+          ],
+          λ either. elim either [
+            | inl own ↦ let low = own.1 in (own.0, omega arith, own.2, own.3, own.4)
+            | inr same ↦ (done, omega arith, sym same, some, here)
+          ],
+        ))
+        ids facts sum (record { bytes = size; objects = 1 }) before (sum_of_one ids facts (numbered_node retained done) size is_size) where
+      -- the place of the node with a number
+      one_place : (number : ℕ) → 0 < numbered_place retained number
+          → place_of retained (numbered_node retained number) ≡ numbered_place retained number
+      one_place number place =
+          let at = retained.numbered.new number place in
+          let same = ap (slice_index (nodes_in retained.nodes)) at.1 in
+          sym (ap (place_of retained) same) ∙ (tree_is.held (numbered_place retained number) place at.0).1
+
+  pub own_more_none : (bytes counts : List ℕ) (done : ℕ) → AreOwnTo bytes counts done → numbered_place retained done ≡ 0
+      → AreOwnTo bytes counts (done + 1)
+  own_more_none bytes counts done so none = record {
+    as_many = so.as_many;
+    as_many_counts = so.as_many_counts;
+    own = λ label low. own_skipped done label _ (λ some is. absurd (omega arith)) (so.own label low);
+    few = λ label low. let few = so.few label low in omega arith;
+    small = λ label low. let small = so.small label low in omega arith;
+  }
+
+  pub own_more : (bytes counts : List ℕ) (done size : ℕ) → IsTreeOf ids facts retained → AreOwnTo bytes counts done
+      → 0 < numbered_place retained done → label_at labels (numbered_place retained done) < label_count labels → size < 2 ^ 64
+      → IsSizeOf ids facts (numbered_node retained done) size
+      → AreOwnTo (slice_set bytes (label_at labels (numbered_place retained done))
+      (slice_index bytes (label_at labels (numbered_place retained done)) + size))
+      (slice_set counts (label_at labels (numbered_place retained done))
+      (slice_index counts (label_at labels (numbered_place retained done)) + 1)) (done + 1)
+  own_more bytes counts done size tree_is so some within fits is_size = record {
+    as_many = length-set bytes here (slice_index bytes here + size) ∙ so.as_many;
+    as_many_counts = length-set counts here (slice_index counts here + 1) ∙ so.as_many_counts;
+    own = λ label low. elim (cases_eq label here) [
+      | inl same ↦
+          subst (λ l. IsSumOver ids facts (IsOwnTo retained labels l (done + 1)) (sum_of l)) (sym same)
+          (subst (IsSumOver ids facts (IsOwnTo retained labels here (done + 1)))
+          (λ i. record { bytes = sym put_bytes i; objects = sym put_counts i })
+          (own_added done tree_is here size (record { bytes = slice_index bytes here; objects = slice_index counts here }) some refl is_size
+          (so.own here within)))
+      | inr other ↦
+          subst (IsSumOver ids facts (IsOwnTo retained labels label (done + 1)))
+          (λ i. record { bytes = sym (kept_bytes label other) i; objects = sym (kept_counts label other) i })
+          (own_skipped done label (record { bytes = slice_index bytes label; objects = slice_index counts label })
+          (λ place is. other (sym is)) (so.own label low))
+    ];
+    few = λ label low. let before = so.few label low in elim (cases_eq label here) [
+      | inl same ↦ let put = ap (slice_index new_counts) same ∙ put_counts in let old = ap (slice_index counts) same in omega arith
+      | inr other ↦ let kept = kept_counts label other in omega arith
+    ];
+    small = λ label low. let before = so.small label low in elim (cases_eq label here) [
+      | inl same ↦ let put = ap (slice_index new_bytes) same ∙ put_bytes in let old = ap (slice_index bytes) same in omega arith
+      | inr other ↦ let kept = kept_bytes label other in omega arith
+    ];
+  } where
+    here : ℕ
+    here = label_at labels (numbered_place retained done)
+
+    new_bytes : List ℕ
+    new_bytes = slice_set bytes (label_at labels (numbered_place retained done))
+        (slice_index bytes (label_at labels (numbered_place retained done)) + size)
+
+    new_counts : List ℕ
+    new_counts = slice_set counts (label_at labels (numbered_place retained done))
+        (slice_index counts (label_at labels (numbered_place retained done)) + 1)
+
+    sum_of : ℕ → Sum
+    sum_of label = record { bytes = slice_index new_bytes label; objects = slice_index new_counts label }
+
+    put_bytes : slice_index new_bytes here ≡ slice_index bytes here + size
+    put_bytes = let many = so.as_many in get_or-set_same bytes here (slice_index bytes here + size) 0 (omega arith)
+
+    put_counts : slice_index new_counts here ≡ slice_index counts here + 1
+    put_counts = let many = so.as_many_counts in get_or-set_same counts here (slice_index counts here + 1) 0 (omega arith)
+
+    kept_bytes : (label : ℕ) → label ≢ here → slice_index new_bytes label ≡ slice_index bytes label
+    kept_bytes label other = get_or-set_other bytes here label (slice_index bytes here + size) 0 other
+
+    kept_counts : (label : ℕ) → label ≢ here → slice_index new_counts label ≡ slice_index counts label
+    kept_counts label other = get_or-set_other counts here label (slice_index counts here + 1) 0 other
+
+  -- the sums over all numbers are those over all nodes
+  pub own_end : (bytes counts : List ℕ) (done : ℕ) → IsConsistent facts → IsTreeOf ids facts retained → AreNodeLabels facts retained labels
+      → length (nodes_in retained.nodes) ≤ done → AreOwnTo bytes counts done → AreOwnSums ids facts labels bytes counts
+  own_end bytes counts done agree tree_is are all so = record {
+    as_many = so.as_many;
+    as_many_counts = so.as_many_counts;
+    own = λ label low.
+        sums_alike ids facts (IsOwnTo retained labels label done) (IsHeldWith ids facts (label_text labels label))
+        (record { bytes = slice_index bytes label; objects = slice_index counts label }) (λ node. (forth label node, back label low node))
+        (so.own label low);
+  } where
+    forth : (label node : ℕ) → IsOwnTo retained labels label done node → IsHeldWith ids facts (label_text labels label) node
+    forth label node own =
+        let at = retained.numbered.new own.0 own.3 in
+        let place = numbered_place retained own.0 in
+        let there : node_at retained place ≡ node = ap (slice_index (nodes_in retained.nodes)) at.1 ∙ own.2 in
+        let P : ℕ → Type 0 = λ n. IsHeld ids facts n × IsNodeLabel facts n (label_text labels label) in
+        subst P there
+        ((tree_is.held place own.3 at.0).0, subst (λ l. IsNodeLabel facts (node_at retained place) (label_text labels l)) own.4 (are.right place own.3 at.0))
+
+    back : (label : ℕ) → label < label_count labels → (node : ℕ) → IsHeldWith ids facts (label_text labels label) node
+        → IsOwnTo retained labels label done node
+    back label low node with_it =
+        let found = tree_is.found node with_it.0 in
+        let place = place_of retained node in
+        let old = retained.numbered.old place found.0 found.1 in
+        let number = tree.number_at retained.tree place in
+        let less = old.0 in
+        let at : numbered_place retained number ≡ place = old.1 in
+        let text = one_node_label facts agree node (label_text labels (label_at labels place)) (label_text labels label)
+        (subst (λ n. IsNodeLabel facts n (label_text labels (label_at labels place))) found.2 (are.right place found.0 found.1)) with_it.1 in
+        let some = found.0 in
+        (
+          number,
+          omega arith,
+          found.2,
+          omega arith,
+          ap (label_at labels) at ∙ are.apart (label_at labels place) label (are.within place found.0 found.1) low text,
+        )

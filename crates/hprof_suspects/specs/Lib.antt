@@ -1,0 +1,3 @@
+pub mod Groups
+pub mod Parts
+pub mod SuspectsText

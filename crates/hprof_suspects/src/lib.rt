@@ -1,0 +1,2 @@
+//! The report on where most of the memory of a heap is held, and what it falls apart into.
+#![tactic(auto)]
