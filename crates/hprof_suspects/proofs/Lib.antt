@@ -1,0 +1,4 @@
+pub mod HeadPlaces
+pub mod PlaceLabels
+pub mod HeadsSoFar
+pub mod PartSums

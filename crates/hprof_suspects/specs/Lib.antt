@@ -1,3 +1,5 @@
 pub mod Groups
 pub mod Parts
 pub mod SuspectsText
+pub mod Heads
+pub mod PartPlaces

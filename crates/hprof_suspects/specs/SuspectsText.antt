@@ -12,7 +12,8 @@ use Rattle.hprof_items.specs.FactValue.{FactValue}
 use Rattle.hprof_rows.specs.Conflict.{IsConsistent}
 use Rattle.hprof_describe.specs.Findings.{AreFindings, Findings}
 use Rattle.hprof_retained.specs.Retained.{IsSumOver, IsTotal, Sum}
-use Rattle.hprof_keeps.specs.KeepsText.{IsWeaklyHeld, above_lines, total_line, weakly_line}
+use Rattle.hprof_retained.specs.Weakly.{IsWeaklyHeld}
+use Rattle.hprof_keeps.specs.KeepsText.{above_lines, total_line, weakly_line}
 use Rattle.hprof_keeps.specs.Order.{AreDominators, AreRetained}
 use Rattle.hprof_suspects.specs.Parts.{IsPieceSum, IsSuspect, PieceSum}
 

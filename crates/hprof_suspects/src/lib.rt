@@ -1,2 +1,7 @@
 //! The report on where most of the memory of a heap is held, and what it falls apart into.
 #![tactic(auto)]
+
+mod heads;
+mod large;
+mod only;
+mod parts;
