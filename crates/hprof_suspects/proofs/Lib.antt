@@ -6,3 +6,5 @@ pub mod MapKeys
 pub mod OnlyLarge
 pub mod PartPlaces
 pub mod PartsSoFar
+pub mod SumsSoFar
+pub mod PiecesSoFar

@@ -3,3 +3,4 @@ pub mod Parts
 pub mod SuspectsText
 pub mod Heads
 pub mod PartPlaces
+pub mod Pieces

@@ -5,3 +5,4 @@ mod heads;
 mod large;
 mod only;
 mod parts;
+mod pieces;
