@@ -8,3 +8,7 @@ pub mod PartPlaces
 pub mod PartsSoFar
 pub mod SumsSoFar
 pub mod PiecesSoFar
+pub mod SortedLists
+pub mod NodeSome
+pub mod SuspectsSoFar
+pub mod SuspectOrder

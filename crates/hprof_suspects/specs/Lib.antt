@@ -4,3 +4,4 @@ pub mod SuspectsText
 pub mod Heads
 pub mod PartPlaces
 pub mod Pieces
+pub mod SuspectPlaces

@@ -6,3 +6,4 @@ mod large;
 mod only;
 mod parts;
 mod pieces;
+mod suspects;
