@@ -12,3 +12,5 @@ pub mod SortedLists
 pub mod NodeSome
 pub mod SuspectsSoFar
 pub mod SuspectOrder
+pub mod LabelSumsSoFar
+pub mod PieceOrder

@@ -5,3 +5,4 @@ pub mod Heads
 pub mod PartPlaces
 pub mod Pieces
 pub mod SuspectPlaces
+pub mod LabelSums

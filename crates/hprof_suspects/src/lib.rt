@@ -2,8 +2,10 @@
 #![tactic(auto)]
 
 mod heads;
+mod label_sums;
 mod large;
 mod only;
 mod parts;
+mod piece_lines;
 mod pieces;
 mod suspects;
