@@ -1,9 +1,11 @@
 //! The report on where most of the memory of a heap is held, and what it falls apart into.
 #![tactic(auto)]
 
+mod chain;
 mod heads;
 mod label_sums;
 mod large;
+mod lines;
 mod only;
 mod parts;
 mod piece_lines;
