@@ -14,3 +14,7 @@ pub mod SuspectsSoFar
 pub mod SuspectOrder
 pub mod LabelSumsSoFar
 pub mod PieceOrder
+pub mod Hundredths
+pub mod LineTexts
+pub mod ChainTexts
+pub mod ReportTexts

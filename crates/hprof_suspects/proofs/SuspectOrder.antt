@@ -20,14 +20,17 @@ use Rattle.hprof_histogram.proofs.RowOrder.{then_tied, tied_numbers}
 use Rattle.hprof_keeps.specs.Order.{node_of, retained_in}
 use Rattle.hprof_keeps.proofs.Held.{sum_there}
 use Rattle.hprof_keeps.proofs.Places as places
-use Rattle.hprof_retained.specs.Retained.{Sum}
+use Rattle.hprof_rows.specs.Conflict.{IsConsistent}
+use Rattle.hprof_by_label.proofs.Joined.{bytes_within}
+use Rattle.hprof_retained.proofs.NodeLists.{held_dumped}
+use Rattle.hprof_retained.specs.Retained.{Dominates, IsHeld, Sum}
 use Rattle.hprof_retained.specs.Tree.{IsTreeOf, count_of, node_at, place_of, sum_at, total_of}
 use Rattle.hprof_retained.specs.declared.retained.Retained.{Retained}
 use Rattle.hprof_retained.proofs.OneSums.{same_sum_by}
 use Rattle.hprof_suspects.specs.Parts.{AddUp, HasPieces, IsPart, IsSuspect, Large, Roots, bytes_of}
 use Rattle.hprof_suspects.specs.PartPlaces.{AreParts, IsPartAt}
 use Rattle.hprof_suspects.specs.Pieces.{ArePartSums, IsPartBelow}
-use Rattle.hprof_suspects.specs.SuspectPlaces.{AreSuspectsTo, IsSuspectAt, suspect_of, suspect_place_cmp}
+use Rattle.hprof_suspects.specs.SuspectPlaces.{AreSuspectsTo, IsSuspectAt, IsWithin, suspect_of, suspect_place_cmp}
 use Rattle.hprof_suspects.specs.SuspectsText.{AreSuspects, Suspect, id_of, suspect_cmp}
 use Rattle.hprof_suspects.specs.declared.suspects.SuspectPlace.{SuspectPlace}
 use Rattle.hprof_suspects.proofs.NodeSome.{held_some}
@@ -53,6 +56,14 @@ module _ (ids : IdSize) (facts : List FactValue) (retained : Retained) (tree : I
   bytes_at (suc place) low =
       ap (λ (s : Sum). s.bytes) (sum_there ids facts retained tree (suc place) (omega arith) low)
       ∙ sym (ap (bytes_of ids facts (retained_in retained) (total_of retained)) (places.node_of_some retained (suc place) (omega arith)))
+
+  -- it is not more than all
+  bytes_low : IsConsistent facts → (place : ℕ) → place < count_of retained → (sum_at retained place).bytes ≤ (sum_at retained 0).bytes
+  bytes_low agree zero low = omega arith
+  bytes_low agree (suc place) low =
+      bytes_within ids facts agree (Dominates ids facts (node_at retained (suc place))) (IsHeld ids facts) (sum_at retained (suc place)).bytes
+      (sum_at retained 0).bytes (held_dumped ids facts agree) (λ x dominates. dominates.reached) (tree.sums (suc place) (omega arith) low).0
+      tree.total.0
 
   -- places have different identifiers
   one_id : (one other : ℕ) → one < other → other < count_of retained → id_of (node_of retained one) ≡ id_of (node_of retained other) → ⊥
@@ -89,10 +100,14 @@ module _ (ids : IdSize) (facts : List FactValue) (retained : Retained) (tree : I
         (are.exact suspect).0 (Contains-permutation after before suspect (IsPermutation-sym before after same)
         (Contains-from_in after suspect on))
 
-    pub all_within : All (λ suspect. suspect.place < count_of retained) after
-    all_within =
-        All-from_recursion (λ suspect. suspect.place < count_of retained) after
-        (all_from_in (λ suspect. suspect.place < count_of retained) after (λ suspect on. (suspect_each suspect on).before))
+    pub all_within : IsConsistent facts → All (IsWithin retained) after
+    all_within agree =
+        All-from_recursion (IsWithin retained) after
+        (all_from_in (IsWithin retained) after (λ suspect on.
+        let is = suspect_each suspect on in
+        let most = bytes_low agree suspect.place is.before in
+        let all = is.pieces in
+        (is.before, omega arith)))
 
     apart : IsDistinct same_node before
     apart = IsDistinct-from_apart same_node before (λ i j d less low.

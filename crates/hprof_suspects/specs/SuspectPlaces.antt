@@ -17,6 +17,10 @@ suspect_of retained suspect = record { part = node_of retained suspect.place; pi
 abbrev pub suspect_place_cmp : SuspectPlace → SuspectPlace → Ordering
 suspect_place_cmp suspect other = ordering_then (nat_cmp other.pieces suspect.pieces) (nat_cmp suspect.node other.node)
 
+-- it stands at a place, or is the roots together, and its pieces are not more than all
+abbrev pub IsWithin : Retained → SuspectPlace → Type 0
+IsWithin retained suspect = (suspect.place < count_of retained) × (suspect.pieces ≤ (sum_at retained 0).bytes)
+
 -- a part at a place before a bound whose pieces are a tenth of all at least
 --   sums: of each place what the parts right below it retain
 pub record IsSuspectAt (retained : Retained) (parts : List Bool) (sums : List ℕ) (done : ℕ) (suspect : SuspectPlace) : Type 0 where

@@ -10,4 +10,5 @@ mod only;
 mod parts;
 mod piece_lines;
 mod pieces;
+mod report;
 mod suspects;

@@ -20,7 +20,7 @@ fn hundredths(all: u128, part: u128) -> u128
     let mut count = 0;
     let mut rest = 0;
     // A hundred times the part may be too large a number, so it is divided as it is added up.
-    for _turn in 0..100 {
+    for _turn in 0..100_usize {
         if rest >= all - part {
             rest -= all - part;
             count += 1;

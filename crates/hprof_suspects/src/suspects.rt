@@ -9,7 +9,7 @@ ghost use Rattle.hprof_retained.specs.Tree.{IsTreeOf, count_of, sum_at, total_of
 ghost use Rattle.hprof_suspects.specs.Heads.{AreHeads};
 ghost use Rattle.hprof_suspects.specs.PartPlaces.{AreParts};
 ghost use Rattle.hprof_suspects.specs.Pieces.{ArePartSums};
-ghost use Rattle.hprof_suspects.specs.SuspectPlaces.{AreSuspectsTo, suspect_of, suspect_place_cmp};
+ghost use Rattle.hprof_suspects.specs.SuspectPlaces.{AreSuspectsTo, IsWithin, suspect_of, suspect_place_cmp};
 ghost use Rattle.hprof_suspects.specs.SuspectsText.{AreSuspects, id_of};
 
 use crate::large::is_tenth;
@@ -124,7 +124,7 @@ pub(crate) fn suspects_of(
     requires heads { AreHeads (size_of heap.now) (facts_of heap.now) retained.now (items_in heads.now) }
     requires parts { AreParts (size_of heap.now) (facts_of heap.now) retained.now parts.now.items }
     requires sums { ArePartSums (size_of heap.now) (facts_of heap.now) retained.now sums.now.items }
-    ensures places { IfOk result (λ suspects. All (λ suspect. suspect.place < count_of retained.now) suspects.items) }
+    ensures places { IfOk result (λ suspects. All (IsWithin retained.now) suspects.items) }
     ensures suspects { IfOk result (λ suspects. AreSuspects (size_of heap.now) (facts_of heap.now) (retained_in retained.now)
         (total_of retained.now) (map (suspect_of retained.now) suspects.items)) }
 {
