@@ -18,3 +18,6 @@ pub mod Hundredths
 pub mod LineTexts
 pub mod ChainTexts
 pub mod ReportTexts
+pub mod Decisions
+pub mod SomeHeads
+pub mod SomeParts

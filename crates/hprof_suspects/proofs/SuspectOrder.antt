@@ -3,7 +3,7 @@ use Rattle.std.specs.Prelude.{◌↔◌, AllPairs, Contains, map}
 use Rattle.std.proofs.Common.{◌≡◌, ◌≢◌, ◌⊎◌, ◌<◌, ◌≤◌, ◌+◌, ◌*◌, ◌==◌, ◌∙◌, ℕ, zero, suc, Bool, true, List, Option, Some, None, get_or, refl, sym, ap, subst, inl, inr, arith, slice_index}
 use Rattle.std.specs.Cmp.{IsTotalOrder}
 use Rattle.std.specs.List.{All, IsDistinct}
-use Rattle.std.specs.List.Sorted.{IsPermutation, IsSorted}
+use Rattle.std.specs.List.Sorted.{IsPermutation, IsSorted, IsStrictlySortedBy}
 use Rattle.std.specs.Ordering.{nat_cmp, ordering_then}
 use Rattle.std.specs.declared.cmp.Ordering.TheVariants.{Equal}
 use Rattle.std.proofs.lemmas.Bool.{cases_eq, ne_eqb}
@@ -92,32 +92,7 @@ module _ (ids : IdSize) (facts : List FactValue) (retained : Retained) (tree : I
       is.bytes_are
       ∙ same_sum_by (λ node. (retained_in retained node).bytes) Holds is.nodes too.nodes is.once too.once is.exact too.exact ∙ sym too.bytes_are
 
-  module _ (parts : List Bool) (marked : AreParts ids facts retained parts) (sums : List ℕ) (below : ArePartSums ids facts retained sums)
-      (before after : List SuspectPlace) (are : AreSuspectsTo retained parts sums (count_of retained) before)
-      (same : IsPermutation before after) where
-    suspect_each : (suspect : SuspectPlace) → IsIn suspect after → IsSuspectAt retained parts sums (count_of retained) suspect
-    suspect_each suspect on =
-        (are.exact suspect).0 (Contains-permutation after before suspect (IsPermutation-sym before after same)
-        (Contains-from_in after suspect on))
-
-    pub all_within : IsConsistent facts → All (IsWithin retained) after
-    all_within agree =
-        All-from_recursion (IsWithin retained) after
-        (all_from_in (IsWithin retained) after (λ suspect on.
-        let is = suspect_each suspect on in
-        let most = bytes_low agree suspect.place is.before in
-        let all = is.pieces in
-        (is.before, omega arith)))
-
-    apart : IsDistinct same_node before
-    apart = IsDistinct-from_apart same_node before (λ i j d less low.
-        let one = get_or before i d in
-        let other = get_or before j d in
-        let one_there = (are.exact one).0 (i, omega arith, get_or_default before i one d (omega arith)) in
-        let other_there = (are.exact other).0 (j, low, get_or_default before j other d low) in
-        ne_eqb one.node other.node (λ nodes.
-        one_id one.place other.place (are.ascend i j d less low) other_there.before (sym one_there.node ∙ nodes ∙ other_there.node)))
-
+  module _ (parts : List Bool) (marked : AreParts ids facts retained parts) (sums : List ℕ) (below : ArePartSums ids facts retained sums) where
     is_suspect : (suspect : SuspectPlace) → IsSuspectAt retained parts sums (count_of retained) suspect
         → IsSuspect ids facts (retained_in retained) (total_of retained) (node_of retained suspect.place) suspect.pieces
     is_suspect suspect is =
@@ -151,26 +126,63 @@ module _ (ids : IdSize) (facts : List FactValue) (retained : Retained) (tree : I
           node = refl;
         }
 
-    pub are_suspects : 0 < count_of retained → IsSorted suspect_place_cmp after
-        → AreSuspects ids facts (retained_in retained) (total_of retained) (map (suspect_of retained) after)
-    are_suspects some sorted = record {
-      ordered = images_rise (suspect_of retained) suspect_place_cmp suspect_cmp after
+    -- all of them in order
+    pub listed_suspects : 0 < count_of retained → (suspects : List SuspectPlace)
+        → ((suspect : SuspectPlace) → IsIn suspect suspects → IsSuspectAt retained parts sums (count_of retained) suspect)
+        → ((suspect : SuspectPlace) → IsSuspectAt retained parts sums (count_of retained) suspect → IsIn suspect suspects)
+        → IsStrictlySortedBy suspect_place_cmp suspects
+        → AreSuspects ids facts (retained_in retained) (total_of retained) (map (suspect_of retained) suspects)
+    listed_suspects some suspects each keeps rise = record {
+      ordered = images_rise (suspect_of retained) suspect_place_cmp suspect_cmp suspects
           (λ one other on on_too.
-          let node = (suspect_each one on).node in
-          let other_node = (suspect_each other on_too).node in
-          λ i. ordering_then (nat_cmp other.pieces one.pieces) (nat_cmp (node i) (other_node i)))
-          (all_rise suspect_place_cmp suspects_total same_node tied after sorted
-          (IsDistinct-IsPermutation same_node (λ one other. nat_eq_equiv.symm _ _) before after same apart));
+          let node = (each one on).node in
+          let other_node = (each other on_too).node in
+          λ i. ordering_then (nat_cmp other.pieces one.pieces) (nat_cmp (node i) (other_node i))) rise;
       right = λ suspect has.
-          let back = map_back (suspect_of retained) after suspect (in_from_Contains (map (suspect_of retained) after) suspect has) in
+          let back = map_back (suspect_of retained) suspects suspect (in_from_Contains (map (suspect_of retained) suspects) suspect has) in
           subst (λ (s : Suspect). IsSuspect ids facts (retained_in retained) (total_of retained) s.part s.pieces) back.2
-          (is_suspect back.0 (suspect_each back.0 back.1));
+          (is_suspect back.0 (each back.0 back.1));
       all = λ part pieces is.
           let at = part_place some part is.is_part in
           let P : Option ℕ → Type 0 = λ p. IsSuspect ids facts (retained_in retained) (total_of retained) p pieces in
           let new : SuspectPlace = record { place = at.0; node = id_of (node_of retained at.0); pieces = pieces } in
-          let on = Contains-permutation before after new same ((are.exact new).1 (suspect_at at.0 pieces at.1 (subst P (sym at.2) is))) in
-          let there = in_map (suspect_of retained) after new (in_from_Contains after new on) in
-          subst (λ (p : Option ℕ). Contains (map (suspect_of retained) after) (record { part = p; pieces = pieces })) at.2
-          (Contains-from_in (map (suspect_of retained) after) (suspect_of retained new) there);
+          let there = in_map (suspect_of retained) suspects new (keeps new (suspect_at at.0 pieces at.1 (subst P (sym at.2) is))) in
+          subst (λ (p : Option ℕ). Contains (map (suspect_of retained) suspects) (record { part = p; pieces = pieces })) at.2
+          (Contains-from_in (map (suspect_of retained) suspects) (suspect_of retained new) there);
     }
+
+    -- ---- sorted
+
+    module _ (before after : List SuspectPlace) (are : AreSuspectsTo retained parts sums (count_of retained) before)
+        (same : IsPermutation before after) where
+      suspect_each : (suspect : SuspectPlace) → IsIn suspect after → IsSuspectAt retained parts sums (count_of retained) suspect
+      suspect_each suspect on =
+          (are.exact suspect).0 (Contains-permutation after before suspect (IsPermutation-sym before after same)
+          (Contains-from_in after suspect on))
+
+      pub all_within : IsConsistent facts → All (IsWithin retained) after
+      all_within agree =
+          All-from_recursion (IsWithin retained) after
+          (all_from_in (IsWithin retained) after (λ suspect on.
+          let is = suspect_each suspect on in
+          let most = bytes_low agree suspect.place is.before in
+          let all = is.pieces in
+          (is.before, omega arith)))
+
+      apart : IsDistinct same_node before
+      apart = IsDistinct-from_apart same_node before (λ i j d less low.
+          let one = get_or before i d in
+          let other = get_or before j d in
+          let one_there = (are.exact one).0 (i, omega arith, get_or_default before i one d (omega arith)) in
+          let other_there = (are.exact other).0 (j, low, get_or_default before j other d low) in
+          ne_eqb one.node other.node (λ nodes.
+          one_id one.place other.place (are.ascend i j d less low) other_there.before (sym one_there.node ∙ nodes ∙ other_there.node)))
+
+      -- sorted, they are the suspects
+      pub are_suspects : 0 < count_of retained → IsSorted suspect_place_cmp after
+          → AreSuspects ids facts (retained_in retained) (total_of retained) (map (suspect_of retained) after)
+      are_suspects some sorted =
+          listed_suspects some after (λ suspect on. suspect_each suspect on)
+          (λ suspect is. in_from_Contains after suspect (Contains-permutation before after suspect same ((are.exact suspect).1 is)))
+          (all_rise suspect_place_cmp suspects_total same_node tied after sorted
+          (IsDistinct-IsPermutation same_node (λ one other. nat_eq_equiv.symm _ _) before after same apart))
