@@ -21,3 +21,5 @@ pub mod ReportTexts
 pub mod Decisions
 pub mod SomeHeads
 pub mod SomeParts
+pub mod InOrder
+pub mod SomeSuspects

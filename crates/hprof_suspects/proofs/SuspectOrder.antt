@@ -66,7 +66,7 @@ module _ (ids : IdSize) (facts : List FactValue) (retained : Retained) (tree : I
       tree.total.0
 
   -- places have different identifiers
-  one_id : (one other : ℕ) → one < other → other < count_of retained → id_of (node_of retained one) ≡ id_of (node_of retained other) → ⊥
+  pub one_id : (one other : ℕ) → one < other → other < count_of retained → id_of (node_of retained one) ≡ id_of (node_of retained other) → ⊥
   one_id zero other less low same =
       let some = ap id_of (places.node_of_some retained other (omega arith)) in
       held_some ids facts (node_at retained other) (tree.held other (omega arith) low).0 (sym (same ∙ some))
