@@ -23,3 +23,4 @@ pub mod SomeHeads
 pub mod SomeParts
 pub mod InOrder
 pub mod SomeSuspects
+pub mod SomePieces
