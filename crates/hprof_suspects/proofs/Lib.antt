@@ -24,3 +24,4 @@ pub mod SomeParts
 pub mod InOrder
 pub mod SomeSuspects
 pub mod SomePieces
+pub mod SomeText

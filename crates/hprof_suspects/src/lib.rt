@@ -12,3 +12,6 @@ mod piece_lines;
 mod pieces;
 mod report;
 mod suspects;
+mod writing;
+
+pub use writing::write_suspects;
