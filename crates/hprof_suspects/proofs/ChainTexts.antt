@@ -1,6 +1,6 @@
 -- The lines of a chain, from the texts that stand in them.
-use Rattle.std.specs.Prelude.{map, take, drop, nat_lt, if◌then◌else◌}
-use Rattle.std.proofs.Common.{◌≡◌, ◌<◌, ◌≤◌, ◌-◌, ◌++◌, ◌∙◌, ℕ, Bool, true, false, List, append_assoc, ap, codes, length, sym, arith}
+use Rattle.std.specs.Prelude.{map, take, drop, if◌then◌else◌}
+use Rattle.std.proofs.Common.{◌≡◌, ◌<◌, ◌≤◌, ◌-◌, ◌++◌, ◌∙◌, ℕ, Bool, List, append_assoc, ap, codes, length, sym, arith}
 use Rattle.std.specs.Fmt.{decimal}
 use Rattle.std.proofs.lemmas.Bool.{le-ltb, lt-ltb}
 use Rattle.std.proofs.lemmas.List.{length-drop, length-map}
@@ -46,5 +46,5 @@ module _ (found : Findings) (retained : ℕ → Sum) (node : ℕ → ℕ) (place
       ∙ sym (ap (λ n. old ++ (above_lines found retained (take 10 nodes) ++ (codes ".. " ++ decimal (n - 20) ++ codes " more\n"
       ++ above_lines found retained (drop (n - 10) nodes)))) many)
       ∙ sym (ap (λ m. old ++ folded m) (lt-ltb 20 (length nodes) (omega arith))) where
-    regrouped : (old front more back : List ℕ) → ((old ++ front) ++ more) ++ back ≡ old ++ (front ++ (more ++ back))
-    regrouped old front more back = simp append_assoc
+        regrouped : (old front more back : List ℕ) → ((old ++ front) ++ more) ++ back ≡ old ++ (front ++ (more ++ back))
+        regrouped old front more back = simp append_assoc

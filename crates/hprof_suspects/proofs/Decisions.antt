@@ -1,5 +1,5 @@
 -- What can be decided of nodes and of places.
-use Rattle.std.proofs.Common.{◌≡◌, ◌⊎◌, ◌<◌, ◌≤◌, ◌+◌, ◌++◌, ◌∙◌, ℕ, zero, suc, Bool, true, false, List, Option, Some, None, codes, refl, sym, ap, subst, inl, inr, arith}
+use Rattle.std.proofs.Common.{◌≡◌, ◌<◌, ◌≤◌, ◌++◌, ℕ, zero, suc, List, Option, Some, None, codes, refl, sym, subst, inl, inr, arith}
 use Rattle.std.proofs.lemmas.Bool.{both_ways, cases_Bool, cases_eq, cases_lt}
 use Rattle.std.proofs.lemmas.Slice.Eq.{bytes_eq-Decides}
 use Rattle.std.specs.Str.{bytes_eq}
@@ -55,7 +55,6 @@ module _ (facts : List FactValue) where
       go None found = inl found
       go (Some object) found = inr (λ alone.
           let clash = object_once facts agree node (Some object) None found alone in absurd cc)
-
 
     pub has_label_decided : (node : ℕ) (label : List ℕ) → Decided (IsNodeLabel facts node label)
     has_label_decided node label =

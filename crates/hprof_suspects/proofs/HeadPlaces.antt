@@ -1,18 +1,17 @@
 -- Groups by places: each place has one head, and what is right below a group.
-use Rattle.std.specs.Prelude.{◌↔◌}
-use Rattle.std.proofs.Common.{◌≡◌, ◌≢◌, ◌⊎◌, ◌<◌, ◌≤◌, ◌∙◌, ℕ, zero, suc, List, Option, Some, None, refl, sym, ap, subst, inl, inr, arith}
-use Rattle.std.proofs.lemmas.Bool.{cases_eq, cases_lt}
+use Rattle.std.proofs.Common.{◌≡◌, ◌<◌, ◌≤◌, ◌∙◌, ℕ, zero, suc, List, Option, Some, None, refl, sym, ap, subst, inl, inr, arith}
+use Rattle.std.proofs.lemmas.Bool.{cases_lt}
 use Rattle.hprof_values.specs.declared.ids.IdSize.{IdSize}
 use Rattle.hprof_items.specs.FactValue.{FactValue}
 use Rattle.hprof_dominators.specs.Above.{IsAboveOrAt, up_in}
 use Rattle.hprof_dominators.proofs.Climbing.{up_one}
-use Rattle.hprof_retained.specs.Retained.{Dominates, HasParent, IsHeld}
-use Rattle.hprof_retained.specs.Tree.{IsTreeOf, above_in, count_of, node_at, place_of}
+use Rattle.hprof_retained.specs.Retained.{HasParent}
+use Rattle.hprof_retained.specs.Tree.{IsTreeOf, above_in, count_of, node_at}
 use Rattle.hprof_retained.specs.declared.retained.Retained.{Retained}
 use Rattle.hprof_keeps.specs.Order.{node_of}
 use Rattle.hprof_keeps.proofs.Places as places
 use Rattle.hprof_suspects.specs.Groups.{Above, HasHead, IsBelow, IsHead, Itself, Joins}
-use Rattle.hprof_suspects.specs.Heads.{AreHeads, IsHeadOf, JoinsAbove, head_in, up}
+use Rattle.hprof_suspects.specs.Heads.{AreHeads, JoinsAbove, head_in, up}
 
 module _ (ids : IdSize) (facts : List FactValue) (retained : Retained) (tree : IsTreeOf ids facts retained) where
   abbrev pub IsPlace : ℕ → Type 0

@@ -1,13 +1,13 @@
 -- Heads of groups, place by place.
-use Rattle.std.proofs.Common.{◌≡◌, ◌≢◌, ◌⊎◌, ◌<◌, ◌+◌, ◌∙◌, ℕ, List, length, sym, ap, subst, inl, inr, arith, replicate, slice_index, slice_set, get_or-set_other, get_or-set_same}
-use Rattle.std.proofs.lemmas.Bool.{cases_eq, cases_lt}
+use Rattle.std.proofs.Common.{◌≡◌, ◌≢◌, ◌<◌, ◌+◌, ◌∙◌, ℕ, List, length, sym, ap, subst, inl, inr, arith, replicate, slice_index, slice_set, get_or-set_other, get_or-set_same}
+use Rattle.std.proofs.lemmas.Bool.{cases_eq}
 use Rattle.std.proofs.lemmas.List.{get_or-replicate, length-replicate}
 use Rattle.std.proofs.Math.ListN.{length-set}
 use Rattle.hprof_values.specs.declared.ids.IdSize.{IdSize}
 use Rattle.hprof_items.specs.FactValue.{FactValue}
 use Rattle.hprof_retained.specs.Tree.{count_of}
 use Rattle.hprof_retained.specs.declared.retained.Retained.{Retained}
-use Rattle.hprof_suspects.specs.Heads.{AreHeads, IsHeadOf, JoinsAbove, head_in, up}
+use Rattle.hprof_suspects.specs.Heads.{AreHeads, IsHeadOf, head_in, up}
 
 module _ (ids : IdSize) (facts : List FactValue) (retained : Retained) where
   -- the places before a bound have their heads

@@ -1,6 +1,5 @@
 -- The pieces of a part by the numbers of their labels, place by place.
-use Rattle.std.specs.Prelude.{◌↔◌}
-use Rattle.std.proofs.Common.{◌≡◌, ◌≢◌, ◌⊎◌, ◌<◌, ◌≤◌, ◌+◌, ◌∙◌, ℕ, Bool, List, Option, Some, length, replicate, refl, sym, ap, subst, subst₂, inl, inr, arith, slice_index, slice_set, get_or-set_other, get_or-set_same}
+use Rattle.std.proofs.Common.{◌≡◌, ◌<◌, ◌≤◌, ◌+◌, ◌∙◌, ℕ, Bool, List, Some, length, replicate, refl, sym, ap, subst, subst₂, inl, inr, arith, slice_index, slice_set, get_or-set_other, get_or-set_same}
 use Rattle.std.proofs.lemmas.Bool.{cases_eq}
 use Rattle.std.proofs.lemmas.List.{get_or-replicate, length-replicate}
 use Rattle.std.proofs.Math.ListN.{length-set}
@@ -15,7 +14,7 @@ use Rattle.hprof_by_label.specs.Labels.{AreNodeLabels, label_at, label_count, la
 use Rattle.hprof_by_label.specs.NodeLabel.{IsNodeLabel}
 use Rattle.hprof_by_label.specs.declared.labels.NodeLabels.{NodeLabels}
 use Rattle.hprof_suspects.specs.Groups.{IsBelow}
-use Rattle.hprof_suspects.specs.Heads.{AreHeads, head_in}
+use Rattle.hprof_suspects.specs.Heads.{AreHeads}
 use Rattle.hprof_suspects.specs.LabelSums.{AreLabelSums, IsPieceAt}
 use Rattle.hprof_suspects.specs.Parts.{IsPart, IsPiece}
 use Rattle.hprof_suspects.specs.PartPlaces.{AreParts}
@@ -55,15 +54,14 @@ module _ (ids : IdSize) (facts : List FactValue) (agree : IsConsistent facts) (r
       let place = taken.place in
       let is = taken.takes.0 in
       let below = by_place.below_over ids facts retained tree heads are place (taken.some, taken.within) is.own in
-      let node_is : node_of retained place ≡ Some node = places.node_of_some retained place taken.some ∙ ap Some taken.node_is in
-      (
+      let node_is : node_of retained place ≡ Some node = places.node_of_some retained place taken.some ∙ ap Some taken.node_is in (
         subst (IsBelow ids facts (node_of retained part)) taken.node_is
-        (subst (λ (g : ℕ). IsBelow ids facts (node_of retained g) (node_at retained place)) is.over below),
+            (subst (λ (g : ℕ). IsBelow ids facts (node_of retained g) (node_at retained place)) is.over below),
         λ is_part. is.no_part ((marked.exact place taken.within).1
-        (subst (IsPart ids facts (retained_in retained) (total_of retained)) (sym node_is) is_part)),
+            (subst (IsPart ids facts (retained_in retained) (total_of retained)) (sym node_is) is_part)),
         subst (λ (n : ℕ). IsNodeLabel facts n (label_text labels label)) taken.node_is
-        (subst (λ (l : ℕ). IsNodeLabel facts (node_at retained place) (label_text labels l)) taken.takes.1
-        (labelled.right place taken.some taken.within)),
+            (subst (λ (l : ℕ). IsNodeLabel facts (node_at retained place) (label_text labels l)) taken.takes.1
+            (labelled.right place taken.some taken.within)),
       )
 
   there_piece : (label node : ℕ) → label < label_count labels → Piece label node → IsTakenTo retained (Takes label) (count_of retained) node

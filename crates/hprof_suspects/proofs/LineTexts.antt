@@ -1,5 +1,5 @@
 -- Lines, from the texts that stand in them.
-use Rattle.std.proofs.Common.{◌≡◌, ◌++◌, ◌∙◌, ◌*◌, ◌/◌, ℕ, List, ap, append_assoc, codes, sym}
+use Rattle.std.proofs.Common.{◌≡◌, ◌++◌, ◌∙◌, ◌*◌, ◌/◌, ℕ, List, ap, append_assoc, codes}
 use Rattle.std.specs.Fmt.{decimal}
 use Rattle.hprof_retained.specs.Retained.{Sum}
 use Rattle.hprof_suspects.specs.SuspectsText.{piece_line, suspect_line}

@@ -1,9 +1,8 @@
 -- The only large head with a key, place by place.
-use Rattle.std.proofs.Common.{◌≡◌, ◌≢◌, ◌⊎◌, ◌<◌, ◌≤◌, ◌+◌, ◌∙◌, ℕ, zero, suc, Bool, true, false, List, Option, Some, None, cond, refl, sym, ap, subst, inl, inr, arith}
+use Rattle.std.proofs.Common.{◌≡◌, ◌≢◌, ◌<◌, ◌+◌, ◌∙◌, ℕ, Bool, true, false, List, Option, Some, None, cond, refl, sym, ap, subst, inl, inr, arith}
 use Rattle.std.specs.BTreeMap.{BTreeMap, get, is_at}
 use Rattle.std.specs.Ordering.{nat_cmp}
 use Rattle.std.proofs.lemmas.Bool.{both_ways, cases_eq}
-use Rattle.hprof_retained.specs.Tree.{count_of}
 use Rattle.hprof_retained.specs.declared.retained.Retained.{Retained}
 use Rattle.hprof_by_label.specs.declared.labels.NodeLabels.{NodeLabels}
 use Rattle.hprof_suspects.specs.PartPlaces.{AreOnlyTo, IsLargeHead, IsLargeWith, IsOnlyOf, key_in, noted}
@@ -69,18 +68,18 @@ module _ (retained : Retained) (labels : NodeLabels) (heads : List ℕ) where
         → AreOnlyTo retained labels heads new (done + 1)
     only_more large new own own_is put key =
         subst (IsOnlyOf (IsLargeWith retained labels heads key (done + 1))) (sym (put key)) (by_test (is_at (nat_cmp own) key) refl) where
-      by_test : (b : Bool) → is_at (nat_cmp own) key ≡ b
-          → IsOnlyOf (IsLargeWith retained labels heads key (done + 1)) (cond b (Some (noted (get nat_cmp only own) done)) (get nat_cmp only key))
-      by_test true at =
-          let same : own ≡ key = at_is own key at in
-          only_noted (IsLargeWith retained labels heads key done) (IsLargeWith retained labels heads key (done + 1)) done
-          (λ place has. (later key place has, λ e. let before = has.before in omega arith))
-          (record { some = done_some; before = omega arith; large = large; key_is = sym own_is ∙ same }) (earlier key) (get nat_cmp only own)
-          (subst (λ (k : ℕ). IsOnlyOf (IsLargeWith retained labels heads key done) (get nat_cmp only k)) (sym same) (so key))
-      by_test false at =
-          only_alike (IsLargeWith retained labels heads key done) (IsLargeWith retained labels heads key (done + 1)) (later key)
-          (λ place has. earlier key place has (λ e.
-          let same : own ≡ key = own_is ∙ ap (key_in retained labels heads) (sym e) ∙ has.key_is in
-          apart_at same at)) (get nat_cmp only key) (so key) where
-        apart_at : own ≡ key → is_at (nat_cmp own) key ≡ false → ⊥
-        apart_at same at = both_ways _ at (is_at_own own key same)
+          by_test : (b : Bool) → is_at (nat_cmp own) key ≡ b
+              → IsOnlyOf (IsLargeWith retained labels heads key (done + 1)) (cond b (Some (noted (get nat_cmp only own) done)) (get nat_cmp only key))
+          by_test true at =
+              let same : own ≡ key = at_is own key at in
+              only_noted (IsLargeWith retained labels heads key done) (IsLargeWith retained labels heads key (done + 1)) done
+              (λ place has. (later key place has, λ e. let before = has.before in omega arith))
+              (record { some = done_some; before = omega arith; large = large; key_is = sym own_is ∙ same }) (earlier key) (get nat_cmp only own)
+              (subst (λ (k : ℕ). IsOnlyOf (IsLargeWith retained labels heads key done) (get nat_cmp only k)) (sym same) (so key))
+          by_test false at =
+              only_alike (IsLargeWith retained labels heads key done) (IsLargeWith retained labels heads key (done + 1)) (later key)
+              (λ place has. earlier key place has (λ e.
+              let same : own ≡ key = own_is ∙ ap (key_in retained labels heads) (sym e) ∙ has.key_is in
+              apart_at same at)) (get nat_cmp only key) (so key) where
+                apart_at : own ≡ key → is_at (nat_cmp own) key ≡ false → ⊥
+                apart_at same at = both_ways _ at (is_at_own own key same)

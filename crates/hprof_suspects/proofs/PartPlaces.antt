@@ -1,22 +1,20 @@
 -- Parts by places: a large head right below a part that is singled out.
-use Rattle.std.specs.Prelude.{◌↔◌, IsTrue}
-use Rattle.std.proofs.Common.{◌≡◌, ◌≢◌, ◌⊎◌, ◌<◌, ◌≤◌, ◌+◌, ◌*◌, ◌/◌, ◌%◌, ◌∙◌, ℕ, zero, suc, List, Option, Some, None, refl, sym, ap, subst, inl, inr, arith}
+use Rattle.std.proofs.Common.{◌≡◌, ◌<◌, ◌+◌, ◌*◌, ◌/◌, ◌%◌, ◌∙◌, ℕ, zero, suc, List, Option, Some, None, refl, sym, ap, subst, inl, inr, arith}
 use Rattle.std.specs.BTreeMap.{BTreeMap, get}
 use Rattle.std.specs.Ordering.{nat_cmp}
-use Rattle.std.proofs.lemmas.Bool.{cases_eq}
 use Rattle.std.proofs.lemmas.Nat.{div-mul-add, mod-mul-add}
 use Rattle.hprof_values.specs.declared.ids.IdSize.{IdSize}
 use Rattle.hprof_items.specs.FactValue.{FactValue}
 use Rattle.hprof_rows.specs.Conflict.{IsConsistent}
 use Rattle.hprof_retained.specs.Retained.{Sum}
-use Rattle.hprof_retained.specs.Tree.{IsTreeOf, count_of, node_at, place_of, sum_at, total_of}
+use Rattle.hprof_retained.specs.Tree.{IsTreeOf, count_of, node_at, total_of}
 use Rattle.hprof_retained.specs.declared.retained.Retained.{Retained}
 use Rattle.hprof_keeps.specs.Order.{node_of, retained_in}
 use Rattle.hprof_keeps.proofs.Held.{sum_there}
 use Rattle.hprof_keeps.proofs.Places as places
 use Rattle.hprof_by_label.specs.Labels.{AreNodeLabels, label_at, label_count}
 use Rattle.hprof_by_label.specs.declared.labels.NodeLabels.{NodeLabels}
-use Rattle.hprof_suspects.specs.Groups.{HaveOneLabel, IsBelow, IsClassAlone}
+use Rattle.hprof_suspects.specs.Groups.{HaveOneLabel, IsBelow}
 use Rattle.hprof_suspects.specs.Heads.{AreHeads, head_in}
 use Rattle.hprof_suspects.specs.Parts.{IsLarge, IsOnlyLarge, IsPart, IsSingled, Large, Roots}
 use Rattle.hprof_suspects.specs.PartPlaces.{AreOnlyTo, IsLargeHead, IsLargeWith, IsOnlyOf, IsPartAt, IsSingledAt, key_in, over_in}
@@ -77,12 +75,12 @@ module _ (ids : IdSize) (facts : List FactValue) (agree : IsConsistent facts) (r
       (subst (λ (n : ℕ). HaveOneLabel facts n (node_at retained place)) (sym at.node_is) alike) in
       let same = go at.place key (subst (IsOnlyOf (Key (key_in retained labels heads place))) found (kept (key_in retained labels heads place))) in
       sym at.node_is ∙ ap (node_at retained) same where
-    go : (other : ℕ) → Key (key_in retained labels heads place) other → IsOnlyOf (Key (key_in retained labels heads place)) (Some place)
-        → other ≡ place
-    go other key one = elim one [
-      | inl alone ↦ alone.1 other key
-      | inr several ↦ let none = several.0 in let some = is.0 in absurd (omega arith)
-    ]
+        go : (other : ℕ) → Key (key_in retained labels heads place) other → IsOnlyOf (Key (key_in retained labels heads place)) (Some place)
+            → other ≡ place
+        go other key one = elim one [
+          | inl alone ↦ alone.1 other key
+          | inr several ↦ let none = several.0 in let some = is.0 in absurd (omega arith)
+        ]
 
   only_back : (place : ℕ) → Place place → IsLargeHead retained heads place
       → IsOnlyLarge ids facts (retained_in retained) (total_of retained) (node_of retained (over place)) (node_at retained place)

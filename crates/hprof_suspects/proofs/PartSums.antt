@@ -1,5 +1,5 @@
 -- What is right below a group shares nothing, and retains no more than the group together.
-use Rattle.std.proofs.Common.{◌≡◌, ◌≢◌, ◌⊎◌, ◌<◌, ◌≤◌, ◌+◌, ◌↔◌, ◌∙◌, ℕ, zero, suc, List, [], ◌∷◌, Option, Some, None, length, refl, sym, ap, subst, inl, inr, arith}
+use Rattle.std.proofs.Common.{◌≡◌, ◌⊎◌, ◌<◌, ◌≤◌, ◌∙◌, ℕ, zero, suc, List, [], ◌∷◌, Option, Some, None, refl, sym, ap, subst, inl, inr, arith}
 use Rattle.std.specs.List.{sum_by}
 use Rattle.std.proofs.lemmas.Bool.{cases_eq, cases_lt}
 use Rattle.std.proofs.lemmas.List.Sums.{sum_by-cons}
@@ -10,14 +10,14 @@ use Rattle.hprof_dominators.specs.Above.{IsAboveOrAt, IsUpFrom, climb, up_in}
 use Rattle.hprof_dominators.specs.Retained.{IsOnce}
 use Rattle.hprof_dominators.specs.Walks.{IsOn}
 use Rattle.hprof_dominators.proofs.Climbing.{climb_below, up_below, up_one, up_other, up_trans}
-use Rattle.hprof_retained.specs.Retained.{AreBytesOver, Dominates, IsHeld, Sum}
+use Rattle.hprof_retained.specs.Retained.{AreBytesOver, Dominates, IsHeld}
 use Rattle.hprof_retained.specs.Tree.{IsTreeOf, above_in, count_of, node_at, place_of, sum_at, total_of}
 use Rattle.hprof_retained.specs.declared.retained.Retained.{Retained}
 use Rattle.hprof_retained.proofs.NodeLists.{held_dumped}
 use Rattle.hprof_keeps.specs.Order.{node_of, retained_in}
-use Rattle.hprof_keeps.proofs.Held.{are_retained, sum_there}
+use Rattle.hprof_keeps.proofs.Held.{are_retained}
 use Rattle.hprof_keeps.proofs.Places as places
-use Rattle.hprof_by_label.proofs.Joined.{bytes_alike, bytes_joined, bytes_within, sum_of_none}
+use Rattle.hprof_by_label.proofs.Joined.{bytes_joined, bytes_within, sum_of_none}
 use Rattle.hprof_suspects.specs.Groups.{IsBelow, IsHead}
 use Rattle.hprof_suspects.specs.Heads.{AreHeads, head_in, up}
 use Rattle.hprof_suspects.specs.Parts.{AddUp}
@@ -180,16 +180,16 @@ module _ (ids : IdSize) (facts : List FactValue) (retained : Retained) (tree : I
         subst (Dominates ids facts (node_at retained group)) found.2
         ((tree.exact group (place_of retained x) some low found.0 found.1).1
         (subst (λ (g : ℕ). IsAboveOrAt (above_in retained) g (place_of retained x)) same on)) where
-      above_head : (place : ℕ) → Place place → 0 < over place → IsAboveOrAt (above_in retained) (over place) (up retained place)
-      above_head place is some = elim (cases_lt 0 (up retained place)) [
-        | inl above ↦
-            (by_place.has_its_head ids facts retained tree heads are (up retained place)
-            (by_place.above_place ids facts retained tree place is above)).above
-        | inr none ↦
-            let at : up retained place ≡ 0 = omega arith in
-            let top = ap head at ∙ are.top in
-            absurd (omega arith)
-      ]
+          above_head : (place : ℕ) → Place place → 0 < over place → IsAboveOrAt (above_in retained) (over place) (up retained place)
+          above_head place is some = elim (cases_lt 0 (up retained place)) [
+            | inl above ↦
+                (by_place.has_its_head ids facts retained tree heads are (up retained place)
+                (by_place.above_place ids facts retained tree place is above)).above
+            | inr none ↦
+                let at : up retained place ≡ 0 = omega arith in
+                let top = ap head at ∙ are.top in
+                absurd (omega arith)
+          ]
 
     pub below_fits : IsConsistent facts → (group : ℕ) → group < count_of retained → (Holds : ℕ → Type 0) (bytes count : ℕ)
         → AddUp ids facts (retained_in retained) (total_of retained) Holds bytes count
@@ -199,16 +199,16 @@ module _ (ids : IdSize) (facts : List FactValue) (retained : Retained) (tree : I
         let sum = add.bytes_are in
         let within = go group low all (λ node on. below node ((add.exact node).0 on)) in
         omega arith where
-      go : (group : ℕ) → group < count_of retained
-          → AreBytesOver ids facts (IsUnder add.nodes) (sum_by (λ node. (retained_in retained node).bytes) add.nodes)
-          → ((node : ℕ) → IsOn node add.nodes → IsBelow ids facts (node_of retained group) node)
-          → sum_by (λ node. (retained_in retained node).bytes) add.nodes ≤ (sum_at retained group).bytes
-      go zero low all below =
-          bytes_within ids facts agree (IsUnder add.nodes) (IsHeld ids facts) (sum_by (λ node. (retained_in retained node).bytes) add.nodes)
-          (total_of retained).bytes (held_dumped ids facts agree) (λ x under. under.2.reached) all tree.total.0
-      go (suc group) low all below =
-          bytes_within ids facts agree (IsUnder add.nodes) (Dominates ids facts (node_at retained (suc group)))
-          (sum_by (λ node. (retained_in retained node).bytes) add.nodes) (sum_at retained (suc group)).bytes
-          (λ x dominates. held_dumped ids facts agree x dominates.reached)
-          (λ x under. under_group (suc group) under.0 x low (omega arith) (below under.0 under.1) under.2) all
-          (tree.sums (suc group) (omega arith) low).0
+          go : (group : ℕ) → group < count_of retained
+              → AreBytesOver ids facts (IsUnder add.nodes) (sum_by (λ node. (retained_in retained node).bytes) add.nodes)
+              → ((node : ℕ) → IsOn node add.nodes → IsBelow ids facts (node_of retained group) node)
+              → sum_by (λ node. (retained_in retained node).bytes) add.nodes ≤ (sum_at retained group).bytes
+          go zero low all below =
+              bytes_within ids facts agree (IsUnder add.nodes) (IsHeld ids facts) (sum_by (λ node. (retained_in retained node).bytes) add.nodes)
+              (total_of retained).bytes (held_dumped ids facts agree) (λ x under. under.2.reached) all tree.total.0
+          go (suc group) low all below =
+              bytes_within ids facts agree (IsUnder add.nodes) (Dominates ids facts (node_at retained (suc group)))
+              (sum_by (λ node. (retained_in retained node).bytes) add.nodes) (sum_at retained (suc group)).bytes
+              (λ x dominates. held_dumped ids facts agree x dominates.reached)
+              (λ x under. under_group (suc group) under.0 x low (omega arith) (below under.0 under.1) under.2) all
+              (tree.sums (suc group) (omega arith) low).0

@@ -1,6 +1,6 @@
 -- The lines of a part in order.
-use Rattle.std.specs.Prelude.{◌↔◌, AllPairs, Contains, map}
-use Rattle.std.proofs.Common.{◌≡◌, ◌≢◌, ◌⊎◌, ◌<◌, ◌≤◌, ◌+◌, ◌*◌, ◌++◌, ◌∙◌, ℕ, zero, suc, Bool, true, false, List, [], ◌∷◌, Option, Some, get_or, length, refl, sym, ap, subst, inl, inr, arith, slice_index}
+use Rattle.std.specs.Prelude.{Contains, map}
+use Rattle.std.proofs.Common.{◌≡◌, ◌≢◌, ◌<◌, ◌≤◌, ◌+◌, ◌*◌, ◌++◌, ◌∙◌, ℕ, Bool, true, false, List, [], ◌∷◌, get_or, length, refl, sym, ap, subst, inl, inr, arith, slice_index}
 use Rattle.std.specs.Cmp.{IsTotalOrder}
 use Rattle.std.specs.Cmp.Lexicographic.{slice_cmp}
 use Rattle.std.specs.List.{All, IsDistinct}
@@ -8,7 +8,7 @@ use Rattle.std.specs.List.Sorted.{IsPermutation, IsSorted}
 use Rattle.std.specs.Ordering.{is_eq, nat_cmp, ordering_then}
 use Rattle.std.specs.Str.{bytes_eq}
 use Rattle.std.specs.declared.cmp.Ordering.TheVariants.{Equal}
-use Rattle.std.proofs.lemmas.Bool.{cases_eq, both_ways}
+use Rattle.std.proofs.lemmas.Bool.{cases_eq}
 use Rattle.std.proofs.lemmas.Cmp.{back_total, nat_cmp_total, nat_list_cmp_total, nat_list_eq_equiv, on_total, then_total}
 use Rattle.std.proofs.lemmas.List.{get_or_default}
 use Rattle.std.proofs.lemmas.List.Elements.{All-from_recursion, Contains-append_cases, Contains-append_left, Contains-append_right}
@@ -25,7 +25,7 @@ use Rattle.hprof_histogram.proofs.Joining.{all_from_in}
 use Rattle.hprof_histogram.proofs.Members.{Contains-from_in, IsIn, in_from_Contains, in_map}
 use Rattle.hprof_histogram.proofs.RowOrder.{then_tied}
 use Rattle.hprof_keeps.specs.Order.{node_of, retained_in}
-use Rattle.hprof_retained.specs.Tree.{IsTreeOf, count_of, node_at, place_of, total_of}
+use Rattle.hprof_retained.specs.Tree.{IsTreeOf, place_of, total_of}
 use Rattle.hprof_retained.specs.declared.retained.Retained.{Retained}
 use Rattle.hprof_retained.proofs.OneSums.{one_count}
 use Rattle.hprof_by_label.specs.Labels.{AreNodeLabels, label_at, label_count, label_text}
@@ -175,8 +175,7 @@ module _ (ids : IdSize) (facts : List FactValue) (agree : IsConsistent facts) (r
   is_sum line is =
       let Adds : ℕ → ℕ → Type 0 =
       AddUp ids facts (retained_in retained) (total_of retained) (Piece (label_text labels line.label)) in
-      let adds = sums.each line.label is.before in
-      (
+      let adds = sums.each line.label is.before in (
         record {
           some = is.some;
           add_up = subst (λ (b : ℕ). Adds b line.count) (sym is.bytes_are)
@@ -194,8 +193,7 @@ module _ (ids : IdSize) (facts : List FactValue) (agree : IsConsistent facts) (r
     go (node ∷ nodes) each many =
         let piece = each node (inl refl) in
         let found = tree.found node (below_head ids facts (node_of retained part) node piece.0).held in
-        let place = place_of retained node in
-        (
+        let place = place_of retained node in (
           label_at labels place,
           labelled.within place found.0 found.1,
           label_is facts agree retained labels labelled place found.0 found.1 sum.label
@@ -213,8 +211,7 @@ module _ (ids : IdSize) (facts : List FactValue) (agree : IsConsistent facts) (r
       is.add_up add_up in
       let count = one_count (Piece sum.label) sum.count (slice_index counts at.0)
       (record { nodes = is.add_up.nodes; once = is.add_up.once; exact = is.add_up.exact; is = is.add_up.count_is })
-      (record { nodes = add_up.nodes; once = add_up.once; exact = add_up.exact; is = add_up.count_is }) in
-      (
+      (record { nodes = add_up.nodes; once = add_up.once; exact = add_up.exact; is = add_up.count_is }) in (
         record { label = at.0; bytes = sum.bytes; count = sum.count },
         record { before = at.1; bytes_are = own; count_is = count; some = is.some; enough = enough },
         λ i. record { label = at.2 i; bytes = sum.bytes; count = sum.count },

@@ -1,6 +1,5 @@
 -- What the parts right below each place retain, place by place.
-use Rattle.std.specs.Prelude.{◌↔◌}
-use Rattle.std.proofs.Common.{◌≡◌, ◌≢◌, ◌⊎◌, ◌<◌, ◌≤◌, ◌+◌, ◌∙◌, ℕ, Bool, List, Option, Some, None, length, replicate, refl, sym, ap, subst, inl, inr, arith, slice_index, slice_set, get_or-set_other, get_or-set_same}
+use Rattle.std.proofs.Common.{◌≡◌, ◌<◌, ◌≤◌, ◌+◌, ◌∙◌, ℕ, Bool, List, Option, Some, length, replicate, refl, sym, ap, subst, inl, inr, arith, slice_index, slice_set, get_or-set_other, get_or-set_same}
 use Rattle.std.proofs.lemmas.Bool.{cases_eq}
 use Rattle.std.proofs.lemmas.List.{get_or-replicate, length-replicate}
 use Rattle.std.proofs.Math.ListN.{length-set}
@@ -13,7 +12,7 @@ use Rattle.hprof_keeps.specs.Order.{node_of, retained_in}
 use Rattle.hprof_keeps.proofs.Places as places
 use Rattle.hprof_suspects.specs.Groups.{IsBelow}
 use Rattle.hprof_suspects.specs.Heads.{AreHeads, head_in}
-use Rattle.hprof_suspects.specs.Parts.{AddUp, IsPart, Large, Roots}
+use Rattle.hprof_suspects.specs.Parts.{IsPart, Large, Roots}
 use Rattle.hprof_suspects.specs.PartPlaces.{AreParts, IsMarked, IsPartAt, over_in}
 use Rattle.hprof_suspects.specs.Pieces.{ArePartSums, IsPartBelow}
 use Rattle.hprof_suspects.proofs.HeadPlaces as by_place
@@ -52,10 +51,9 @@ module _ (ids : IdSize) (facts : List FactValue) (retained : Retained) (tree : I
       let part = (marked.exact place taken.within).0 taken.takes.0 in
       let own = part_head place taken.some taken.within part in
       let below = by_place.below_over ids facts retained tree heads are place (taken.some, taken.within) own in
-      let node_is : node_of retained place ≡ Some node = places.node_of_some retained place taken.some ∙ ap Some taken.node_is in
-      (
+      let node_is : node_of retained place ≡ Some node = places.node_of_some retained place taken.some ∙ ap Some taken.node_is in (
         subst (IsBelow ids facts (node_of retained group)) taken.node_is
-        (subst (λ (g : ℕ). IsBelow ids facts (node_of retained g) (node_at retained place)) taken.takes.1 below),
+            (subst (λ (g : ℕ). IsBelow ids facts (node_of retained g) (node_at retained place)) taken.takes.1 below),
         subst (IsPart ids facts (retained_in retained) (total_of retained)) node_is part,
       )
 
@@ -85,9 +83,11 @@ module _ (ids : IdSize) (facts : List FactValue) (retained : Retained) (tree : I
   pieces_begin sums zeros = record {
     as_many = ap length zeros ∙ length-replicate (count_of retained) 0;
     each = λ group low.
-        let none = ap (λ l. slice_index l group) zeros ∙ get_or-replicate (count_of retained) group 0 0 low in
-        (0, subst (λ (b : ℕ). Adds ids facts retained (IsTakenTo retained (TakesPart group) 1) b 0) (sym none)
-        (sum_begin ids facts retained (TakesPart group)));
+        let none = ap (λ l. slice_index l group) zeros ∙ get_or-replicate (count_of retained) group 0 0 low in (
+          0,
+          subst (λ (b : ℕ). Adds ids facts retained (IsTakenTo retained (TakesPart group) 1) b 0) (sym none)
+              (sum_begin ids facts retained (TakesPart group)),
+        );
   }
 
   pub pieces_same : (sums : List ℕ) (done : ℕ) → ¬ (IsMarked parts done) → ArePartSumsTo sums done → ArePartSumsTo sums (done + 1)
@@ -125,14 +125,18 @@ module _ (ids : IdSize) (facts : List FactValue) (retained : Retained) (tree : I
       as_many = length-set part_sums group new ∙ so.as_many;
       each = λ other other_low. elim (cases_eq other group) [
         | inl same ↦
-            let put = ap (slice_index (slice_set part_sums group new)) same ∙ get_or-set_same part_sums group new 0 (omega (arith, so.as_many)) in
-            (more.0, subst (λ (b : ℕ). Adds ids facts retained (IsTakenTo retained (TakesPart other) (done + 1)) b more.0) (sym put)
-            (subst (λ (g : ℕ). Adds ids facts retained (IsTakenTo retained (TakesPart g) (done + 1)) new more.0) (sym same) more.1))
+            let put = ap (slice_index (slice_set part_sums group new)) same ∙ get_or-set_same part_sums group new 0 (omega (arith, so.as_many)) in (
+              more.0,
+              subst (λ (b : ℕ). Adds ids facts retained (IsTakenTo retained (TakesPart other) (done + 1)) b more.0) (sym put)
+                  (subst (λ (g : ℕ). Adds ids facts retained (IsTakenTo retained (TakesPart g) (done + 1)) new more.0) (sym same) more.1),
+            )
         | inr apart ↦
             let keeps = get_or-set_other part_sums group other new 0 apart in
-            let was = so.each other other_low in
-            (was.0, subst (λ (b : ℕ). Adds ids facts retained (IsTakenTo retained (TakesPart other) (done + 1)) b was.0) (sym keeps)
-            (sum_same ids facts retained (TakesPart other) done (slice_index part_sums other) was.0 (λ takes. apart (sym takes.1)) was.1))
+            let was = so.each other other_low in (
+              was.0,
+              subst (λ (b : ℕ). Adds ids facts retained (IsTakenTo retained (TakesPart other) (done + 1)) b was.0) (sym keeps)
+                  (sum_same ids facts retained (TakesPart other) done (slice_index part_sums other) was.0 (λ takes. apart (sym takes.1)) was.1),
+            )
       ];
     }
 
@@ -140,10 +144,12 @@ module _ (ids : IdSize) (facts : List FactValue) (retained : Retained) (tree : I
   pieces_end sums done all so = record {
     as_many = so.as_many;
     each = λ group low.
-        let was = so.each group low in
-        (was.0, sum_alike ids facts retained (IsTakenTo retained (TakesPart group) done) (IsPartBelow ids facts retained group)
-        (slice_index sums group) was.0 (λ node. (
-          part_below group done node,
-          λ is. subst (λ (d : ℕ). IsTakenTo retained (TakesPart group) d node) (sym all) (below_part group node low is),
-        )) was.1);
+        let was = so.each group low in (
+          was.0,
+          sum_alike ids facts retained (IsTakenTo retained (TakesPart group) done) (IsPartBelow ids facts retained group)
+              (slice_index sums group) was.0 (λ node. (
+                part_below group done node,
+                λ is. subst (λ (d : ℕ). IsTakenTo retained (TakesPart group) d node) (sym all) (below_part group node low is),
+              )) was.1,
+        );
   }

@@ -1,5 +1,5 @@
 -- The texts of suspects, one behind the other.
-use Rattle.std.proofs.Common.{◌≡◌, ◌++◌, ◌∙◌, ℕ, List, [], ◌∷◌, append_assoc, append-nil, refl, sym, ap, subst}
+use Rattle.std.proofs.Common.{◌≡◌, ◌++◌, ◌∙◌, ℕ, List, [], ◌∷◌, append_assoc, append-nil, sym, ap, subst}
 use Rattle.hprof_values.specs.declared.ids.IdSize.{IdSize}
 use Rattle.hprof_items.specs.FactValue.{FactValue}
 use Rattle.hprof_describe.specs.Findings.{Findings}
@@ -23,5 +23,5 @@ pub suspect_joined : (old one two new first line chain sums : List ℕ) → one 
     → new ≡ two ++ sums → new ≡ old ++ (first ++ (chain ++ sums))
 suspect_joined old one two new first line chain sums e same f g =
     g ∙ ap (λ t. t ++ sums) (f ∙ ap (λ t. t ++ chain) (e ∙ ap (λ t. old ++ t) same)) ∙ regrouped old first chain sums where
-  regrouped : (old first chain sums : List ℕ) → ((old ++ first) ++ chain) ++ sums ≡ old ++ (first ++ (chain ++ sums))
-  regrouped old first chain sums = simp append_assoc
+      regrouped : (old first chain sums : List ℕ) → ((old ++ first) ++ chain) ++ sums ≡ old ++ (first ++ (chain ++ sums))
+      regrouped old first chain sums = simp append_assoc

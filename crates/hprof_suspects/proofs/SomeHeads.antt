@@ -1,5 +1,5 @@
 -- The places of a tree have heads.
-use Rattle.std.proofs.Common.{◌≡◌, ◌⊎◌, ◌<◌, ◌≤◌, ◌+◌, ◌-◌, ℕ, zero, suc, List, refl, sym, subst, inl, inr, arith, replicate, slice_set}
+use Rattle.std.proofs.Common.{◌≡◌, ◌<◌, ◌≤◌, ◌+◌, ◌-◌, ℕ, zero, suc, List, refl, subst, inl, inr, arith, replicate, slice_set}
 use Rattle.std.proofs.lemmas.Bool.{cases_lt}
 use Rattle.hprof_values.specs.declared.ids.IdSize.{IdSize}
 use Rattle.hprof_items.specs.FactValue.{FactValue}
@@ -20,12 +20,15 @@ module _ (ids : IdSize) (facts : List FactValue) (agree : IsConsistent facts) (r
         | inl alone ↦ inr (λ joins. joins.1.object alone)
         | inr object ↦ elim (alone_decided facts agree (node_at retained (up retained place))) [
           | inl alone ↦ inr (λ joins. joins.1.of_object alone)
-          | inr of_object ↦ inl (above, record {
-            below = has_parent ids facts retained tree place (some, low) above;
-            alike = alike;
-            object = object;
-            of_object = of_object;
-          })
+          | inr of_object ↦ inl (
+            above,
+            record {
+              below = has_parent ids facts retained tree place (some, low) above;
+              alike = alike;
+              object = object;
+              of_object = of_object;
+            },
+          )
         ]
       ]
       | inr apart ↦ inr (λ joins. apart joins.1.alike)
@@ -45,14 +48,14 @@ module _ (ids : IdSize) (facts : List FactValue) (agree : IsConsistent facts) (r
         | inl joins ↦ (
           slice_set so.0 place (head_in so.0 (up retained place)),
           subst (AreHeadsTo ids facts retained (slice_set so.0 place (head_in so.0 (up retained place))))
-          (let e : more + 1 + 1 ≡ suc more + 1 = omega arith in e)
-          (heads_more ids facts retained so.0 place (head_in so.0 (up retained place)) (omega arith) (omega arith) tree.falls.less
-          (inl (joins, refl)) so.1),
+              (let e : more + 1 + 1 ≡ suc more + 1 = omega arith in e)
+              (heads_more ids facts retained so.0 place (head_in so.0 (up retained place)) (omega arith) (omega arith) tree.falls.less
+              (inl (joins, refl)) so.1),
         )
         | inr apart ↦ (
           slice_set so.0 place place,
           subst (AreHeadsTo ids facts retained (slice_set so.0 place place)) (let e : more + 1 + 1 ≡ suc more + 1 = omega arith in e)
-          (heads_more ids facts retained so.0 place place (omega arith) (omega arith) tree.falls.less (inr (apart, refl)) so.1),
+              (heads_more ids facts retained so.0 place place (omega arith) (omega arith) tree.falls.less (inr (apart, refl)) so.1),
         )
       ]
 

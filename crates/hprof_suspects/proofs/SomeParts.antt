@@ -1,23 +1,21 @@
 -- The places of a tree are parts, or they are not, and there are suspects among them.
 use Rattle.std.specs.Prelude.{◌↔◌, IsTrue, map}
-use Rattle.std.proofs.Common.{◌≡◌, ◌⊎◌, ◌<◌, ◌≤◌, ◌+◌, ◌-◌, ◌*◌, ◌++◌, ◌∷◌, [], ◌∙◌, ℕ, zero, suc, Bool, true, false, List, Option, Some, None, get_or, refl, sym, ap, subst, inl, inr, arith, replicate, slice_index, slice_set}
+use Rattle.std.proofs.Common.{◌≡◌, ◌<◌, ◌≤◌, ◌+◌, ◌-◌, ◌*◌, ◌∙◌, ℕ, zero, suc, Bool, true, false, List, Option, Some, None, get_or, refl, sym, ap, subst, inl, inr, arith, replicate, slice_index, slice_set}
 use Rattle.std.proofs.lemmas.Bool.{both_ways, cases_Bool, cases_eq}
 use Rattle.std.proofs.lemmas.List.FromFn.{get_or-map-range_with_len, length-map-range_with_len}
 use Rattle.std.specs.List.{range_with_len}
 use Rattle.hprof_values.specs.declared.ids.IdSize.{IdSize}
 use Rattle.hprof_items.specs.FactValue.{FactValue}
 use Rattle.hprof_rows.specs.Conflict.{IsConsistent}
-use Rattle.hprof_retained.specs.Retained.{Sum}
 use Rattle.hprof_retained.specs.Tree.{IsTreeOf, count_of, node_at, sum_at, total_of}
 use Rattle.hprof_retained.specs.declared.retained.Retained.{Retained}
 use Rattle.hprof_retained.proofs.Deciding.{Decided, either_decided}
 use Rattle.hprof_keeps.specs.Order.{node_of, retained_in}
-use Rattle.hprof_keeps.proofs.Held.{sum_there}
 use Rattle.hprof_keeps.proofs.Places as places
 use Rattle.hprof_suspects.specs.Groups.{HaveOneLabel, IsBelow}
 use Rattle.hprof_suspects.specs.Heads.{AreHeads, head_in}
 use Rattle.hprof_suspects.specs.Parts.{IsLarge, IsOnlyLarge, IsPart, IsSingled, Large, Roots}
-use Rattle.hprof_suspects.specs.PartPlaces.{AreParts, IsLargeHead, IsMarked, IsPartAt, over_in}
+use Rattle.hprof_suspects.specs.PartPlaces.{AreParts, IsPartAt, over_in}
 use Rattle.hprof_suspects.specs.Pieces.{ArePartSums}
 use Rattle.hprof_suspects.proofs.Decisions.{all_decided, alike_decided, alone_decided, le_decided}
 use Rattle.hprof_suspects.proofs.HeadPlaces as by_place
@@ -210,12 +208,16 @@ module _ (ids : IdSize) (facts : List FactValue) (agree : IsConsistent facts) (r
         elim (cases_Bool (get_or parts place false)) [
           | inl mark ↦
               let group = over place in
-              let new : List ℕ = slice_set so.0 group (slice_index so.0 group + (sum_at retained place).bytes) in
-              (new, subst (AreBelowTo ids facts retained heads parts new) e
-              (pieces_more ids facts retained tree heads are parts marked so.0 place (omega arith) (omega arith) mark so.1))
-          | inr none ↦
-              (so.0, subst (AreBelowTo ids facts retained heads parts so.0) e
-              (pieces_same ids facts retained tree heads are parts marked so.0 place (λ mark. both_ways _ none mark) so.1))
+              let new : List ℕ = slice_set so.0 group (slice_index so.0 group + (sum_at retained place).bytes) in (
+                new,
+                subst (AreBelowTo ids facts retained heads parts new) e
+                    (pieces_more ids facts retained tree heads are parts marked so.0 place (omega arith) (omega arith) mark so.1),
+              )
+          | inr none ↦ (
+            so.0,
+            subst (AreBelowTo ids facts retained heads parts so.0) e
+                (pieces_same ids facts retained tree heads are parts marked so.0 place (λ mark. both_ways _ none mark) so.1),
+          )
         ]
 
     pub sums_exist : (sums : List ℕ) × ArePartSums ids facts retained sums

@@ -1,9 +1,9 @@
 -- The pieces of a part have sums by label, in order.
-use Rattle.std.proofs.Common.{◌≡◌, ◌≢◌, ◌⊎◌, ◌<◌, ◌≤◌, ◌+◌, ◌-◌, ◌*◌, ◌∷◌, [], ◌∙◌, ℕ, zero, suc, Bool, false, List, Option, Some, get_or, length, refl, sym, ap, subst, inl, inr, arith}
+use Rattle.std.proofs.Common.{◌≡◌, ◌≢◌, ◌<◌, ◌≤◌, ◌+◌, ◌-◌, ◌*◌, ◌∷◌, [], ◌∙◌, ℕ, zero, suc, Bool, false, List, Some, get_or, length, refl, sym, ap, subst, inl, inr, arith}
 use Rattle.std.specs.Cmp.{IsTotalOrder}
 use Rattle.std.specs.Cmp.Lexicographic.{slice_cmp}
 use Rattle.std.specs.List.Sorted.{IsStrictlySortedBy}
-use Rattle.std.specs.Ordering.{is_eq, nat_cmp, ordering_then}
+use Rattle.std.specs.Ordering.{nat_cmp, ordering_then}
 use Rattle.std.specs.declared.cmp.Ordering.TheVariants.{Equal}
 use Rattle.std.proofs.lemmas.Bool.{both_ways, cases_Bool, cases_eq}
 use Rattle.std.proofs.lemmas.Cmp.{back_total, nat_cmp_total, nat_list_cmp_total, on_total, then_total}
@@ -116,12 +116,11 @@ module _ (ids : IdSize) (facts : List FactValue) (agree : IsConsistent facts) (r
       let place = taken.place in
       let is = taken.takes.0 in
       let below = by_place.below_over ids facts retained tree heads are place (taken.some, taken.within) is.own in
-      let node_is : node_of retained place ≡ Some node = places.node_of_some retained place taken.some ∙ ap Some taken.node_is in
-      (
+      let node_is : node_of retained place ≡ Some node = places.node_of_some retained place taken.some ∙ ap Some taken.node_is in (
         subst (IsBelow ids facts (node_of retained part)) taken.node_is
-        (subst (λ (g : ℕ). IsBelow ids facts (node_of retained g) (node_at retained place)) is.over below),
+            (subst (λ (g : ℕ). IsBelow ids facts (node_of retained g) (node_at retained place)) is.over below),
         λ is_part. is.no_part ((marked.exact place taken.within).1
-        (subst (IsPart ids facts (retained_in retained) (total_of retained)) (sym node_is) is_part)),
+            (subst (IsPart ids facts (retained_in retained) (total_of retained)) (sym node_is) is_part)),
         subst (λ (n : ℕ). IsNodeLabel facts n label) taken.node_is taken.takes.1,
       )
 
@@ -260,8 +259,7 @@ module _ (ids : IdSize) (facts : List FactValue) (agree : IsConsistent facts) (r
     piece_sums_exist =
         let some = retained.numbered.some in
         let e : count_of retained - 1 + 1 ≡ count_of retained = omega arith in
-        let so = subst ListedTo e (listed_to (count_of retained - 1) (omega arith)) in
-        (
+        let so = subst ListedTo e (listed_to (count_of retained - 1) (omega arith)) in (
           so.all,
           record {
             ordered = so.sorted;
@@ -270,9 +268,9 @@ module _ (ids : IdSize) (facts : List FactValue) (agree : IsConsistent facts) (r
                 (λ node on. (is.add_up.exact node).0 on) is.add_up.count_is);
           },
         ) where
-      found : (so : ListedTo (count_of retained)) (sum : PieceSum) → Sums sum → pieces ≤ 10 * sum.bytes → (nodes : List ℕ)
-          → ((node : ℕ) → IsOn node nodes → Piece sum.label node) → sum.count ≡ length nodes → IsIn sum so.all
-      found so sum is enough [] each none = absurd (is.some none)
-      found so sum is enough (node ∷ nodes) each many =
-          let taken = there_piece sum.label node (each node (inl refl)) in
-          so.keeps taken.place taken.some taken.within sum taken.takes is enough
+          found : (so : ListedTo (count_of retained)) (sum : PieceSum) → Sums sum → pieces ≤ 10 * sum.bytes → (nodes : List ℕ)
+              → ((node : ℕ) → IsOn node nodes → Piece sum.label node) → sum.count ≡ length nodes → IsIn sum so.all
+          found so sum is enough [] each none = absurd (is.some none)
+          found so sum is enough (node ∷ nodes) each many =
+              let taken = there_piece sum.label node (each node (inl refl)) in
+              so.keeps taken.place taken.some taken.within sum taken.takes is enough

@@ -1,8 +1,7 @@
 -- There are suspects, in order.
 use Rattle.std.specs.Prelude.{map}
-use Rattle.std.proofs.Common.{◌≡◌, ◌⊎◌, ◌<◌, ◌≤◌, ◌+◌, ◌-◌, ◌*◌, ◌++◌, ◌∷◌, [], ◌∙◌, ℕ, zero, suc, Bool, false, List, get_or, refl, sym, ap, subst, inl, inr, arith, slice_index}
+use Rattle.std.proofs.Common.{◌≡◌, ◌≤◌, ◌+◌, ◌-◌, ◌*◌, ◌++◌, ◌∷◌, [], ◌∙◌, ℕ, zero, suc, Bool, false, List, get_or, refl, sym, subst, inl, inr, arith, slice_index}
 use Rattle.std.specs.Cmp.{IsTotalOrder}
-use Rattle.std.specs.List.Sorted.{IsStrictlySortedBy}
 use Rattle.std.specs.Ordering.{nat_cmp, ordering_then}
 use Rattle.std.specs.declared.cmp.Ordering.{Ordering}
 use Rattle.std.specs.declared.cmp.Ordering.TheVariants.{Less, Equal, Greater}
@@ -62,19 +61,28 @@ module _ (ids : IdSize) (facts : List FactValue) (agree : IsConsistent facts) (r
       let new : SuspectPlace = record { place = done; node = id_of (node_of retained done); pieces = pieces } in
       elim (cases_Bool (get_or parts done false)) [
         | inl mark ↦ elim (le_decided (sum_at retained 0).bytes (10 * pieces)) [
-          | inl enough ↦ (so.0 ++ new ∷ [], subst (λ (d : ℕ). AreSuspectsTo retained parts sums d (so.0 ++ new ∷ [])) e
-              (one_more retained parts sums done so.0 so.1 new refl (record {
-                before = omega arith;
-                part = mark;
-                pieces = omega arith;
-                enough = enough;
-                node = refl;
-              })))
-          | inr few ↦ (so.0, subst (λ (d : ℕ). AreSuspectsTo retained parts sums d so.0) e
-              (too_few retained parts sums done so.0 so.1 pieces (omega arith) few))
+          | inl enough ↦ (
+            so.0 ++ new ∷ [],
+            subst (λ (d : ℕ). AreSuspectsTo retained parts sums d (so.0 ++ new ∷ [])) e
+                (one_more retained parts sums done so.0 so.1 new refl (record {
+                  before = omega arith;
+                  part = mark;
+                  pieces = omega arith;
+                  enough = enough;
+                  node = refl;
+                })),
+          )
+          | inr few ↦ (
+            so.0,
+            subst (λ (d : ℕ). AreSuspectsTo retained parts sums d so.0) e
+                (too_few retained parts sums done so.0 so.1 pieces (omega arith) few),
+          )
         ]
-        | inr none ↦ (so.0, subst (λ (d : ℕ). AreSuspectsTo retained parts sums d so.0) e
-            (no_part retained parts sums done so.0 so.1 (λ mark. both_ways _ none mark)))
+        | inr none ↦ (
+          so.0,
+          subst (λ (d : ℕ). AreSuspectsTo retained parts sums d so.0) e
+              (no_part retained parts sums done so.0 so.1 (λ mark. both_ways _ none mark)),
+        )
       ]
 
   -- two of one identifier are one
@@ -95,8 +103,7 @@ module _ (ids : IdSize) (facts : List FactValue) (agree : IsConsistent facts) (r
       let some = suspects_to (count_of retained) (omega arith) in
       let ordered = in_order full_cmp full_total full_tied some.0 in
       let each : (suspect : SuspectPlace) → IsIn suspect ordered.all → At (count_of retained) suspect =
-      λ suspect on. (some.1.exact suspect).0 (Contains-from_in some.0 suspect (ordered.only suspect on)) in
-      (
+      λ suspect on. (some.1.exact suspect).0 (Contains-from_in some.0 suspect (ordered.only suspect on)) in (
         ordered.all,
         each,
         listed_suspects ids facts retained tree parts marked sums below retained.numbered.some ordered.all each

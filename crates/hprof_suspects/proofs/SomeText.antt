@@ -1,7 +1,7 @@
 -- A heap with a tree of dominators has a report.
 use Rattle.std.specs.Prelude.{map, IfOk}
 use Rattle.std.specs.List.{flat_map}
-use Rattle.std.proofs.Common.{◌≡◌, ◌≢◌, ◌⊎◌, ◌<◌, ◌++◌, ◌∷◌, [], ℕ, zero, suc, Bool, List, Option, Some, None, Result, Ok, Err, refl, sym, subst, inl, inr, arith}
+use Rattle.std.proofs.Common.{◌≡◌, ◌<◌, ◌++◌, ◌∷◌, [], ℕ, zero, suc, Bool, List, Option, Result, Ok, Err, refl, sym, subst, inl, inr, arith}
 use Rattle.std.proofs.lemmas.Bool.{cases_eq}
 use Rattle.hprof_values.specs.declared.ids.IdSize.{IdSize}
 use Rattle.hprof_items.specs.FactValue.{FactValue}
@@ -9,7 +9,7 @@ use Rattle.hprof_rows.specs.Conflict.{IsConsistent}
 use Rattle.hprof_describe.specs.Findings.{Findings}
 use Rattle.hprof_describe.proofs.OneFinding.{findings_exist}
 use Rattle.hprof_histogram.proofs.Members.{IsIn}
-use Rattle.hprof_retained.specs.Tree.{IsTreeOf, count_of, node_at, total_of}
+use Rattle.hprof_retained.specs.Tree.{IsTreeOf, count_of, total_of}
 use Rattle.hprof_retained.specs.declared.retained.Retained.{Retained}
 use Rattle.hprof_keeps.specs.KeepsText.{total_line, weakly_line}
 use Rattle.hprof_keeps.specs.Order.{node_of, retained_in}
@@ -40,8 +40,7 @@ module _ (ids : IdSize) (facts : List FactValue) (agree : IsConsistent facts) (r
         × IsPartText ids facts found (retained_in retained) (total_of retained) (node_of retained place) pieces text
     part_text_exists place pieces low =
         let chain = chain_exists place low in
-        let sums = piece_sums_exist ids facts agree retained tree heads are parts marked place low pieces in
-        (
+        let sums = piece_sums_exist ids facts agree retained tree heads are parts marked place low pieces in (
           suspect_line (total_of retained) pieces ++ (chain_lines found (retained_in retained) chain.0 ++ flat_map piece_line sums.0),
           record { chain = chain.0; is_chain = chain.1; sums = sums.0; are_sums = sums.1; is = refl },
         )
@@ -71,8 +70,7 @@ pub text_exists : (ids : IdSize) (facts : List FactValue) → IsConsistent facts
 text_exists ids facts agree retained tree =
     let found = findings_exist ids facts agree in
     let weakly = weakly_exists ids facts agree in
-    let behind = behind_exists ids facts agree retained tree found.0 in
-    (
+    let behind = behind_exists ids facts agree retained tree found.0 in (
       total_line (total_of retained) ++ weakly_line weakly.0 ++ behind.0,
       record {
         agree = agree;

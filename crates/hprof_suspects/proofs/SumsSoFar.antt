@@ -1,12 +1,10 @@
 -- Sums over the nodes at places, place by place.
 use Rattle.std.specs.Prelude.{◌↔◌}
-use Rattle.std.proofs.Common.{◌≡◌, ◌≢◌, ◌⊎◌, ◌<◌, ◌≤◌, ◌+◌, ◌∙◌, ℕ, List, [], ◌∷◌, length, refl, sym, ap, subst, inl, inr, arith}
-use Rattle.std.specs.List.{sum_by}
+use Rattle.std.proofs.Common.{◌≡◌, ◌≢◌, ◌<◌, ◌+◌, ◌∙◌, ℕ, List, [], ◌∷◌, refl, sym, ap, subst, inl, inr, arith}
 use Rattle.std.proofs.lemmas.Bool.{cases_eq}
 use Rattle.std.proofs.lemmas.List.Sums.{sum_by-cons}
 use Rattle.hprof_values.specs.declared.ids.IdSize.{IdSize}
 use Rattle.hprof_items.specs.FactValue.{FactValue}
-use Rattle.hprof_dominators.specs.Walks.{IsOn}
 use Rattle.hprof_retained.specs.Retained.{Sum}
 use Rattle.hprof_retained.specs.Tree.{IsTreeOf, count_of, node_at, sum_at, total_of}
 use Rattle.hprof_retained.specs.declared.retained.Retained.{Retained}
@@ -93,11 +91,11 @@ module _ (ids : IdSize) (facts : List FactValue) (retained : Retained) where
         ],
       );
       bytes_are = (
-        let front = sum_by-cons (λ node. (retained_in retained node).bytes) (node_at retained done) is.nodes in
-        let old = is.bytes_are in
-        let own = ap (λ (s : Sum). s.bytes) (sum_there ids facts retained tree done some low) in
-        omega arith
-      );
+          let front = sum_by-cons (λ node. (retained_in retained node).bytes) (node_at retained done) is.nodes in
+          let old = is.bytes_are in
+          let own = ap (λ (s : Sum). s.bytes) (sum_there ids facts retained tree done some low) in
+          omega arith
+          );
       count_is = let old = is.count_is in omega arith;
     } where
       new_node : IsTakenTo retained Takes done (node_at retained done) → ⊥

@@ -1,12 +1,12 @@
 -- Suspects in order.
-use Rattle.std.specs.Prelude.{◌↔◌, AllPairs, Contains, map}
-use Rattle.std.proofs.Common.{◌≡◌, ◌≢◌, ◌⊎◌, ◌<◌, ◌≤◌, ◌+◌, ◌*◌, ◌==◌, ◌∙◌, ℕ, zero, suc, Bool, true, List, Option, Some, None, get_or, refl, sym, ap, subst, inl, inr, arith, slice_index}
+use Rattle.std.specs.Prelude.{Contains, map}
+use Rattle.std.proofs.Common.{◌≡◌, ◌<◌, ◌≤◌, ◌==◌, ◌∙◌, ℕ, zero, suc, Bool, true, List, Option, Some, get_or, refl, sym, ap, subst, arith, slice_index}
 use Rattle.std.specs.Cmp.{IsTotalOrder}
 use Rattle.std.specs.List.{All, IsDistinct}
 use Rattle.std.specs.List.Sorted.{IsPermutation, IsSorted, IsStrictlySortedBy}
 use Rattle.std.specs.Ordering.{nat_cmp, ordering_then}
 use Rattle.std.specs.declared.cmp.Ordering.TheVariants.{Equal}
-use Rattle.std.proofs.lemmas.Bool.{cases_eq, ne_eqb}
+use Rattle.std.proofs.lemmas.Bool.{ne_eqb}
 use Rattle.std.proofs.lemmas.Cmp.{back_total, nat_cmp_total, nat_eq_equiv, on_total, then_total}
 use Rattle.std.proofs.lemmas.List.{get_or_default}
 use Rattle.std.proofs.lemmas.List.Elements.{All-from_recursion}
@@ -27,8 +27,8 @@ use Rattle.hprof_retained.specs.Retained.{Dominates, IsHeld, Sum}
 use Rattle.hprof_retained.specs.Tree.{IsTreeOf, count_of, node_at, place_of, sum_at, total_of}
 use Rattle.hprof_retained.specs.declared.retained.Retained.{Retained}
 use Rattle.hprof_retained.proofs.OneSums.{same_sum_by}
-use Rattle.hprof_suspects.specs.Parts.{AddUp, HasPieces, IsPart, IsSuspect, Large, Roots, bytes_of}
-use Rattle.hprof_suspects.specs.PartPlaces.{AreParts, IsPartAt}
+use Rattle.hprof_suspects.specs.Parts.{AddUp, IsPart, IsSuspect, Large, Roots, bytes_of}
+use Rattle.hprof_suspects.specs.PartPlaces.{AreParts}
 use Rattle.hprof_suspects.specs.Pieces.{ArePartSums, IsPartBelow}
 use Rattle.hprof_suspects.specs.SuspectPlaces.{AreSuspectsTo, IsSuspectAt, IsWithin, suspect_of, suspect_place_cmp}
 use Rattle.hprof_suspects.specs.SuspectsText.{AreSuspects, Suspect, id_of, suspect_cmp}

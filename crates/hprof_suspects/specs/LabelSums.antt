@@ -4,7 +4,7 @@ use Rattle.std.specs.declared.cmp.Ordering.{Ordering}
 use Rattle.hprof_values.specs.declared.ids.IdSize.{IdSize}
 use Rattle.hprof_items.specs.FactValue.{FactValue}
 use Rattle.hprof_keeps.specs.Order.{node_of, retained_in}
-use Rattle.hprof_retained.specs.Tree.{count_of, total_of}
+use Rattle.hprof_retained.specs.Tree.{total_of}
 use Rattle.hprof_retained.specs.declared.retained.Retained.{Retained}
 use Rattle.hprof_by_label.specs.Labels.{label_count, label_text}
 use Rattle.hprof_by_label.specs.declared.labels.NodeLabels.{NodeLabels}

@@ -24,7 +24,12 @@ pub(crate) fn key_of(labels: &NodeLabels, group: usize, label: usize) -> u128
 }
 
 /// Returns the group that a place is right below, and its label, in one number.
-pub(crate) fn key_at(retained: &Retained, labels: &NodeLabels, heads: &Numbers, place: usize) -> u128
+pub(crate) fn key_at(
+    retained: &Retained,
+    labels: &NodeLabels,
+    heads: &Numbers,
+    place: usize,
+) -> u128
     requires labels { AreLabelled retained.now labels.now }
     requires some { 0 < place }
     requires within { place < count_of retained.now }

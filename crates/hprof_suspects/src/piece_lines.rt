@@ -48,9 +48,9 @@ fn compare(labels: &NodeLabels, one: &PieceLine, other: &PieceLine) -> Ordering
     ensures { result ≡ line_cmp labels.now one.now other.now }
 {
     let by_bytes = other.bytes.cmp(&one.bytes);
-    by_bytes
-        .then_with(|| other.count.cmp(&one.count))
-        .then_with(|| text_if_any(labels, one.label).cmp(text_if_any(labels, other.label)))
+    by_bytes.then_with(|| other.count.cmp(&one.count)).then_with(|| text_if_any(
+        labels, one.label,
+    ).cmp(text_if_any(labels, other.label)))
 }
 
 /// Sorts lines: those with the most bytes first, then those with the most nodes, then by label. Allocates nothing.

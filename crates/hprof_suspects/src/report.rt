@@ -116,7 +116,9 @@ fn push_suspects(
         (total_of retained.now) (map (suspect_of retained.now) suspects.now) own × (string_bytes text.new ≡ string_bytes text.old ++ own)) }
 {
     for suspect in suspects {
-        push_suspect(alloc, heap, classes, retained, labels, heads, parts, *suspect, text)?;
+        push_suspect(
+            alloc, heap, classes, retained, labels, heads, parts, *suspect, text,
+        )?;
     }
     Ok(())
 }
@@ -142,7 +144,9 @@ fn push_all(
     let parts = parts_of(alloc, heap, retained, &labels, &heads)?;
     let sums = part_sums(alloc, heap, retained, &heads, &parts)?;
     let suspects = suspects_of(alloc, heap, retained, &heads, &parts, &sums)?;
-    push_suspects(alloc, heap, classes, retained, &labels, &heads, &parts, &suspects, text)
+    push_suspects(
+        alloc, heap, classes, retained, &labels, &heads, &parts, &suspects, text,
+    )
 }
 
 /// Returns the text of the report. If memory runs out, the answer is `AllocError`.

@@ -35,18 +35,17 @@ fn id_at(retained: &Retained, place: usize) -> u64
     requires { place < count_of retained.now }
     ensures { result ≡ id_of (node_of retained.now place) }
 {
-    if place == 0 {
-        0
-    } else {
-        retained.node(place)
-    }
+    if place == 0 { 0 } else { retained.node(place) }
 }
 
 /// Compares two suspects: the most bytes first, then by identifier.
 fn compare(one: &SuspectPlace, other: &SuspectPlace) -> Ordering
     ensures { result ≡ suspect_place_cmp one.now other.now }
 {
-    other.pieces.cmp(&one.pieces).then_with(|| one.node.cmp(&other.node))
+    other
+        .pieces
+        .cmp(&one.pieces)
+        .then_with(|| one.node.cmp(&other.node))
 }
 
 /// Sorts suspects: those with the most bytes first, then by identifier. Allocates nothing.

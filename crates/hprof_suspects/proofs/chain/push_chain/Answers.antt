@@ -1,9 +1,9 @@
-use Rattle.std.proofs.Common.{◌≡◌, ◌<◌, ◌∙◌, ◌++◌, ℕ, List, [], append-nil, ap, map, refl, sym, subst, arith}
+use Rattle.std.proofs.Common.{◌<◌, ℕ, List, [], append-nil, map, refl, sym, subst, arith}
 use Rattle.std.specs.String.{string_bytes}
 use Rattle.std.proofs.lemmas.Result.{on_ok_weaker}
 use Rattle.hprof_heap.specs.HeapFacts.{facts_of, size_of}
 use Rattle.hprof_retained.specs.Tree.{node_at}
-use Rattle.hprof_keeps.specs.Order.{AreDominators, node_of, retained_in}
+use Rattle.hprof_keeps.specs.Order.{AreDominators, node_of}
 use Rattle.hprof_keeps.proofs.Places.{node_of_some}
 use Rattle.hprof_suspects.specs.SuspectsText.{IsChain}
 use Rattle.hprof_suspects.proofs.chain.push_chain.Goals as goal
@@ -12,7 +12,7 @@ pub returns-then-place-eq0 : goal.returns-then-place-eq0
 returns-then-place-eq0 c = λ found is. (
   [],
   subst (λ (p : ℕ). IsChain (size_of c.args.heap.now) (facts_of c.args.heap.now) (node_of c.args.retained.now p) []) (sym c.if-place-eq0.true)
-  refl,
+      refl,
   sym (append-nil (string_bytes c.args.text.now)),
 )
 

@@ -1,7 +1,6 @@
-use Rattle.std.proofs.Common.{◌≡◌, ◌≤◌, ◌+◌, ◌∙◌, ℕ, List, ap, sym, subst, replicate, arith}
+use Rattle.std.proofs.Common.{◌+◌, ◌∙◌, ℕ, List, ap, sym, subst, replicate, arith}
 use Rattle.hprof_heap.specs.HeapFacts.{facts_of, size_of}
-use Rattle.hprof_numbers.specs.Numbers.{bound_of, items_in}
-use Rattle.hprof_retained.specs.Tree.{count_of}
+use Rattle.hprof_numbers.specs.Numbers.{items_in}
 use Rattle.hprof_suspects.proofs.HeadsSoFar.{AreHeadsTo, heads_begin, heads_end, heads_more}
 use Rattle.hprof_suspects.proofs.heads.heads_of.Goals as goal
 

@@ -1,8 +1,8 @@
 use Rattle.std.specs.Prelude.{IsTrue}
-use Rattle.std.proofs.Common.{◌≡◌, ◌<◌, ◌∙◌, ℕ, Bool, true, false, not, ap, refl, sym, subst, arith}
+use Rattle.std.proofs.Common.{◌≡◌, ◌<◌, ℕ, Bool, true, false, not, ap, refl, sym, subst, arith}
 use Rattle.std.proofs.lemmas.Bool.{both_ways, not-true}
 use Rattle.hprof_heap.specs.HeapFacts.{facts_of, size_of}
-use Rattle.hprof_retained.specs.Tree.{count_of, node_at}
+use Rattle.hprof_retained.specs.Tree.{node_at}
 use Rattle.hprof_by_label.specs.Labels.{label_at}
 use Rattle.hprof_suspects.specs.Groups.{IsClassAlone}
 use Rattle.hprof_suspects.specs.Heads.{up}
@@ -45,8 +45,7 @@ returns c = (
       let at = above_place (size_of c.args.heap.now) facts retained c.requires.tree c.args.place (c.requires.some, c.requires.within) some in
       let other : label_at labels c.above-above.result ≡ label_at labels (up retained c.args.place) = ap (label_at labels) above in
       let same : label_at labels c.args.place ≡ label_at labels (up retained c.args.place) =
-      omega (arith, other, c.number.ensures, c.number-2.ensures, c.if-number.false) in
-      (
+      omega (arith, other, c.number.ensures, c.number-2.ensures, c.if-number.false) in (
         some,
         record {
           below = has_parent (size_of c.args.heap.now) facts retained c.requires.tree c.args.place (c.requires.some, c.requires.within) some;
@@ -59,6 +58,6 @@ returns c = (
         },
       ),
   λ joins. not_alone c.is_class_alone-2.result (λ yes. joins.1.of_object
-  (subst (λ (p : ℕ). IsClassAlone (facts_of c.args.heap.now) (node_at c.args.retained.now p)) c.above-above.ensures
-  (c.is_class_alone-2.ensures.0 yes))),
+      (subst (λ (p : ℕ). IsClassAlone (facts_of c.args.heap.now) (node_at c.args.retained.now p)) c.above-above.ensures
+      (c.is_class_alone-2.ensures.0 yes))),
 )

@@ -5,7 +5,7 @@ use Rattle.hprof_heap.specs.HeapFacts.{facts_of, size_of}
 use Rattle.hprof_numbers.specs.Numbers.{items_in}
 use Rattle.hprof_retained.specs.Tree.{count_of, sum_at}
 use Rattle.hprof_by_label.specs.Labels.{label_at}
-use Rattle.hprof_suspects.proofs.LabelSumsSoFar.{AreLabelSumsTo, label_low, labels_begin, labels_end, labels_fit, labels_more, labels_same}
+use Rattle.hprof_suspects.proofs.LabelSumsSoFar.{AreLabelSumsTo, labels_begin, labels_end, labels_fit, labels_more, labels_same}
 use Rattle.hprof_suspects.proofs.label_sums.label_sums.Goals as goal
 use Rattle.hprof_suspects.proofs.label_sums.label_sums.Goals.{then-is_piece, else-is_piece}
 

@@ -1,4 +1,4 @@
-use Rattle.std.proofs.Common.{◌≡◌, ◌≤◌, ◌+◌, ◌*◌, ◌∙◌, arith}
+use Rattle.std.proofs.Common.{◌+◌, ◌*◌, ◌∙◌, arith}
 use Rattle.hprof_suspects.proofs.Hundredths.{all_hundred, no_whole, one_whole}
 use Rattle.hprof_suspects.proofs.lines.hundredths.Goals as goal
 use Rattle.hprof_suspects.proofs.lines.hundredths.Goals.{then-rest-all, else-rest-all}

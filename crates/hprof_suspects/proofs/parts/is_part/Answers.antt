@@ -1,8 +1,8 @@
-use Rattle.std.proofs.Common.{◌≡◌, ◌<◌, ◌∙◌, true, false, get_or, sym, ap, arith}
+use Rattle.std.proofs.Common.{◌≡◌, ◌∙◌, true, false, get_or, sym, ap, arith}
 use Rattle.std.proofs.lemmas.Bool.{both_ways}
 use Rattle.hprof_heap.specs.HeapFacts.{facts_of, size_of}
 use Rattle.hprof_numbers.specs.Numbers.{items_in}
-use Rattle.hprof_suspects.specs.PartPlaces.{IsMarked, over_in}
+use Rattle.hprof_suspects.specs.PartPlaces.{over_in}
 use Rattle.std.proofs.lemmas.List.{get_or_default}
 use Rattle.hprof_suspects.proofs.HeadPlaces.{over_less}
 use Rattle.hprof_suspects.proofs.parts.is_part.Goals as goal
@@ -20,8 +20,7 @@ returns c =
     let mark : get_or c.args.parts.now.items (over_in c.args.retained.now (items_in c.args.heads.now) c.args.place) false ≡ true =
     ap (λ p. get_or c.args.parts.now.items p false) (sym c.over.ensures)
     ∙ get_or_default c.args.parts.now.items c.over.result false c.index.result.now
-    (omega (arith, less, c.over.ensures, c.requires.as_many, c.requires.within)) ∙ sym c.index.ensures ∙ c.if-not-index.false in
-    (
+    (omega (arith, less, c.over.ensures, c.requires.as_many, c.requires.within)) ∙ sym c.index.ensures ∙ c.if-not-index.false in (
       λ yes. record {
         large = c.is_large_head.ensures.0 c.if-not-is_large_head.false;
         above = mark;

@@ -1,4 +1,4 @@
-use Rattle.std.proofs.Common.{◌≡◌, ◌∙◌, ap, arith}
+use Rattle.std.proofs.Common.{arith}
 use Rattle.hprof_heap.specs.HeapFacts.{facts_of, size_of}
 use Rattle.hprof_numbers.specs.Numbers.{items_in}
 use Rattle.hprof_suspects.proofs.PartsSoFar.{marked_begin, marked_end, marked_more}

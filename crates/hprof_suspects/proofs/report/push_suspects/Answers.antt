@@ -28,8 +28,7 @@ loop-suspect-preserved c = λ found is.
     so.1 (suspect_of retained suspect) own.0 own.1 in
     let front : map (suspect_of retained) (take (index + 1) suspects) ≡ map (suspect_of retained) (take index suspects) ++ suspect_of retained suspect ∷ [] =
     ap (map (suspect_of retained)) (take_more suspects index (record { place = 0; node = 0; pieces = 0 }) c.loop-suspect-test.true)
-    ∙ map-append (suspect_of retained) (take index suspects) (suspect ∷ []) in
-    (
+    ∙ map-append (suspect_of retained) (take index suspects) (suspect ∷ []) in (
       so.0 ++ own.0,
       subst (λ s. AreTexts ids facts found (retained_in retained) (total_of retained) s (so.0 ++ own.0)) (sym front) texts,
       own.2 ∙ ap (λ t. t ++ own.0) so.2 ∙ append_assoc (string_bytes c.args.text.now) so.0 own.0,

@@ -1,5 +1,4 @@
-use Rattle.std.specs.String.{string_bytes}
-use Rattle.std.proofs.Common.{◌≡◌, ◌≢◌, ◌∙◌, ◌++◌, ℕ, List, [], append-nil, ap, inl, inr, refl, sym}
+use Rattle.std.proofs.Common.{◌≡◌, ◌∙◌, ◌++◌, ℕ, List, [], append-nil, ap, inl, inr, refl, sym}
 use Rattle.hprof_heap.specs.HeapFacts.{facts_of, size_of}
 use Rattle.hprof_describe.proofs.OneFinding.{findings_exist}
 use Rattle.hprof_retained.specs.Tree.{total_of}

@@ -1,8 +1,7 @@
-use Rattle.std.proofs.Common.{◌≡◌, ◌≤◌, ◌+◌, ◌-◌, ◌*◌, ◌∙◌, ℕ, true, false, get_or, refl, sym, ap, subst, arith, slice_index}
+use Rattle.std.proofs.Common.{◌≡◌, ◌+◌, ◌-◌, ◌∙◌, false, refl, sym, subst, arith, slice_index}
 use Rattle.std.proofs.lemmas.Bool.{both_ways}
 use Rattle.std.proofs.lemmas.Grind.{get_or_default_zero}
 use Rattle.std.proofs.lemmas.List.{get_or_default}
-use Rattle.hprof_retained.specs.Tree.{sum_at}
 use Rattle.hprof_suspects.specs.PartPlaces.{IsMarked}
 use Rattle.hprof_suspects.specs.SuspectPlaces.{AreSuspectsTo}
 use Rattle.hprof_suspects.proofs.SuspectsSoFar.{no_part, one_more, too_few}

@@ -1,4 +1,4 @@
-use Rattle.std.proofs.Common.{◌≡◌, ◌<◌, arith, slice_index}
+use Rattle.std.proofs.Common.{◌<◌, arith, slice_index}
 use Rattle.hprof_heap.specs.HeapFacts.{facts_of, size_of}
 use Rattle.hprof_numbers.specs.Numbers.{items_in}
 use Rattle.hprof_retained.specs.Tree.{count_of}
