@@ -25,3 +25,5 @@ pub mod InOrder
 pub mod SomeSuspects
 pub mod SomePieces
 pub mod SomeText
+pub mod OtherSums
+pub mod OneText
