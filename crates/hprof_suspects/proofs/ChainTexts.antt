@@ -26,7 +26,8 @@ module _ (found : Findings) (retained : ℕ → Sum) (node : ℕ → ℕ) (place
       let many = length-map places node in
       sym (ap folded (le-ltb 20 (length nodes) (omega arith)))
 
-  pub long_chain : (old one two new more : List ℕ) → 20 < length places → one ≡ old ++ above_lines found retained (map node (take 10 places))
+  pub long_chain : (old one two new more : List ℕ) → 20 < length places
+      → one ≡ old ++ above_lines found retained (map node (take 10 places))
       → more ≡ codes ".. " ++ decimal (length places - 20) ++ codes " more\n" → two ≡ one ++ more
       → new ≡ two ++ above_lines found retained (map node (take (length places - (length places - 10)) (drop (length places - 10) places)))
       → new ≡ old ++ chain_lines found retained (map node places)

@@ -27,7 +27,8 @@ module _ (ids : IdSize) (facts : List FactValue) (retained : Retained) where
     zero_at : (place : ℕ) → place < count_of retained → head_in heads place ≡ 0
     zero_at place low = ap (λ l. slice_index l place) are ∙ get_or-replicate (count_of retained) place 0 0 low
 
-  head_low : (heads : List ℕ) (place head : ℕ) → place < count_of retained → ((place : ℕ) → place < count_of retained → head_in heads place < count_of retained)
+  head_low : (heads : List ℕ) (place head : ℕ) → place < count_of retained → ((place : ℕ) → place < count_of retained
+      → head_in heads place < count_of retained)
       → up retained place < place → IsHeadOf ids facts retained heads place head → head < count_of retained
   head_low heads place head place_low low less is = elim is [
     | inl joins ↦ let below = low (up retained place) (omega arith) in let same = joins.1 in omega arith

@@ -132,7 +132,8 @@ module _ (ids : IdSize) (facts : List FactValue) (agree : IsConsistent facts) (r
 
       pub labels_fit : new ≤ (sum_at retained part).bytes
       labels_fit =
-          sums.below_fits ids facts retained tree heads are agree part part_low (IsTakenTo retained (Takes label) (done + 1)) new new_count more
+          sums.below_fits ids facts retained tree heads are agree part part_low (IsTakenTo retained (Takes label) (done + 1)) new
+          new_count more
           (λ node taken. (piece_there label (done + 1) node taken).0)
 
       pub labels_more : So (slice_set bytes label new) (slice_set counts label new_count) (done + 1)
@@ -171,7 +172,8 @@ module _ (ids : IdSize) (facts : List FactValue) (agree : IsConsistent facts) (r
     as_many = so.as_many;
     as_many_counts = so.as_many_counts;
     each = λ label low.
-        sum_alike ids facts retained (IsTakenTo retained (Takes label) done) (Piece label) (slice_index bytes label) (slice_index counts label)
+        sum_alike ids facts retained (IsTakenTo retained (Takes label) done) (Piece label) (slice_index bytes label)
+        (slice_index counts label)
         (λ node. (
           piece_there label done node,
           λ piece. subst (λ (d : ℕ). IsTakenTo retained (Takes label) d node) (sym all) (there_piece label node low piece),

@@ -17,7 +17,8 @@ piece_parts bytes count told label same =
     ∙ ap (λ t. codes "  " ++ decimal bytes ++ codes " " ++ decimal count ++ codes " " ++ t ++ codes "\n") same
 
 suspect_regrouped : (percent pieces : List ℕ)
-    → codes "suspect " ++ (percent ++ (codes "% " ++ (pieces ++ codes "\n"))) ≡ codes "suspect " ++ percent ++ codes "% " ++ pieces ++ codes "\n"
+    → codes "suspect " ++ (percent ++ (codes "% " ++ (pieces ++ codes "\n"))) ≡ codes "suspect " ++ percent ++ codes "% " ++ pieces ++
+    codes "\n"
 suspect_regrouped percent pieces = simp append_assoc
 
 pub suspect_parts : (total : Sum) (percent pieces : ℕ) → percent ≡ 100 * pieces / total.bytes

@@ -1,15 +1,14 @@
 -- Facts that agree have one report.
-use Rattle.std.specs.Prelude.{map, nat_lt, take, drop, if◌then◌else◌}
+use Rattle.std.specs.Prelude.{nat_lt, take, drop, if◌then◌else◌}
 use Rattle.std.specs.List.{flat_map}
-use Rattle.std.proofs.Common.{◌≡◌, ◌≢◌, ◌⊎◌, ◌-◌, ◌++◌, ◌∙◌, ℕ, zero, suc, Bool, List, [], ◌∷◌, Option, Some, None, codes, length, refl, sym, ap, subst, inl, inr}
+use Rattle.std.proofs.Common.{◌≡◌, ◌-◌, ◌++◌, ◌∙◌, ℕ, zero, suc, List, [], ◌∷◌, Option, Some, None, codes, length, refl, sym, ap, subst, inl, inr}
 use Rattle.std.specs.Fmt.{decimal}
 use Rattle.std.specs.Cmp.{IsTotalOrder}
-use Rattle.std.specs.Ordering.{nat_cmp}
 use Rattle.std.proofs.lemmas.Cmp.{back_total, nat_cmp_total, on_total, then_total}
 use Rattle.hprof_values.specs.declared.ids.IdSize.{IdSize}
 use Rattle.hprof_items.specs.FactValue.{FactValue}
 use Rattle.hprof_rows.specs.Conflict.{IsConsistent}
-use Rattle.hprof_describe.specs.Findings.{AreFindings, Findings}
+use Rattle.hprof_describe.specs.Findings.{Findings}
 use Rattle.hprof_describe.specs.Nodes.{node_text}
 use Rattle.hprof_describe.proofs.OneFinding.{one_findings}
 use Rattle.hprof_dominators.proofs.Listed.{dominator_reached}
@@ -62,12 +61,13 @@ module _ (found : Findings) (retained other : ℕ → Sum) where
       let first = lines_same (take 10 nodes) (λ node on. same node (in_taken node 10 nodes on)) in
       let last = lines_same (drop (length nodes - 10) nodes) (λ node on. same node (in_dropped node (length nodes - 10) nodes on)) in
       λ i. if nat_lt 20 (length nodes)
-          then first i ++ (codes ".. " ++ decimal (length nodes - 20) ++ codes " more\n" ++ last i)
-          else all i
+      then first i ++ (codes ".. " ++ decimal (length nodes - 20) ++ codes " more\n" ++ last i)
+      else all i
 
 module _ (ids : IdSize) (facts : List FactValue) (agree : IsConsistent facts) (found : Findings) (total : Sum) (retained other : ℕ → Sum)
     (are : AreRetained ids facts retained) (too : AreRetained ids facts other) where
-  one_suspects : (one others : List Suspect) → AreSuspects ids facts retained total one → AreSuspects ids facts other total others → one ≡ others
+  one_suspects : (one others : List Suspect) → AreSuspects ids facts retained total one → AreSuspects ids facts other total others
+      → one ≡ others
   one_suspects one others is theirs =
       one_sorted suspects_total one others is.ordered theirs.ordered
       (λ suspect on. in_from_Contains others suspect (theirs.all suspect.part suspect.pieces
@@ -117,7 +117,8 @@ module _ (ids : IdSize) (facts : List FactValue) (agree : IsConsistent facts) (f
     are_rest : AreTexts ids facts found sums total suspects rest
     is : text ≡ own ++ rest
 
-  first_text : (sums : ℕ → Sum) (suspect : Suspect) (suspects all : List Suspect) (text : List ℕ) → AreTexts ids facts found sums total all text
+  first_text : (sums : ℕ → Sum) (suspect : Suspect) (suspects all : List Suspect) (text : List ℕ)
+      → AreTexts ids facts found sums total all text
       → all ≡ suspect ∷ suspects → First sums suspect suspects text
   first_text sums suspect suspects _ _ NoMore same = absurd cc
   first_text sums suspect suspects _ _ (OneMore one more text rest is_own are_rest) same =
@@ -145,7 +146,8 @@ module _ (ids : IdSize) (facts : List FactValue) (agree : IsConsistent facts) (f
       let rest = one_texts suspects first.rest second.rest first.are_rest second.are_rest in
       first.is ∙ (λ i. own i ++ rest i) ∙ sym second.is
 
-  one_behind : (text others : List ℕ) → IsSuspectsPart ids facts found retained total text → IsSuspectsPart ids facts found other total others
+  one_behind : (text others : List ℕ) → IsSuspectsPart ids facts found retained total text
+      → IsSuspectsPart ids facts found other total others
       → text ≡ others
   one_behind text others (inl none) (inl theirs) = none.1 ∙ sym theirs.1
   one_behind text others (inl none) (inr theirs) = absurd (theirs.0 none.0)
@@ -162,6 +164,7 @@ text_once ids facts agree one other is too =
     let weakly = one_sum ids facts agree (IsWeaklyHeld ids facts) is.weakly too.weakly is.are_weakly too.are_weakly in
     let P : Findings → Sum → Type 0 = λ f t. IsSuspectsPart ids facts f is.retained t is.behind in
     let moved = subst (λ (t : Sum). P too.found t) total (subst (λ (f : Findings). P f is.total) found is.is_behind) in
-    let behind = one_behind ids facts agree too.found too.total is.retained too.retained is.are_retained too.are_retained is.behind too.behind
+    let behind = one_behind ids facts agree too.found too.total is.retained too.retained is.are_retained too.are_retained is.behind
+    too.behind
     moved too.is_behind in
     is.is ∙ (λ i. total_line (total i) ++ weakly_line (weakly i) ++ behind i) ∙ sym too.is

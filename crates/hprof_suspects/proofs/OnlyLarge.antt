@@ -9,7 +9,8 @@ use Rattle.hprof_suspects.specs.PartPlaces.{AreOnlyTo, IsLargeHead, IsLargeWith,
 use Rattle.hprof_suspects.proofs.MapKeys.{at_is, is_at_own}
 
 -- of the same places the same
-only_alike : (Has Other : ℕ → Type 0) → ((place : ℕ) → Has place → Other place) → ((place : ℕ) → Other place → Has place) → (only : Option ℕ)
+only_alike : (Has Other : ℕ → Type 0) → ((place : ℕ) → Has place → Other place) → ((place : ℕ) → Other place → Has place)
+    → (only : Option ℕ)
     → IsOnlyOf Has only → IsOnlyOf Other only
 only_alike Has Other forth back None none = λ place other. none place (back place other)
 only_alike Has Other forth back (Some only) is = elim is [
@@ -60,7 +61,8 @@ module _ (retained : Retained) (labels : NodeLabels) (heads : List ℕ) where
     pub only_same : ¬ (IsLargeHead retained heads done) → AreOnlyTo retained labels heads only (done + 1)
     only_same small key =
         only_alike (IsLargeWith retained labels heads key done) (IsLargeWith retained labels heads key (done + 1)) (later key)
-        (λ place has. earlier key place has (λ same. small (subst (IsLargeHead retained heads) same has.large))) (get nat_cmp only key) (so key)
+        (λ place has. earlier key place has (λ same. small (subst (IsLargeHead retained heads) same has.large))) (get nat_cmp only key)
+        (so key)
 
     pub only_more : IsLargeHead retained heads done → (new : BTreeMap ℕ ℕ) → (own : ℕ) → own ≡ key_in retained labels heads done
         → ((other : ℕ) → get nat_cmp new other
@@ -69,12 +71,14 @@ module _ (retained : Retained) (labels : NodeLabels) (heads : List ℕ) where
     only_more large new own own_is put key =
         subst (IsOnlyOf (IsLargeWith retained labels heads key (done + 1))) (sym (put key)) (by_test (is_at (nat_cmp own) key) refl) where
           by_test : (b : Bool) → is_at (nat_cmp own) key ≡ b
-              → IsOnlyOf (IsLargeWith retained labels heads key (done + 1)) (cond b (Some (noted (get nat_cmp only own) done)) (get nat_cmp only key))
+              → IsOnlyOf (IsLargeWith retained labels heads key (done + 1))
+              (cond b (Some (noted (get nat_cmp only own) done)) (get nat_cmp only key))
           by_test true at =
               let same : own ≡ key = at_is own key at in
               only_noted (IsLargeWith retained labels heads key done) (IsLargeWith retained labels heads key (done + 1)) done
               (λ place has. (later key place has, λ e. let before = has.before in omega arith))
-              (record { some = done_some; before = omega arith; large = large; key_is = sym own_is ∙ same }) (earlier key) (get nat_cmp only own)
+              (record { some = done_some; before = omega arith; large = large; key_is = sym own_is ∙ same }) (earlier key)
+              (get nat_cmp only own)
               (subst (λ (k : ℕ). IsOnlyOf (IsLargeWith retained labels heads key done) (get nat_cmp only k)) (sym same) (so key))
           by_test false at =
               only_alike (IsLargeWith retained labels heads key done) (IsLargeWith retained labels heads key (done + 1)) (later key)

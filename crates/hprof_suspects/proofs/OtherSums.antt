@@ -1,6 +1,6 @@
 -- Parts, pieces and suspects are the same by all functions that have what each node retains.
 use Rattle.std.specs.Prelude.{◌↔◌}
-use Rattle.std.proofs.Common.{◌≡◌, ◌≢◌, ◌⊎◌, ◌≤◌, ◌+◌, ◌*◌, ◌∙◌, ℕ, List, [], ◌∷◌, Option, Some, None, refl, sym, ap, subst, inl, inr, arith}
+use Rattle.std.proofs.Common.{◌≡◌, ◌≤◌, ◌*◌, ◌∙◌, ℕ, List, [], ◌∷◌, Option, Some, None, refl, ap, subst, inl, inr, arith}
 use Rattle.std.specs.List.{sum_by}
 use Rattle.std.proofs.lemmas.List.Sums.{sum_by-cons}
 use Rattle.hprof_values.specs.declared.ids.IdSize.{IdSize}
@@ -10,7 +10,6 @@ use Rattle.hprof_dominators.specs.Walks.{IsOn}
 use Rattle.hprof_retained.specs.Retained.{Dominates, IsHeld, Sum}
 use Rattle.hprof_retained.proofs.OneSums.{one_sum}
 use Rattle.hprof_keeps.specs.Order.{AreRetained}
-use Rattle.hprof_by_label.specs.NodeLabel.{IsNodeLabel}
 use Rattle.hprof_suspects.specs.Groups.{IsBelow}
 use Rattle.hprof_suspects.specs.Parts.{AddUp, IsLarge, IsPart, IsPiece, IsPieceSum, IsSingled, IsSuspect, Large, PieceSum, Roots, bytes_of}
 use Rattle.hprof_suspects.proofs.PartSums.{below_head}
@@ -33,7 +32,8 @@ module _ (ids : IdSize) (facts : List FactValue) (agree : IsConsistent facts) (t
     large_too node held large = subst (λ (s : Sum). total.bytes ≤ 10 * s.bytes) (same_sum node held) large
 
     add_too : (Holds Also : ℕ → Type 0) (bytes count : ℕ) → ((node : ℕ) → Holds node → IsHeld ids facts node)
-        → ((node : ℕ) → Holds node ↔ Also node) → AddUp ids facts retained total Holds bytes count → AddUp ids facts other total Also bytes count
+        → ((node : ℕ) → Holds node ↔ Also node) → AddUp ids facts retained total Holds bytes count → AddUp ids facts other total Also
+        bytes count
     add_too Holds Also bytes count held alike is = record {
       nodes = is.nodes;
       once = is.once;
@@ -74,7 +74,8 @@ module _ (ids : IdSize) (facts : List FactValue) (agree : IsConsistent facts) (t
     bytes_same None is = refl
     bytes_same (Some node) is = ap (λ (s : Sum). s.bytes) (same_sum retained other are too node (part_held (Some node) node is refl))
 
-    pub suspect_too : (part : Option ℕ) (pieces : ℕ) → IsSuspect ids facts retained total part pieces → IsSuspect ids facts other total part pieces
+    pub suspect_too : (part : Option ℕ) (pieces : ℕ) → IsSuspect ids facts retained total part pieces
+        → IsSuspect ids facts other total part pieces
     suspect_too part pieces is = record {
       is_part = forth part is.is_part;
       has_pieces = record {
@@ -93,7 +94,8 @@ module _ (ids : IdSize) (facts : List FactValue) (agree : IsConsistent facts) (t
         → IsPieceSum ids facts other total part sum
     piece_sum_too part sum is = record {
       some = is.some;
-      add_up = add_too retained other are too (IsPiece ids facts retained total part sum.label) (IsPiece ids facts other total part sum.label)
+      add_up = add_too retained other are too (IsPiece ids facts retained total part sum.label)
+          (IsPiece ids facts other total part sum.label)
           sum.bytes sum.count (λ node piece. (below_head ids facts part node piece.0).held)
           (λ node. (
             λ piece. (piece.0, λ is_part. piece.1 (back (Some node) is_part), piece.2),

@@ -52,7 +52,8 @@ module _ (ids : IdSize) (facts : List FactValue) (agree : IsConsistent facts) (r
       omega arith
 
   -- a place that has the key
-  has_key : (place other : ℕ) → Place place → Place other → head_in heads other ≡ other → over other ≡ over place → Big (node_at retained other)
+  has_key : (place other : ℕ) → Place place → Place other → head_in heads other ≡ other → over other ≡ over place
+      → Big (node_at retained other)
       → HaveOneLabel facts (node_at retained other) (node_at retained place) → Key (key_in retained labels heads place) other
   has_key place other is too own group large alike =
       let same = ap (λ (s : Sum). s.bytes) (sum_there ids facts retained tree other too.0 too.1) in
@@ -73,7 +74,8 @@ module _ (ids : IdSize) (facts : List FactValue) (agree : IsConsistent facts) (r
       let at = sums.at_below ids facts retained tree heads are (over place) other (omega arith) below in
       let key = has_key place at.place is at.is at.own at.group_is (subst Big (sym at.node_is) large)
       (subst (λ (n : ℕ). HaveOneLabel facts n (node_at retained place)) (sym at.node_is) alike) in
-      let same = go at.place key (subst (IsOnlyOf (Key (key_in retained labels heads place))) found (kept (key_in retained labels heads place))) in
+      let same = go at.place key (subst (IsOnlyOf (Key (key_in retained labels heads place))) found
+      (kept (key_in retained labels heads place))) in
       sym at.node_is ∙ ap (node_at retained) same where
         go : (other : ℕ) → Key (key_in retained labels heads place) other → IsOnlyOf (Key (key_in retained labels heads place)) (Some place)
             → other ≡ place
@@ -85,29 +87,30 @@ module _ (ids : IdSize) (facts : List FactValue) (agree : IsConsistent facts) (r
   only_back : (place : ℕ) → Place place → IsLargeHead retained heads place
       → IsOnlyLarge ids facts (retained_in retained) (total_of retained) (node_of retained (over place)) (node_at retained place)
       → get nat_cmp only (key_in retained labels heads place) ≡ Some place
-  only_back place is large lone = go (get nat_cmp only (key_in retained labels heads place)) (kept (key_in retained labels heads place)) where
-    own : Key (key_in retained labels heads place) place
-    own = record { some = is.0; before = is.1; large = large; key_is = refl }
+  only_back place is large lone =
+      go (get nat_cmp only (key_in retained labels heads place)) (kept (key_in retained labels heads place)) where
+        own : Key (key_in retained labels heads place) place
+        own = record { some = is.0; before = is.1; large = large; key_is = refl }
 
-    equal : (other : ℕ) → Key (key_in retained labels heads place) other → other ≡ place
-    equal other key =
-        let too : Place other = (key.some, key.before) in
-        let same = one_key (label_count labels) (over other) (label_at labels other) (over place) (label_at labels place)
-        (labelled.within other too.0 too.1) (labelled.within place is.0 is.1) key.key_is in
-        let below = by_place.below_over ids facts retained tree heads are other too key.large.0 in
-        places.one_place ids facts retained tree other place too is
-        (lone (node_at retained other) (subst (λ (g : ℕ). IsBelow ids facts (node_of retained g) (node_at retained other)) same.0 below)
-        (is_large other too key.large)
-        (one_label facts agree retained labels labelled other place too.0 too.1 is.0 is.1 same.1))
+        equal : (other : ℕ) → Key (key_in retained labels heads place) other → other ≡ place
+        equal other key =
+            let too : Place other = (key.some, key.before) in
+            let same = one_key (label_count labels) (over other) (label_at labels other) (over place) (label_at labels place)
+            (labelled.within other too.0 too.1) (labelled.within place is.0 is.1) key.key_is in
+            let below = by_place.below_over ids facts retained tree heads are other too key.large.0 in
+            places.one_place ids facts retained tree other place too is
+            (lone (node_at retained other) (subst (λ (g : ℕ). IsBelow ids facts (node_of retained g) (node_at retained other)) same.0 below)
+            (is_large other too key.large)
+            (one_label facts agree retained labels labelled other place too.0 too.1 is.0 is.1 same.1))
 
-    go : (only : Option ℕ) → IsOnlyOf (Key (key_in retained labels heads place)) only → only ≡ Some place
-    go None none = absurd (none place own)
-    go (Some one) has = elim has [
-      | inl alone ↦ ap Some (equal one alone.0)
-      | inr several ↦
-          let both = several.1 in
-          absurd (both.4 (equal both.0 both.2 ∙ sym (equal both.1 both.3)))
-    ]
+        go : (only : Option ℕ) → IsOnlyOf (Key (key_in retained labels heads place)) only → only ≡ Some place
+        go None none = absurd (none place own)
+        go (Some one) has = elim has [
+          | inl alone ↦ ap Some (equal one alone.0)
+          | inr several ↦
+              let both = several.1 in
+              absurd (both.4 (equal both.0 both.2 ∙ sym (equal both.1 both.3)))
+        ]
 
   singled_forth : (place : ℕ) → Place place → IsSingledAt facts retained labels heads only place
       → IsSingled ids facts (retained_in retained) (total_of retained) (node_of retained (over place)) (node_at retained place)
@@ -119,7 +122,8 @@ module _ (ids : IdSize) (facts : List FactValue) (agree : IsConsistent facts) (r
   top_is : (group : ℕ) → node_of retained group ≡ None → group ≡ 0
   top_is zero none = refl
   top_is (suc group) none =
-      let clash : Some (node_at retained (suc group)) ≡ None = sym (places.node_of_some retained (suc group) (omega arith)) ∙ none in absurd cc
+      let clash : Some (node_at retained (suc group)) ≡ None = sym (places.node_of_some retained (suc group) (omega arith)) ∙ none in
+      absurd cc
 
   singled_back : (place : ℕ) → Place place → IsLargeHead retained heads place
       → IsSingled ids facts (retained_in retained) (total_of retained) (node_of retained (over place)) (node_at retained place)

@@ -61,12 +61,14 @@ module _ (ids : IdSize) (facts : List FactValue) (retained : Retained) (tree : I
     -- ---- nothing is shared
 
     -- what is at or above a place, and not above its head, has that head
-    head_between : (count place x : ℕ) → climb (up_in (above_in retained)) count place ≡ x → Place place → head place ≤ x → head x ≡ head place
+    head_between : (count place x : ℕ) → climb (up_in (above_in retained)) count place ≡ x → Place place → head place ≤ x
+        → head x ≡ head place
     head_between zero place x same is low = ap head (sym same)
     head_between (suc count) place x same is low = elim (are.each place is.0 is.1) [
       | inl joins ↦
           let on = joins.1 in
-          head_between count (up retained place) x same (by_place.above_place ids facts retained tree place is joins.0.0) (omega arith) ∙ sym on
+          head_between count (up retained place) x same (by_place.above_place ids facts retained tree place is joins.0.0) (omega arith) ∙
+          sym on
       | inr apart ↦
           let most = climb_below (up_in (above_in retained)) (places.up_at_most ids facts retained tree) count (up retained place) in
           let less = tree.falls.less place is.0 in
@@ -127,14 +129,16 @@ module _ (ids : IdSize) (facts : List FactValue) (retained : Retained) (tree : I
         let found = tree.found x dominates.reached in
         let P : ℕ → ℕ → Type 0 = λ n y. Dominates ids facts n y in
         (tree.exact at.place (place_of retained x) at.is.0 at.is.1 found.0 found.1).0
-        (subst (λ (n : ℕ). P n (node_at retained (place_of retained x))) (sym at.node_is) (subst (λ (y : ℕ). P node y) (sym found.2) dominates))
+        (subst (λ (n : ℕ). P n (node_at retained (place_of retained x))) (sym at.node_is)
+        (subst (λ (y : ℕ). P node y) (sym found.2) dominates))
 
     pub nothing_shared : (group one other x : ℕ) → group < count_of retained → IsBelow ids facts (node_of retained group) one
         → IsBelow ids facts (node_of retained group) other → Dominates ids facts one x → Dominates ids facts other x → one ≡ other
     nothing_shared group one other x low below below_too dominates dominates_too =
         let at = at_below group one low below in
         let at_too = at_below group other low below_too in
-        let same = one_above at.place at_too.place (place_of retained x) at.is at_too.is at.own at_too.own (at.group_is ∙ sym at_too.group_is)
+        let same = one_above at.place at_too.place (place_of retained x) at.is at_too.is at.own at_too.own
+        (at.group_is ∙ sym at_too.group_is)
         (above_of one x group at dominates) (above_of other x group at_too dominates_too) in
         sym at.node_is ∙ ap (node_at retained) same ∙ at_too.node_is
 
@@ -176,7 +180,8 @@ module _ (ids : IdSize) (facts : List FactValue) (retained : Retained) (tree : I
         let place_low = at.is.1 in
         let above : IsAboveOrAt (above_in retained) (over at.place) at.place = up_one (up_in (above_in retained)) (over at.place) at.place
         (above_head at.place at.is (omega arith)) in
-        let on = up_trans (up_in (above_in retained)) (over at.place) at.place (place_of retained x) above (above_of node x group at dominates) in
+        let on = up_trans (up_in (above_in retained)) (over at.place) at.place (place_of retained x) above
+        (above_of node x group at dominates) in
         subst (Dominates ids facts (node_at retained group)) found.2
         ((tree.exact group (place_of retained x) some low found.0 found.1).1
         (subst (λ (g : ℕ). IsAboveOrAt (above_in retained) g (place_of retained x)) same on)) where
@@ -204,7 +209,8 @@ module _ (ids : IdSize) (facts : List FactValue) (retained : Retained) (tree : I
               → ((node : ℕ) → IsOn node add.nodes → IsBelow ids facts (node_of retained group) node)
               → sum_by (λ node. (retained_in retained node).bytes) add.nodes ≤ (sum_at retained group).bytes
           go zero low all below =
-              bytes_within ids facts agree (IsUnder add.nodes) (IsHeld ids facts) (sum_by (λ node. (retained_in retained node).bytes) add.nodes)
+              bytes_within ids facts agree (IsUnder add.nodes) (IsHeld ids facts)
+              (sum_by (λ node. (retained_in retained node).bytes) add.nodes)
               (total_of retained).bytes (held_dumped ids facts agree) (λ x under. under.2.reached) all tree.total.0
           go (suc group) low all below =
               bytes_within ids facts agree (IsUnder add.nodes) (Dominates ids facts (node_at retained (suc group)))

@@ -222,7 +222,8 @@ module _ (ids : IdSize) (facts : List FactValue) (agree : IsConsistent facts) (r
   are_piece_sums sorted = record {
     ordered = images_rise (sum_of labels) (line_cmp labels) piece_cmp after (λ one other on on_too. refl)
         (all_rise (line_cmp labels) (lines_total labels) (same_text labels) (tied labels) after sorted
-        (IsDistinct-IsPermutation (same_text labels) (λ one other. nat_list_eq_equiv.symm (label_text labels one.label) (label_text labels other.label)) before after same apart));
+        (IsDistinct-IsPermutation (same_text labels) (λ one other. nat_list_eq_equiv.symm (label_text labels one.label)
+        (label_text labels other.label)) before after same apart));
     right = λ sum has.
         let back = map_back (sum_of labels) after sum (in_from_Contains (map (sum_of labels) after) sum has) in
         subst (λ (s : PieceSum). Sums s × (pieces ≤ 10 * s.bytes)) back.2 (is_sum back.0 (line_each back.0 back.1));

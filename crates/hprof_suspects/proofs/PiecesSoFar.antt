@@ -118,14 +118,16 @@ module _ (ids : IdSize) (facts : List FactValue) (retained : Retained) (tree : I
     pub pieces_fit : IsConsistent facts → slice_index part_sums group + (sum_at retained done).bytes ≤ (sum_at retained group).bytes
     pieces_fit agree =
         sums.below_fits ids facts retained tree heads are agree group group_low (IsTakenTo retained (TakesPart group) (done + 1))
-        (slice_index part_sums group + (sum_at retained done).bytes) more.0 more.1 (λ node taken. (part_below group (done + 1) node taken).0)
+        (slice_index part_sums group + (sum_at retained done).bytes) more.0 more.1
+        (λ node taken. (part_below group (done + 1) node taken).0)
 
     pub pieces_more : ArePartSumsTo (slice_set part_sums group (slice_index part_sums group + (sum_at retained done).bytes)) (done + 1)
     pieces_more = record {
       as_many = length-set part_sums group new ∙ so.as_many;
       each = λ other other_low. elim (cases_eq other group) [
         | inl same ↦
-            let put = ap (slice_index (slice_set part_sums group new)) same ∙ get_or-set_same part_sums group new 0 (omega (arith, so.as_many)) in (
+            let put = ap (slice_index (slice_set part_sums group new)) same ∙ get_or-set_same part_sums group new 0
+            (omega (arith, so.as_many)) in (
               more.0,
               subst (λ (b : ℕ). Adds ids facts retained (IsTakenTo retained (TakesPart other) (done + 1)) b more.0) (sym put)
                   (subst (λ (g : ℕ). Adds ids facts retained (IsTakenTo retained (TakesPart g) (done + 1)) new more.0) (sym same) more.1),
@@ -135,7 +137,8 @@ module _ (ids : IdSize) (facts : List FactValue) (retained : Retained) (tree : I
             let was = so.each other other_low in (
               was.0,
               subst (λ (b : ℕ). Adds ids facts retained (IsTakenTo retained (TakesPart other) (done + 1)) b was.0) (sym keeps)
-                  (sum_same ids facts retained (TakesPart other) done (slice_index part_sums other) was.0 (λ takes. apart (sym takes.1)) was.1),
+                  (sum_same ids facts retained (TakesPart other) done (slice_index part_sums other) was.0 (λ takes. apart (sym takes.1))
+                  was.1),
             )
       ];
     }

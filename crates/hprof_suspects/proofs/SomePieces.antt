@@ -39,7 +39,8 @@ use Rattle.hprof_suspects.proofs.SuspectOrder.{one_add}
 pub pieces_total : IsTotalOrder piece_cmp
 pieces_total =
     then_total (back_total (on_total (λ (sum : PieceSum). sum.bytes) nat_cmp_total))
-    (then_total (back_total (on_total (λ (sum : PieceSum). sum.count) nat_cmp_total)) (on_total (λ (sum : PieceSum). sum.label) nat_list_cmp_total))
+    (then_total (back_total (on_total (λ (sum : PieceSum). sum.count) nat_cmp_total))
+    (on_total (λ (sum : PieceSum). sum.label) nat_list_cmp_total))
 
 pub pieces_tied : (one other : PieceSum) → piece_cmp one other ≡ Equal → one ≡ other
 pieces_tied one other e =
@@ -47,7 +48,8 @@ pieces_tied one other e =
     let rest = ordering_then (nat_cmp other.count one.count) text in
     let second = then_tied (nat_cmp other.bytes one.bytes) rest e in
     let bytes : one.bytes ≡ other.bytes = sym (equal_numbers other.bytes one.bytes (first_tied (nat_cmp other.bytes one.bytes) rest e)) in
-    let count : one.count ≡ other.count = sym (equal_numbers other.count one.count (first_tied (nat_cmp other.count one.count) text second)) in
+    let count : one.count ≡ other.count = sym (equal_numbers other.count one.count
+    (first_tied (nat_cmp other.count one.count) text second)) in
     let label : one.label ≡ other.label = exact_bytes one.label other.label (then_tied (nat_cmp other.count one.count) text second) in
     λ i. record { label = label i; bytes = bytes i; count = count i }
 
@@ -219,11 +221,13 @@ module _ (ids : IdSize) (facts : List FactValue) (agree : IsConsistent facts) (r
             node_is = refl;
           }) in
           let is_new : Sums new = record {
-            some = counted sum.adds.nodes sum.count (node_at retained done) ((sum.adds.exact (node_at retained done)).1 there) sum.adds.count_is;
+            some = counted sum.adds.nodes sum.count (node_at retained done) ((sum.adds.exact (node_at retained done)).1 there)
+                sum.adds.count_is;
             add_up = sum.adds;
           } in
           let same_sum : (other : PieceSum) → Takes other.label done → Sums other → other ≡ new =
-          λ other takes is. one_sum other new (one_node_label facts agree (node_at retained done) other.label label.0 takes.1 label.1) is is_new in
+          λ other takes is. one_sum other new (one_node_label facts agree (node_at retained done) other.label label.0 takes.1 label.1) is
+          is_new in
           elim (le_decided pieces (10 * sum.bytes)) [
             | inr few ↦ same_list done so (λ other takes is enough.
                 few (subst (λ (s : PieceSum). pieces ≤ 10 * s.bytes) (same_sum other takes is) enough))
@@ -238,7 +242,8 @@ module _ (ids : IdSize) (facts : List FactValue) (agree : IsConsistent facts) (r
                   ];
                   keeps = λ place some low other takes is much. elim (cases_eq place done) [
                     | inl same ↦
-                        subst (λ (s : PieceSum). IsIn s joined.all) (sym (same_sum other (subst (Takes other.label) same takes) is)) joined.has
+                        subst (λ (s : PieceSum). IsIn s joined.all) (sym (same_sum other (subst (Takes other.label) same takes) is))
+                        joined.has
                     | inr apart ↦ joined.keeps other (so.keeps place some (omega arith) other takes is much)
                   ];
                 }

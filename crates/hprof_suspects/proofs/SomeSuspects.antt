@@ -89,7 +89,8 @@ module _ (ids : IdSize) (facts : List FactValue) (agree : IsConsistent facts) (r
   rises : (one other : SuspectPlace) → At (count_of retained) one → At (count_of retained) other → full_cmp one other ≡ Less
       → suspect_place_cmp one other ≡ Less
   rises one other is too less = go (suspect_place_cmp one other) refl less where
-    go : (order : Ordering) → suspect_place_cmp one other ≡ order → ordering_then order (nat_cmp one.place other.place) ≡ Less → order ≡ Less
+    go : (order : Ordering) → suspect_place_cmp one other ≡ order → ordering_then order (nat_cmp one.place other.place) ≡ Less
+        → order ≡ Less
     go Less e less = refl
     go Equal e less =
         let node = equal_numbers one.node other.node (then_tied (nat_cmp other.pieces one.pieces) (nat_cmp one.node other.node) e) in
@@ -108,5 +109,6 @@ module _ (ids : IdSize) (facts : List FactValue) (agree : IsConsistent facts) (r
         each,
         listed_suspects ids facts retained tree parts marked sums below retained.numbered.some ordered.all each
             (λ suspect is. ordered.keeps suspect (in_from_Contains some.0 suspect ((some.1.exact suspect).1 is)))
-            (rises_too full_cmp suspect_place_cmp ordered.all (λ one x on on_too. rises one x (each one on) (each x on_too)) ordered.sorted),
+            (rises_too full_cmp suspect_place_cmp ordered.all (λ one x on on_too. rises one x (each one on) (each x on_too))
+            ordered.sorted),
       )

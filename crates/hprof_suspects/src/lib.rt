@@ -5,6 +5,7 @@ mod chain;
 mod heads;
 mod label_sums;
 mod large;
+pub mod laws;
 mod lines;
 mod only;
 mod parts;

@@ -63,8 +63,8 @@ pub(crate) fn is_only(only: &BTreeMap<u128, usize>, key: u128, place: usize) -> 
     }
 }
 
-/// Returns for each group and label, in one number, the place of the only large head with the label right below the group, or 0 if there are
-/// several. If memory runs out, the answer is `AllocError`.
+/// Returns for each group and label, in one number, the place of the only large head with the label right below the group, or 0 if there
+/// are several. If memory runs out, the answer is `AllocError`.
 pub(crate) fn only_large(
     alloc: Global,
     retained: &Retained,

@@ -108,8 +108,8 @@ fn tenth_lines(
     Ok(lines)
 }
 
-/// Returns the sums by label of the pieces of a part that are at least a tenth of them: those with the most bytes first, then those with the
-/// most nodes, then by label. If memory runs out, the answer is `AllocError`.
+/// Returns the sums by label of the pieces of a part that are at least a tenth of them: those with the most bytes first, then those with
+/// the most nodes, then by label. If memory runs out, the answer is `AllocError`.
 pub(crate) fn piece_lines(
     alloc: Global,
     heap: &Heap,

@@ -23,12 +23,12 @@ use hprof_reports::write_line;
 use hprof_retained::{Retained, WeaklyHeld};
 use std::alloc::Global;
 
-/// Writes the report `suspects`. `weak` are the weak fields of the heap's classes, and `retained` is what its nodes retain. `weakly` are the
-/// nodes that only weak references reach; they are made, and kept there, if they are not there yet.
+/// Writes the report `suspects`. `weak` are the weak fields of the heap's classes, and `retained` is what its nodes retain. `weakly` are
+/// the nodes that only weak references reach; they are made, and kept there, if they are not there yet.
 ///
 /// The report has the total and what only weak references reach; then, for each part of the heap that falls apart into pieces of at least a
-/// tenth of all bytes, the bytes of the pieces, the nodes from the outermost down to the part, and what is right below it, added up by label.
-/// The parts with the most bytes come first. The text is made before it is written.
+/// tenth of all bytes, the bytes of the pieces, the nodes from the outermost down to the part, and what is right below it, added up by
+/// label. The parts with the most bytes come first. The text is made before it is written.
 ///
 /// If the writer fails or memory runs out, the bytes written are the beginning of the report. Its form is this project's own.
 pub fn write_suspects<W: Target>(

@@ -11,7 +11,8 @@ use Rattle.hprof_suspects.proofs.chain.push_chain.Goals as goal
 pub returns-then-place-eq0 : goal.returns-then-place-eq0
 returns-then-place-eq0 c = λ found is. (
   [],
-  subst (λ (p : ℕ). IsChain (size_of c.args.heap.now) (facts_of c.args.heap.now) (node_of c.args.retained.now p) []) (sym c.if-place-eq0.true)
+  subst (λ (p : ℕ). IsChain (size_of c.args.heap.now) (facts_of c.args.heap.now) (node_of c.args.retained.now p) [])
+      (sym c.if-place-eq0.true)
       refl,
   sym (append-nil (string_bytes c.args.text.now)),
 )

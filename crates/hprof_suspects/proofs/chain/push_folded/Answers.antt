@@ -20,4 +20,5 @@ returns c = λ found is.
     (λ e. long_chain found (retained_in retained) (node_at retained) c.args.places.now (string_bytes c.args.text.now)
     (string_bytes c.push_nodes-2.new.text) (string_bytes c.push_str.new.self) (string_bytes c.push_nodes-3.new.text)
     (string_bytes c.in_ok-more.more) c.if-places-le20.false (c.in_ok-push_nodes.ensures found is) c.in_ok-more.ensures
-    (c.in_ok-push_str.ensures.bytes ∙ ap (λ t. string_bytes c.push_nodes-2.new.text ++ t) c.deref.ensures) e) (c.push_nodes-3.ensures found is)
+    (c.in_ok-push_str.ensures.bytes ∙ ap (λ t. string_bytes c.push_nodes-2.new.text ++ t) c.deref.ensures) e)
+    (c.push_nodes-3.ensures found is)

@@ -20,7 +20,8 @@ returns-then-number c = (
       (c.requires.some, c.requires.within) joins.0 in
       let same = one_number (facts_of c.args.heap.now) c.holds_of_heap.ensures.agree retained labels c.requires.labels c.args.place
       (up retained c.args.place) c.requires.some c.requires.within at.0 at.1 joins.1.alike in
-      let other : label_at labels c.above-above.result ≡ label_at labels (up retained c.args.place) = ap (label_at labels) c.above-above.ensures in
+      let other : label_at labels c.above-above.result ≡ label_at labels (up retained c.args.place) = ap (label_at labels)
+      c.above-above.ensures in
       absurd (omega (arith, same, other, c.number.ensures, c.number-2.ensures, c.if-number.true)),
 )
 
@@ -42,13 +43,15 @@ returns c = (
       let facts = facts_of c.args.heap.now in
       let above : c.above-above.result ≡ up retained c.args.place = c.above-above.ensures in
       let some : 0 < up retained c.args.place = omega (arith, above, c.if-above-eq0.false) in
-      let at = above_place (size_of c.args.heap.now) facts retained c.requires.tree c.args.place (c.requires.some, c.requires.within) some in
+      let at = above_place (size_of c.args.heap.now) facts retained c.requires.tree c.args.place (c.requires.some, c.requires.within) some
+      in
       let other : label_at labels c.above-above.result ≡ label_at labels (up retained c.args.place) = ap (label_at labels) above in
       let same : label_at labels c.args.place ≡ label_at labels (up retained c.args.place) =
       omega (arith, other, c.number.ensures, c.number-2.ensures, c.if-number.false) in (
         some,
         record {
-          below = has_parent (size_of c.args.heap.now) facts retained c.requires.tree c.args.place (c.requires.some, c.requires.within) some;
+          below = has_parent (size_of c.args.heap.now) facts retained c.requires.tree c.args.place (c.requires.some, c.requires.within)
+              some;
           alike = one_label facts c.holds_of_heap.ensures.agree retained labels c.requires.labels c.args.place (up retained c.args.place)
               c.requires.some c.requires.within at.0 at.1 same;
           object = λ alone. both_ways c.is_class_alone.result c.if-is_class_alone.false (c.is_class_alone.ensures.1 alone);

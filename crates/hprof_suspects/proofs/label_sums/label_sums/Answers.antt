@@ -36,13 +36,15 @@ overflow_add-index_mut c =
     let low : place < count_of retained = omega (arith, c.loop-place-test.true, c.len-place-end.ensures) in
     let label = label_at labels place in
     let piece = c.is_piece.ensures.0 c.if-is_piece.true in
-    let fits = labels_fit ids facts agree retained c.requires.tree labels c.requires.labels heads c.requires.heads parts c.requires.parts part c.requires.within
+    let fits = labels_fit ids facts agree retained c.requires.tree labels c.requires.labels heads c.requires.heads parts c.requires.parts
+    part c.requires.within
     bytes counts place so some low piece in
     let within = c.requires.labels.within place some low in
     let same : c.number-label.result ≡ label = c.number-label.ensures in
     let many = so.as_many in
     let at = c.index_mut.ensures.value
-    ∙ get_or_default_zero bytes c.number-label.result c.index_mut.result.now (omega (arith, same, many, within)) ∙ ap (slice_index bytes) same in
+    ∙ get_or_default_zero bytes c.number-label.result c.index_mut.result.now (omega (arith, same, many, within)) ∙ ap (slice_index bytes)
+    same in
     omega (arith, fits, at, c.bytes.ensures, c.bytes-most.ensures, c.bytes-most.type_inv)
 
 pub overflow_add-index_mut-then-is_piece : goal.overflow_add-index_mut-then-is_piece
@@ -106,10 +108,12 @@ loop-place-preserved c =
           let new_counts : c.if-is_piece.counts.items ≡ slice_set counts label (slice_index counts label + 1) =
           ap (λ (v : Vec ℕ Global). v.items) w.counts-is ∙ (λ i. slice_set counts (same i) (counts_at i + 1)) in
           subst₂ (λ b n. AreLabelSumsTo ids facts retained labels heads parts part b n (place + 1)) (sym new) (sym new_counts)
-          (labels_more ids facts agree retained c.requires.tree labels c.requires.labels heads c.requires.heads parts c.requires.parts part c.requires.within
+          (labels_more ids facts agree retained c.requires.tree labels c.requires.labels heads c.requires.heads parts c.requires.parts
+          part c.requires.within
           bytes counts place so some low piece)
       | else-is_piece w ↦
-          let none = labels_same ids facts agree retained c.requires.tree labels c.requires.labels heads c.requires.heads parts c.requires.parts part c.requires.within
+          let none = labels_same ids facts agree retained c.requires.tree labels c.requires.labels heads c.requires.heads parts
+          c.requires.parts part c.requires.within
           bytes counts place so (λ piece. both_ways c.is_piece.result w.if-is_piece.false (c.is_piece.ensures.1 piece)) in
           subst₂ (λ b n. AreLabelSumsTo ids facts retained labels heads parts part b n (place + 1))
           (sym (ap (λ (v : Vec ℕ Global). v.items) w.bytes-is)) (sym (ap (λ (v : Vec ℕ Global). v.items) w.counts-is)) none

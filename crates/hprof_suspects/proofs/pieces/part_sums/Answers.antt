@@ -54,7 +54,8 @@ overflow_add-index_mut c =
     let sums = c.loop-place.sums.items in
     let group : ℕ = over_in retained heads place in
     let marked : IsMarked parts place =
-    get_or_default parts place false c.index.result.now (omega (arith, low, c.requires.parts.as_many)) ∙ sym c.index.ensures ∙ c.if-index.true in
+    get_or_default parts place false c.index.result.now (omega (arith, low, c.requires.parts.as_many)) ∙ sym c.index.ensures ∙
+    c.if-index.true in
     let fits = pieces_fit ids facts retained c.requires.tree heads c.requires.heads parts c.requires.parts sums place some low marked
     c.loop-place.invariant c.holds_of_heap.ensures.agree in
     let within = group_low ids facts retained c.requires.tree heads c.requires.heads parts c.requires.parts sums place some low marked
@@ -62,7 +63,8 @@ overflow_add-index_mut c =
     let same : c.over-group.result ≡ group = c.over-group.ensures in
     let many = c.loop-place.invariant.as_many in
     let sums_at = c.index_mut.ensures.value
-    ∙ get_or_default_zero sums c.over-group.result c.index_mut.result.now (omega (arith, same, many, within)) ∙ ap (slice_index sums) same in
+    ∙ get_or_default_zero sums c.over-group.result c.index_mut.result.now (omega (arith, same, many, within)) ∙ ap (slice_index sums) same
+    in
     let most = c.bytes-most.ensures ∙ ap (λ g. (sum_at retained g).bytes) same in
     omega (arith, fits, sums_at, most, c.bytes.ensures, c.bytes-most.type_inv)
 
@@ -88,7 +90,8 @@ loop-place-preserved c =
           c.loop-place.invariant in
           let same : w.over-group.result ≡ group = w.over-group.ensures in
           let sums_at : w.index_mut.result.now ≡ slice_index sums group = w.index_mut.ensures.value
-          ∙ get_or_default_zero sums w.over-group.result w.index_mut.result.now (omega (arith, same, many, within)) ∙ ap (slice_index sums) same in
+          ∙ get_or_default_zero sums w.over-group.result w.index_mut.result.now (omega (arith, same, many, within)) ∙ ap
+          (slice_index sums) same in
           let new : c.if-index.sums.items ≡ slice_set sums group (slice_index sums group + (sum_at retained place).bytes) =
           ap (λ (v : Vec ℕ Global). v.items) w.sums-is ∙ (λ i. slice_set sums (same i) (sums_at i + w.bytes.ensures i)) in
           subst (λ s. AreBelowTo ids facts retained heads parts s (place + 1)) (sym new)
@@ -98,5 +101,6 @@ loop-place-preserved c =
           let none : ¬ (IsMarked parts place) = λ marked. both_ways c.index.result.now w.if-index.false
           (c.index.ensures ∙ get_or_default parts place c.index.result.now false (omega (arith, low, c.requires.parts.as_many)) ∙ marked) in
           subst (λ s. AreBelowTo ids facts retained heads parts s (place + 1)) (sym (ap (λ (v : Vec ℕ Global). v.items) w.sums-is))
-          (pieces_same ids facts retained c.requires.tree heads c.requires.heads parts c.requires.parts sums place none c.loop-place.invariant)
+          (pieces_same ids facts retained c.requires.tree heads c.requires.heads parts c.requires.parts sums place none
+          c.loop-place.invariant)
     ]

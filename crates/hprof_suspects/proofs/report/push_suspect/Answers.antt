@@ -33,6 +33,7 @@ returns c = λ found is.
         is = refl;
       },
       suspect_joined (string_bytes c.args.text.now) (string_bytes c.push_str.new.self) (string_bytes c.push_chain.new.text)
-          (string_bytes c.push_sums.new.text) (suspect_line total pieces) c.deref.result.now (chain_lines found (retained_in retained) chain.0)
+          (string_bytes c.push_sums.new.text) (suspect_line total pieces) c.deref.result.now
+          (chain_lines found (retained_in retained) chain.0)
           (flat_map piece_line sums) c.in_ok-push_str.ensures.bytes (c.deref.ensures ∙ c.in_ok-first.ensures) chain.2 e,
     )) c.push_sums.ensures

@@ -26,7 +26,8 @@ loop-suspect-preserved c = λ found is.
     let own = c.in_ok-push_suspect.ensures found is in
     let texts = texts_more ids facts found (retained_in retained) (total_of retained) (map (suspect_of retained) (take index suspects)) so.0
     so.1 (suspect_of retained suspect) own.0 own.1 in
-    let front : map (suspect_of retained) (take (index + 1) suspects) ≡ map (suspect_of retained) (take index suspects) ++ suspect_of retained suspect ∷ [] =
+    let front : map (suspect_of retained) (take (index + 1) suspects) ≡ map (suspect_of retained) (take index suspects) ++ suspect_of
+    retained suspect ∷ [] =
     ap (map (suspect_of retained)) (take_more suspects index (record { place = 0; node = 0; pieces = 0 }) c.loop-suspect-test.true)
     ∙ map-append (suspect_of retained) (take index suspects) (suspect ∷ []) in (
       so.0 ++ own.0,

@@ -11,7 +11,8 @@ pub returns-then-not-index : goal.returns-then-not-index
 returns-then-not-index c =
     let parts = c.args.parts.now.items in
     let none : ¬ (IsMarked parts c.args.place) = λ marked. both_ways c.index.result.now c.if-not-index.true
-    (c.index.ensures ∙ get_or_default parts c.args.place c.index.result.now false (omega (arith, c.requires.within, c.requires.parts)) ∙ marked) in
+    (c.index.ensures ∙ get_or_default parts c.args.place c.index.result.now false (omega (arith, c.requires.within, c.requires.parts)) ∙
+    marked) in
     no_part c.args.retained.now parts c.args.sums.now.items c.args.place c.args.suspects.now.items c.requires.before none
 
 pub returns-then-not-is_tenth : goal.returns-then-not-is_tenth
