@@ -27,3 +27,4 @@ pub mod SomePieces
 pub mod SomeText
 pub mod OtherSums
 pub mod OneText
+pub mod AddedUp

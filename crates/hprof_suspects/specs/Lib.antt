@@ -6,3 +6,4 @@ pub mod PartPlaces
 pub mod Pieces
 pub mod SuspectPlaces
 pub mod LabelSums
+pub mod AllParts
