@@ -1,6 +1,6 @@
 -- The pieces of all parts add up to the total: each part but the roots is right below one part.
-use Rattle.std.specs.Prelude.{◌↔◌, AllPairs, Contains}
-use Rattle.std.proofs.Common.{◌≡◌, ◌≢◌, ◌⊎◌, ◌<◌, ◌+◌, ◌++◌, ◌∙◌, ℕ, zero, suc, List, [], ◌∷◌, Option, Some, None, get_or, length, refl, sym, ap, subst, inl, inr, arith}
+use Rattle.std.specs.Prelude.{◌↔◌, AllPairs}
+use Rattle.std.proofs.Common.{◌≡◌, ◌≢◌, ◌⊎◌, ◌+◌, ◌++◌, ◌∙◌, ℕ, suc, List, [], ◌∷◌, Option, Some, None, refl, sym, ap, subst, inl, inr, arith}
 use Rattle.std.specs.List.{sum_by}
 use Rattle.std.proofs.lemmas.List.Sums.{sum_by-append, sum_by-cons}
 use Rattle.hprof_values.specs.declared.ids.IdSize.{IdSize}
@@ -116,20 +116,21 @@ module _ (ids : IdSize) (facts : List FactValue) where
             ],
           );
           add_up = (
-            let all = sum_by-cons (λ (p : Suspect). bytes_of ids facts retained total p.part) part parts in
-            let both = sum_by-append bytes nodes rest.below in
-            let here = own.is in
-            let mine = own.are_below.bytes_are in
-            let old = rest.add_up in
-            omega arith
-          );
+              let all = sum_by-cons (λ (p : Suspect). bytes_of ids facts retained total p.part) part parts in
+              let both = sum_by-append bytes nodes rest.below in
+              let here = own.is in
+              let mine = own.are_below.bytes_are in
+              let old = rest.add_up in
+              omega arith
+              );
         }
 
     abbrev all_bytes : List Suspect → ℕ
     all_bytes parts = sum_by (λ part. bytes_of ids facts retained total part.part) parts
 
     abbrev WithRoots : List Suspect → List ℕ → Type 0
-    WithRoots parts nodes = (((part : Suspect) × IsIn part parts × (part.part ≡ None)) × (all_bytes parts ≡ total.bytes + sum_by bytes nodes))
+    WithRoots parts nodes = (((part : Suspect) × IsIn part parts × (part.part ≡ None)) ×
+        (all_bytes parts ≡ total.bytes + sum_by bytes nodes))
         ⊎ (((part : Suspect) → IsIn part parts → part.part ≢ None) × (all_bytes parts ≡ sum_by bytes nodes))
 
     record Named (parts : List Suspect) : Type 0 where
@@ -138,7 +139,8 @@ module _ (ids : IdSize) (facts : List FactValue) where
       exact : (node : ℕ) → IsOn node nodes ↔ ((part : Suspect) × IsIn part parts × (part.part ≡ Some node))
       sum : WithRoots parts nodes
 
-    roots_named : (part : Suspect) (parts : List Suspect) → ((other : Suspect) → IsIn other parts → part.part ≢ other.part) → part.part ≡ None
+    roots_named : (part : Suspect) (parts : List Suspect) → ((other : Suspect) → IsIn other parts → part.part ≢ other.part)
+        → part.part ≡ None
         → Named parts → Named (part ∷ parts)
     roots_named part parts apart none rest = record {
       nodes = rest.nodes;
@@ -211,13 +213,14 @@ module _ (ids : IdSize) (facts : List FactValue) where
     }
     all_named (part ∷ parts) apart =
         go part.part refl (all_named parts (rest_pairs (λ one other. one.part ≢ other.part) part parts apart)) where
-      go : (own : Option ℕ) → part.part ≡ own → Named parts → Named (part ∷ parts)
-      go None is rest = roots_named part parts (first_pairs (λ one other. one.part ≢ other.part) part parts apart) is rest
-      go (Some node) is rest = node_named part parts (first_pairs (λ one other. one.part ≢ other.part) part parts apart) node is rest
+          go : (own : Option ℕ) → part.part ≡ own → Named parts → Named (part ∷ parts)
+          go None is rest = roots_named part parts (first_pairs (λ one other. one.part ≢ other.part) part parts apart) is rest
+          go (Some node) is rest = node_named part parts (first_pairs (λ one other. one.part ≢ other.part) part parts apart) node is rest
 
     -- ---- all
 
-    pub pieces_add_up : (parts : List Suspect) → AreAllParts ids facts retained total parts → sum_by (λ part. part.pieces) parts ≡ total.bytes
+    pub pieces_add_up : (parts : List Suspect) → AreAllParts ids facts retained total parts
+        → sum_by (λ part. part.pieces) parts ≡ total.bytes
     pieces_add_up parts are = by_roots named.sum where
       part_of : (part : Suspect) → IsIn part parts → Part part.part × Pieces part
       part_of part on = are.right part (Contains-from_in parts part on)
@@ -228,7 +231,8 @@ module _ (ids : IdSize) (facts : List FactValue) where
       named : Named parts
       named = all_named parts are.once
 
-      above_of : (some : Option ℕ) (node : ℕ) → Part some → some ≡ Some node → (above : Option ℕ) × Part above × IsBelow ids facts above node
+      above_of : (some : Option ℕ) (node : ℕ) → Part some → some ≡ Some node
+          → (above : Option ℕ) × Part above × IsBelow ids facts above node
       above_of _ node Roots same = absurd cc
       above_of _ node (Large above own is_part below large singled) same =
           let node_is : own ≡ node = cc in

@@ -11,4 +11,5 @@ pub record AreAllParts (ids : IdSize) (facts : List FactValue) (retained : ℕ �
   pub once : AllPairs (λ one other. one.part ≢ other.part) parts
   pub right : (part : Suspect) → Contains parts part
       → IsPart ids facts retained total part.part × HasPieces ids facts retained total part.part part.pieces
-  pub all : (part : Option ℕ) → IsPart ids facts retained total part → (pieces : ℕ) × Contains parts (record { part = part; pieces = pieces })
+  pub all : (part : Option ℕ) → IsPart ids facts retained total part
+      → (pieces : ℕ) × Contains parts (record { part = part; pieces = pieces })
