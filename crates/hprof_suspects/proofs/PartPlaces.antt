@@ -1,8 +1,6 @@
 -- Parts by places: a large head right below a part that is singled out.
-use Rattle.std.proofs.Common.{◌≡◌, ◌<◌, ◌+◌, ◌*◌, ◌/◌, ◌%◌, ◌∙◌, ℕ, zero, suc, List, Option, Some, None, refl, sym, ap, subst, inl, inr, arith}
+use Rattle.std.proofs.Common.{◌≡◌, ◌<◌, ◌∙◌, ℕ, zero, suc, List, Option, Some, None, refl, sym, ap, subst, inl, inr, arith}
 use Rattle.std.specs.BTreeMap.{BTreeMap, get}
-use Rattle.std.specs.Ordering.{nat_cmp}
-use Rattle.std.proofs.lemmas.Nat.{div-mul-add, mod-mul-add}
 use Rattle.hprof_values.specs.declared.ids.IdSize.{IdSize}
 use Rattle.hprof_items.specs.FactValue.{FactValue}
 use Rattle.hprof_rows.specs.Conflict.{IsConsistent}
@@ -12,27 +10,20 @@ use Rattle.hprof_retained.specs.declared.retained.Retained.{Retained}
 use Rattle.hprof_keeps.specs.Order.{node_of, retained_in}
 use Rattle.hprof_keeps.proofs.Held.{sum_there}
 use Rattle.hprof_keeps.proofs.Places as places
-use Rattle.hprof_by_label.specs.Labels.{AreNodeLabels, label_at, label_count}
+use Rattle.hprof_by_label.specs.Labels.{AreNodeLabels}
 use Rattle.hprof_by_label.specs.declared.labels.NodeLabels.{NodeLabels}
 use Rattle.hprof_suspects.specs.Groups.{HaveOneLabel, IsBelow}
 use Rattle.hprof_suspects.specs.Heads.{AreHeads, head_in}
 use Rattle.hprof_suspects.specs.Parts.{IsLarge, IsOnlyLarge, IsPart, IsSingled, Large, Roots}
-use Rattle.hprof_suspects.specs.PartPlaces.{AreOnlyTo, IsLargeHead, IsLargeWith, IsOnlyOf, IsPartAt, IsSingledAt, key_in, over_in}
+use Rattle.hprof_suspects.specs.PartPlaces.{AreOnlyTo, IsLargeHead, IsLargeWith, IsOnlyOf, IsPartAt, IsSingledAt, key_cmp, key_in, over_in}
+use Rattle.hprof_suspects.specs.declared.only.GroupLabel.{GroupLabel}
 use Rattle.hprof_suspects.proofs.HeadPlaces as by_place
 use Rattle.hprof_suspects.proofs.PartSums as sums
 use Rattle.hprof_suspects.proofs.PlaceLabels.{one_label, one_number}
 
--- two keys that are one are of one group and one label
-pub one_key : (labels group label other_group other_label : ℕ) → label < labels → other_label < labels
-    → group * labels + label ≡ other_group * labels + other_label → (group ≡ other_group) × (label ≡ other_label)
-one_key labels group label other_group other_label low other_low same = (
-  sym (div-mul-add group labels label low) ∙ ap (λ k. k / labels) same ∙ div-mul-add other_group labels other_label other_low,
-  sym (mod-mul-add group labels label low) ∙ ap (λ k. k % labels) same ∙ mod-mul-add other_group labels other_label other_low,
-)
-
 module _ (ids : IdSize) (facts : List FactValue) (agree : IsConsistent facts) (retained : Retained) (tree : IsTreeOf ids facts retained)
     (labels : NodeLabels) (labelled : AreNodeLabels facts retained labels) (heads : List ℕ) (are : AreHeads ids facts retained heads)
-    (only : BTreeMap ℕ ℕ) (kept : AreOnlyTo retained labels heads only (count_of retained)) where
+    (only : BTreeMap GroupLabel ℕ) (kept : AreOnlyTo retained labels heads only (count_of retained)) where
   abbrev Place : ℕ → Type 0
   Place place = (0 < place) × (place < count_of retained)
 
@@ -42,7 +33,7 @@ module _ (ids : IdSize) (facts : List FactValue) (agree : IsConsistent facts) (r
   abbrev Big : ℕ → Type 0
   Big node = IsLarge ids facts (retained_in retained) (total_of retained) node
 
-  abbrev Key : ℕ → ℕ → Type 0
+  abbrev Key : GroupLabel → ℕ → Type 0
   Key key place = IsLargeWith retained labels heads key (count_of retained) place
 
   is_large : (place : ℕ) → Place place → IsLargeHead retained heads place → Big (node_at retained place)
@@ -62,11 +53,11 @@ module _ (ids : IdSize) (facts : List FactValue) (agree : IsConsistent facts) (r
         some = too.0;
         before = too.1;
         large = (own, omega arith);
-        key_is = λ i. group i * label_count labels + label i;
+        key_is = λ i. record { group = group i; label = label i };
       }
 
   -- the only one with its key is the only large one with its label
-  only_forth : (place : ℕ) → Place place → get nat_cmp only (key_in retained labels heads place) ≡ Some place
+  only_forth : (place : ℕ) → Place place → get key_cmp only (key_in retained labels heads place) ≡ Some place
       → IsOnlyLarge ids facts (retained_in retained) (total_of retained) (node_of retained (over place)) (node_at retained place)
   only_forth place is found other below large alike =
       let less = by_place.over_less ids facts retained tree heads are place is in
@@ -86,22 +77,22 @@ module _ (ids : IdSize) (facts : List FactValue) (agree : IsConsistent facts) (r
 
   only_back : (place : ℕ) → Place place → IsLargeHead retained heads place
       → IsOnlyLarge ids facts (retained_in retained) (total_of retained) (node_of retained (over place)) (node_at retained place)
-      → get nat_cmp only (key_in retained labels heads place) ≡ Some place
+      → get key_cmp only (key_in retained labels heads place) ≡ Some place
   only_back place is large lone =
-      go (get nat_cmp only (key_in retained labels heads place)) (kept (key_in retained labels heads place)) where
+      go (get key_cmp only (key_in retained labels heads place)) (kept (key_in retained labels heads place)) where
         own : Key (key_in retained labels heads place) place
         own = record { some = is.0; before = is.1; large = large; key_is = refl }
 
         equal : (other : ℕ) → Key (key_in retained labels heads place) other → other ≡ place
         equal other key =
             let too : Place other = (key.some, key.before) in
-            let same = one_key (label_count labels) (over other) (label_at labels other) (over place) (label_at labels place)
-            (labelled.within other too.0 too.1) (labelled.within place is.0 is.1) key.key_is in
+            let group : over other ≡ over place = ap (λ (k : GroupLabel). k.group) key.key_is in
+            let label = ap (λ (k : GroupLabel). k.label) key.key_is in
             let below = by_place.below_over ids facts retained tree heads are other too key.large.0 in
             places.one_place ids facts retained tree other place too is
-            (lone (node_at retained other) (subst (λ (g : ℕ). IsBelow ids facts (node_of retained g) (node_at retained other)) same.0 below)
+            (lone (node_at retained other) (subst (λ (g : ℕ). IsBelow ids facts (node_of retained g) (node_at retained other)) group below)
             (is_large other too key.large)
-            (one_label facts agree retained labels labelled other place too.0 too.1 is.0 is.1 same.1))
+            (one_label facts agree retained labels labelled other place too.0 too.1 is.0 is.1 label))
 
         go : (only : Option ℕ) → IsOnlyOf (Key (key_in retained labels heads place)) only → only ≡ Some place
         go None none = absurd (none place own)

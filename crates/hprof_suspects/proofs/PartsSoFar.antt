@@ -14,6 +14,7 @@ use Rattle.hprof_by_label.specs.declared.labels.NodeLabels.{NodeLabels}
 use Rattle.hprof_suspects.specs.Heads.{AreHeads}
 use Rattle.hprof_suspects.specs.Parts.{Roots}
 use Rattle.hprof_suspects.specs.PartPlaces.{AreOnlyTo, AreParts, IsMarked, IsPartAt, IsPartBy, over_in}
+use Rattle.hprof_suspects.specs.declared.only.GroupLabel.{GroupLabel}
 use Rattle.hprof_suspects.proofs.HeadPlaces.{over_less}
 use Rattle.hprof_suspects.proofs.PartPlaces.{part_back, part_forth}
 
@@ -36,7 +37,7 @@ marked_begin ids facts retained parts many some = record {
 
 module _ (ids : IdSize) (facts : List FactValue) (agree : IsConsistent facts) (retained : Retained) (tree : IsTreeOf ids facts retained)
     (labels : NodeLabels) (labelled : AreNodeLabels facts retained labels) (heads : List ℕ) (are : AreHeads ids facts retained heads)
-    (only : BTreeMap ℕ ℕ) (kept : AreOnlyTo retained labels heads only (count_of retained)) where
+    (only : BTreeMap GroupLabel ℕ) (kept : AreOnlyTo retained labels heads only (count_of retained)) where
   pub marked_more : (parts : List Bool) (done : ℕ) (is : Bool) → 0 < done → done < count_of retained
       → IsTrue is ↔ IsPartBy facts retained labels heads only parts done → AreMarkedTo ids facts retained parts done
       → AreMarkedTo ids facts retained (slice_set parts done is) (done + 1)

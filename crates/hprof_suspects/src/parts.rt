@@ -10,7 +10,7 @@ ghost use Rattle.hprof_suspects.specs.PartPlaces.{AreParts, IsPartBy, IsSingledA
 
 use crate::heads::is_class_alone;
 use crate::large::{is_large_head, over};
-use crate::only::{is_only, key_at, only_large};
+use crate::only::{GroupLabel, is_only, key_at, only_large};
 use hprof_by_label::NodeLabels;
 use hprof_heap::{Heap, holds_of_heap};
 use hprof_numbers::Numbers;
@@ -24,7 +24,7 @@ fn is_singled(
     retained: &Retained,
     labels: &NodeLabels,
     heads: &Numbers,
-    only: &BTreeMap<u128, usize>,
+    only: &BTreeMap<GroupLabel, usize>,
     place: usize,
 ) -> bool
     requires labels { AreNodeLabels (facts_of heap.now) retained.now labels.now }
@@ -48,7 +48,7 @@ fn is_part(
     retained: &Retained,
     labels: &NodeLabels,
     heads: &Numbers,
-    only: &BTreeMap<u128, usize>,
+    only: &BTreeMap<GroupLabel, usize>,
     parts: &Vec<bool>,
     place: usize,
 ) -> bool
