@@ -32,7 +32,7 @@ rest_pairs R x xs pairs = λ i j d less low. pairs (suc i) (suc j) d (omega arit
 module _ (ids : IdSize) (facts : List FactValue) where
   -- ---- one part above
 
-  same_parent : (node : ℕ) (one other : Option ℕ) → HasParent ids facts node one → HasParent ids facts node other → one ≡ other
+  pub same_parent : (node : ℕ) (one other : Option ℕ) → HasParent ids facts node one → HasParent ids facts node other → one ≡ other
   same_parent node one other is too = one_parent (IsStart facts) (IsStepBy (IsStrong facts) ids facts) node one other is too
 
   top_head : (node top : ℕ) → HasHead ids facts node top → IsHead ids facts node → top ≡ node
@@ -46,11 +46,11 @@ module _ (ids : IdSize) (facts : List FactValue) where
       let same : above ≡ parent = cc in
       subst (λ (p : ℕ). HasHead ids facts p head) same rest
 
-  one_head : (node one : ℕ) → HasHead ids facts node one → (other : ℕ) → HasHead ids facts node other → one ≡ other
+  pub one_head : (node one : ℕ) → HasHead ids facts node one → (other : ℕ) → HasHead ids facts node other → one ≡ other
   one_head _ _ (Itself node own) other too = sym (top_head node other too own)
   one_head _ _ (Above node parent head joins rest) other too = one_head parent head rest other (through node other too parent joins)
 
-  one_above : (one other : Option ℕ) (node : ℕ) → IsBelow ids facts one node → IsBelow ids facts other node → one ≡ other
+  pub one_above : (one other : Option ℕ) (node : ℕ) → IsBelow ids facts one node → IsBelow ids facts other node → one ≡ other
   one_above None None node is too = refl
   one_above None (Some group) node is too =
       let clash : None ≡ Some too.1.0 = same_parent node None (Some too.1.0) is.1 too.1.1 in absurd cc

@@ -28,3 +28,4 @@ pub mod SomeText
 pub mod OtherSums
 pub mod OneText
 pub mod AddedUp
+pub mod NodeGroups
