@@ -29,3 +29,4 @@ pub mod OtherSums
 pub mod OneText
 pub mod AddedUp
 pub mod NodeGroups
+pub mod NodeParts

@@ -88,9 +88,6 @@ module _ (ids : IdSize) (facts : List FactValue) where
     | inr apart ↦ over_head one parent head is rest (joins.below.nearest one dominates apart)
   ]
 
-  pub held_below : (part : Option ℕ) (node : ℕ) → IsBelow ids facts part node → IsHead ids facts node
-  held_below None node below = below.0
-  held_below (Some group) node below = below.0
 
   -- ---- of facts that agree
 
