@@ -30,3 +30,6 @@ pub mod OneText
 pub mod AddedUp
 pub mod NodeGroups
 pub mod NodeParts
+pub mod NodePieces
+pub mod NodeSuspects
+pub mod SomeSuspectsText

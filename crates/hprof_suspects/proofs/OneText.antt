@@ -26,7 +26,7 @@ use Rattle.hprof_suspects.specs.SuspectsText.{ArePieceSums, AreSuspects, AreText
 use Rattle.hprof_suspects.proofs.OtherSums.{piece_sum_too, same_sum, suspect_too}
 use Rattle.hprof_suspects.proofs.SomePieces.{pieces_total}
 
-suspects_total : IsTotalOrder suspect_cmp
+pub suspects_total : IsTotalOrder suspect_cmp
 suspects_total =
     then_total (back_total (on_total (λ (suspect : Suspect). suspect.pieces) nat_cmp_total))
     (on_total (λ (suspect : Suspect). id_of suspect.part) nat_cmp_total)
