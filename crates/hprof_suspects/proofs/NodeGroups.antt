@@ -1,5 +1,5 @@
 -- If facts agree, each node that is held has the head of its group, and it is decided what is right below a group.
-use Rattle.std.proofs.Common.{◌≡◌, ◌≢◌, ◌⊎◌, ◌≤◌, ◌+◌, ◌∙◌, ℕ, zero, suc, List, [], ◌∷◌, Option, Some, None, length, refl, sym, ap, subst, inl, inr, arith}
+use Rattle.std.proofs.Common.{◌≡◌, ◌≢◌, ◌⊎◌, ◌≤◌, ◌+◌, ℕ, zero, suc, List, [], ◌∷◌, Option, Some, None, length, sym, subst, inl, inr, arith}
 use Rattle.std.proofs.lemmas.Bool.{cases_eq}
 use Rattle.hprof_values.specs.declared.ids.IdSize.{IdSize}
 use Rattle.hprof_items.specs.FactValue.{FactValue}
@@ -15,7 +15,7 @@ use Rattle.hprof_retained.proofs.Deciding.{Decided}
 use Rattle.hprof_retained.proofs.HeldOrNot.{held_or_not}
 use Rattle.hprof_retained.proofs.SomeParent.{parent_exists}
 use Rattle.hprof_suspects.specs.Groups.{Above, HasHead, IsBelow, IsHead, Itself, Joins}
-use Rattle.hprof_suspects.proofs.AddedUp.{one_head, same_parent}
+use Rattle.hprof_suspects.proofs.AddedUp.{same_parent}
 use Rattle.hprof_suspects.proofs.Decisions.{alike_decided, alone_decided}
 
 module _ (ids : IdSize) (facts : List FactValue) where

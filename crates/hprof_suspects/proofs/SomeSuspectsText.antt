@@ -1,7 +1,6 @@
 -- If facts agree, they have a report, and it is one.
-use Rattle.std.specs.Prelude.{IfOk}
 use Rattle.std.specs.List.{flat_map}
-use Rattle.std.proofs.Common.{◌≡◌, ◌⊎◌, ◌++◌, ℕ, List, [], ◌∷◌, Option, Some, None, refl, inl, inr}
+use Rattle.std.proofs.Common.{◌≡◌, ◌++◌, ℕ, List, [], ◌∷◌, Option, Some, None, refl, inl, inr}
 use Rattle.std.proofs.lemmas.Bool.{cases_eq}
 use Rattle.hprof_values.specs.declared.ids.IdSize.{IdSize}
 use Rattle.hprof_items.specs.FactValue.{FactValue}
@@ -21,8 +20,8 @@ use Rattle.hprof_keeps.specs.KeepsText.{IsKeepsText, total_line, weakly_line}
 use Rattle.hprof_keeps.specs.Order.{AreDominators, AreRetained}
 use Rattle.hprof_keeps.proofs.LargestFirst.{are_sums, sums}
 use Rattle.hprof_keeps.proofs.SomeKeeps.{keeps_exists, weakly_exists}
-use Rattle.hprof_suspects.specs.Parts.{IsPart, IsSuspect}
-use Rattle.hprof_suspects.specs.SuspectsText.{AreSuspects, AreTexts, IsChain, IsPartText, IsSuspectsPart, IsSuspectsText, NoMore, OneMore, Suspect, chain_lines, piece_line, suspect_line}
+use Rattle.hprof_suspects.specs.Parts.{IsPart}
+use Rattle.hprof_suspects.specs.SuspectsText.{AreTexts, IsChain, IsPartText, IsSuspectsPart, IsSuspectsText, NoMore, OneMore, Suspect, chain_lines, piece_line, suspect_line}
 use Rattle.hprof_suspects.proofs.NodeGroups.{walk_of}
 use Rattle.hprof_suspects.proofs.NodeParts.{part_held}
 use Rattle.hprof_suspects.proofs.NodePieces.{part_sums}

@@ -9,9 +9,10 @@ ghost use Rattle.hprof_retained.specs.Retained.{Sum};
 ghost use Rattle.hprof_suspects.specs.AllParts.{AreAllParts};
 ghost use Rattle.hprof_suspects.specs.SuspectsText.{IsSuspectsText, Suspect};
 
-/// If facts agree, their report `suspects` is one text.
+/// If facts agree, they have a report `suspects`. It is one text.
 pub fn one_suspects_text()
-    ensures { (ids : IdSize) (facts : List FactValue) → IsConsistent facts → (one other : List ℕ)
+    ensures some { (ids : IdSize) (facts : List FactValue) → IsConsistent facts → (text : List ℕ) × IsSuspectsText ids facts text }
+    ensures one { (ids : IdSize) (facts : List FactValue) → IsConsistent facts → (one other : List ℕ)
         → IsSuspectsText ids facts one → IsSuspectsText ids facts other → one ≡ other }
 {}
 
