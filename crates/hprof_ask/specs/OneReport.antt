@@ -15,7 +15,7 @@ use Rattle.hprof_show.proofs.OneReport.{one_show_text}
 use Rattle.hprof_holders.proofs.SomeThreads.{text_once as threads_once}
 use Rattle.hprof_holders.proofs.SomeWho.{who_once}
 use Rattle.hprof_histogram.specs.declared.row.Kind.{Kind}
-use Rattle.hprof_suspects.proofs.OneSuspects.{suspects_once}
+use Rattle.hprof_suspects.proofs.SomeSuspectsText.{suspects_once}
 use Rattle.hprof_by_label.proofs.OneRetained.{retained_once}
 use Rattle.hprof_keeps.specs.Chosen.{HasObjectOfKind}
 use Rattle.hprof_keeps.proofs.OneBiggest.{biggest_once}

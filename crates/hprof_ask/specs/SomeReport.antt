@@ -28,7 +28,7 @@ use Rattle.hprof_reports.proofs.ClassLists.{some_dumps}
 use Rattle.hprof_show.proofs.OneReport.{some_show}
 use Rattle.hprof_holders.proofs.SomeThreads.{text_exists as some_threads}
 use Rattle.hprof_holders.proofs.SomeWho.{who_exists}
-use Rattle.hprof_suspects.proofs.SomeSuspects.{suspects_exist}
+use Rattle.hprof_suspects.proofs.SomeSuspectsText.{suspects_exist}
 use Rattle.hprof_by_label.proofs.SomeRetained.{retained_exists}
 use Rattle.hprof_keeps.specs.BiggestText.{IsBiggestText}
 use Rattle.hprof_keeps.specs.declared.choice.Choice.TheVariants as choices
