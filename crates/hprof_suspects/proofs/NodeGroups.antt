@@ -58,7 +58,8 @@ module _ (ids : IdSize) (facts : List FactValue) where
   pub walk_of : (node : ℕ) → IsHeld ids facts node → (nodes : List ℕ) × IsWalk nodes node
   walk_of node held = (same_reached Start Step node).1 held
 
-  cut : (x node : ℕ) (nodes : List ℕ) → IsWalk nodes node → IsOn x nodes → (rest : List ℕ) × IsWalk rest x × (length rest + 1 ≤ length nodes)
+  cut : (x node : ℕ) (nodes : List ℕ) → IsWalk nodes node → IsOn x nodes
+      → (rest : List ℕ) × IsWalk rest x × (length rest + 1 ≤ length nodes)
   cut x node [] walk on = absurd on
   cut x node (before ∷ nodes) walk on = elim on [
     | inl same ↦ (nodes, subst (IsWalk nodes) (sym same) walk.1, omega arith)
@@ -87,7 +88,6 @@ module _ (ids : IdSize) (facts : List FactValue) where
     | inl same ↦ absurd (is.topmost parent (subst (λ (n : ℕ). Joins ids facts n parent) (sym same) joins))
     | inr apart ↦ over_head one parent head is rest (joins.below.nearest one dominates apart)
   ]
-
 
   -- ---- of facts that agree
 

@@ -1,5 +1,5 @@
 -- If facts agree, it is decided what is a part, and each part has pieces.
-use Rattle.std.proofs.Common.{◌≡◌, ◌≢◌, ◌≤◌, ◌-◌, ◌*◌, ℕ, zero, suc, List, [], ◌∷◌, Option, Some, None, length, refl, sym, ap, subst, inl, inr, arith}
+use Rattle.std.proofs.Common.{◌≡◌, ◌≢◌, ◌≤◌, ◌+◌, ◌-◌, ◌*◌, ℕ, zero, suc, List, [], ◌∷◌, Option, Some, None, length, refl, sym, ap, subst, inl, inr, arith}
 use Rattle.std.specs.List.{sum_by}
 use Rattle.std.proofs.lemmas.Bool.{cases_eq}
 use Rattle.std.proofs.lemmas.List.Sums.{sum_by-cons}
@@ -152,14 +152,20 @@ module _ (ids : IdSize) (facts : List FactValue) (agree : IsConsistent facts) (r
     ]
   ]
 
+  -- there is a shorter walk to the group that a node is right below
+  nearer : (group node : ℕ) (nodes : List ℕ) → IsWalk ids facts nodes node → IsBelow ids facts (Some group) node
+      → (rest : List ℕ) × IsWalk ids facts rest group × (length rest + 1 ≤ length nodes)
+  nearer group node nodes walk below =
+      shorter ids facts group node nodes walk (over_dominates ids facts group node below) (over_other ids facts group node below)
+
   part_to : (most node : ℕ) (nodes : List ℕ) → IsWalk ids facts nodes node → length nodes ≤ most → (above : Option ℕ)
       → IsBelow ids facts above node → Decided (Part (Some node))
   part_to most node nodes walk short None below = part_step node None below (inl Roots)
   part_to zero node nodes walk short (Some group) below =
-      let rest = shorter ids facts group node nodes walk (over_dominates ids facts group node below) (over_other ids facts group node below) in
+      let rest = nearer group node nodes walk below in
       let less = rest.2 in absurd (omega arith)
   part_to (suc most) node nodes walk short (Some group) below =
-      let rest = shorter ids facts group node nodes walk (over_dominates ids facts group node below) (over_other ids facts group node below) in
+      let rest = nearer group node nodes walk below in
       let less = rest.2 in
       let next = head_below ids facts agree group (top_is_head ids facts below.1.0 group below.1.2) in
       part_step node (Some group) below (part_to most group rest.0 rest.1 (omega arith) next.0 next.1)
