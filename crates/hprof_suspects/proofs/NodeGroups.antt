@@ -18,6 +18,10 @@ use Rattle.hprof_suspects.specs.Groups.{Above, HasHead, IsBelow, IsHead, Itself,
 use Rattle.hprof_suspects.proofs.AddedUp.{same_parent}
 use Rattle.hprof_suspects.proofs.Decisions.{alike_decided, alone_decided}
 
+pub below_head : (ids : IdSize) (facts : List FactValue) (part : Option ℕ) (node : ℕ) → IsBelow ids facts part node → IsHead ids facts node
+below_head ids facts None node below = below.0
+below_head ids facts (Some group) node below = below.0
+
 module _ (ids : IdSize) (facts : List FactValue) where
   abbrev Start : ℕ → Type 0
   Start = IsStart facts

@@ -26,7 +26,8 @@ use Rattle.hprof_suspects.specs.SuspectsText.{AreTexts, IsChain, IsPartText, IsS
 use Rattle.hprof_suspects.proofs.NodeGroups.{walk_of}
 use Rattle.hprof_suspects.proofs.NodeParts.{part_held}
 use Rattle.hprof_suspects.proofs.NodePieces.{part_sums}
-use Rattle.hprof_suspects.proofs.NodeSuspects.{all_suspects, held_is_node}
+use Rattle.hprof_suspects.proofs.NodeSome.{held_is_node}
+use Rattle.hprof_suspects.proofs.NodeSuspects.{all_suspects}
 use Rattle.hprof_suspects.proofs.OneText.{text_once}
 
 module _ (ids : IdSize) (facts : List FactValue) where
