@@ -243,7 +243,8 @@ module _ (ids : IdSize) (facts : List FactValue) (agree : IsConsistent facts) (r
       (λ node. both_decided (below_decided part node) (part_decided node)) (λ node both. below_dumped part node both.0) in
       let adds = below.adds in
       let sum = adds.bytes_are in
-      let within = fits part (λ group same. part_held group (subst Part same is)) adds.nodes adds.once (λ node on. ((adds.exact node).0 on).0) in (
+      let held : (group : ℕ) → part ≡ Some group → IsHeld ids facts group = λ group same. part_held group (subst Part same is) in
+      let within = fits part held adds.nodes adds.once (λ node on. ((adds.exact node).0 on).0) in (
         bytes_of ids facts retained total part - below.bytes,
         record { below = below.bytes; count = below.count; are_below = adds; is = omega arith },
       )

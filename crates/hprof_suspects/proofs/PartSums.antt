@@ -1,4 +1,4 @@
--- What is right below a group shares nothing, and retains no more than the group together.
+-- What is right below a group, by places: it retains no more than the group together.
 use Rattle.std.proofs.Common.{◌≡◌, ◌<◌, ◌≤◌, ◌∙◌, ℕ, zero, suc, List, Some, None, refl, sym, ap, subst, arith}
 use Rattle.hprof_values.specs.declared.ids.IdSize.{IdSize}
 use Rattle.hprof_items.specs.FactValue.{FactValue}
