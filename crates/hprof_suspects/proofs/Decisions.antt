@@ -1,6 +1,6 @@
 -- What can be decided of nodes and of places.
-use Rattle.std.proofs.Common.{◌≡◌, ◌<◌, ◌≤◌, ◌++◌, ℕ, zero, suc, List, Option, Some, None, codes, refl, sym, subst, inl, inr, arith}
-use Rattle.std.proofs.lemmas.Bool.{both_ways, cases_Bool, cases_eq, cases_lt}
+use Rattle.std.proofs.Common.{◌≡◌, ◌≤◌, ◌++◌, ℕ, List, Option, Some, None, codes, refl, subst, inl, inr, arith}
+use Rattle.std.proofs.lemmas.Bool.{both_ways, cases_Bool, cases_lt}
 use Rattle.std.proofs.lemmas.Slice.Eq.{bytes_eq-Decides}
 use Rattle.std.specs.Str.{bytes_eq}
 use Rattle.hprof_items.specs.FactValue.{FactValue, Instance, ObjArray, PrimArray}
@@ -21,17 +21,6 @@ pub list_decided : (xs ys : List ℕ) → Decided (xs ≡ ys)
 list_decided xs ys = elim (cases_Bool (bytes_eq xs ys)) [
   | inl equal ↦ inl ((bytes_eq-Decides xs ys).0 equal)
   | inr unequal ↦ inr (λ same. both_ways (bytes_eq xs ys) unequal ((bytes_eq-Decides xs ys).1 same))
-]
-
--- of all below a bound
-pub all_decided : (P : ℕ → Type 0) → ((k : ℕ) → Decided (P k)) → (n : ℕ) → Decided ((k : ℕ) → k < n → P k)
-all_decided P decide zero = inl (λ k low. absurd (omega arith))
-all_decided P decide (suc n) = elim (all_decided P decide n) [
-  | inl before ↦ elim (decide n) [
-    | inl here ↦ inl (λ k low. elim (cases_eq k n) [ inl same ↦ subst P (sym same) here | inr other ↦ before k (omega arith) ])
-    | inr none ↦ inr (λ all. none (all n (omega arith)))
-  ]
-  | inr none ↦ inr (λ all. none (λ k low. all k (omega arith)))
 ]
 
 module _ (facts : List FactValue) where

@@ -19,12 +19,7 @@ pub mod LineTexts
 pub mod ChainTexts
 pub mod ReportTexts
 pub mod Decisions
-pub mod SomeHeads
-pub mod SomeParts
 pub mod InOrder
-pub mod SomeSuspects
-pub mod SomePieces
-pub mod SomeText
 pub mod OtherSums
 pub mod OneText
 pub mod AddedUp

@@ -18,6 +18,10 @@ use Rattle.hprof_suspects.specs.Groups.{Above, HasHead, IsBelow, IsHead, Itself,
 use Rattle.hprof_suspects.proofs.AddedUp.{same_parent}
 use Rattle.hprof_suspects.proofs.Decisions.{alike_decided, alone_decided}
 
+pub below_head : (ids : IdSize) (facts : List FactValue) (part : Option ℕ) (node : ℕ) → IsBelow ids facts part node → IsHead ids facts node
+below_head ids facts None node below = below.0
+below_head ids facts (Some group) node below = below.0
+
 module _ (ids : IdSize) (facts : List FactValue) where
   abbrev Start : ℕ → Type 0
   Start = IsStart facts
@@ -58,7 +62,8 @@ module _ (ids : IdSize) (facts : List FactValue) where
   pub walk_of : (node : ℕ) → IsHeld ids facts node → (nodes : List ℕ) × IsWalk nodes node
   walk_of node held = (same_reached Start Step node).1 held
 
-  cut : (x node : ℕ) (nodes : List ℕ) → IsWalk nodes node → IsOn x nodes → (rest : List ℕ) × IsWalk rest x × (length rest + 1 ≤ length nodes)
+  cut : (x node : ℕ) (nodes : List ℕ) → IsWalk nodes node → IsOn x nodes
+      → (rest : List ℕ) × IsWalk rest x × (length rest + 1 ≤ length nodes)
   cut x node [] walk on = absurd on
   cut x node (before ∷ nodes) walk on = elim on [
     | inl same ↦ (nodes, subst (IsWalk nodes) (sym same) walk.1, omega arith)
@@ -87,7 +92,6 @@ module _ (ids : IdSize) (facts : List FactValue) where
     | inl same ↦ absurd (is.topmost parent (subst (λ (n : ℕ). Joins ids facts n parent) (sym same) joins))
     | inr apart ↦ over_head one parent head is rest (joins.below.nearest one dominates apart)
   ]
-
 
   -- ---- of facts that agree
 

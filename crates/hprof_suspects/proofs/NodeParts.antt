@@ -1,5 +1,5 @@
 -- If facts agree, it is decided what is a part, and each part has pieces.
-use Rattle.std.proofs.Common.{◌≡◌, ◌≢◌, ◌≤◌, ◌-◌, ◌*◌, ℕ, zero, suc, List, [], ◌∷◌, Option, Some, None, length, refl, sym, ap, subst, inl, inr, arith}
+use Rattle.std.proofs.Common.{◌≡◌, ◌≢◌, ◌≤◌, ◌+◌, ◌-◌, ◌*◌, ℕ, zero, suc, List, [], ◌∷◌, Option, Some, None, length, refl, sym, ap, subst, inl, inr, arith}
 use Rattle.std.specs.List.{sum_by}
 use Rattle.std.proofs.lemmas.Bool.{cases_eq}
 use Rattle.std.proofs.lemmas.List.Sums.{sum_by-cons}
@@ -18,8 +18,7 @@ use Rattle.hprof_suspects.specs.Groups.{Above, HasHead, HaveOneLabel, IsBelow, I
 use Rattle.hprof_suspects.specs.Parts.{AddUp, HasPieces, IsLarge, IsOnlyLarge, IsPart, IsSingled, Large, Roots, bytes_of}
 use Rattle.hprof_suspects.proofs.AddedUp.{one_above}
 use Rattle.hprof_suspects.proofs.Decisions.{alike_decided, alone_decided, le_decided}
-use Rattle.hprof_suspects.proofs.NodeGroups.{IsWalk, each_other, either, head_below, head_over, heads_decided, over_head, shorter, transitive, walk_of}
-use Rattle.hprof_suspects.proofs.PartSums.{below_head}
+use Rattle.hprof_suspects.proofs.NodeGroups.{IsWalk, below_head, each_other, either, head_below, head_over, heads_decided, over_head, shorter, transitive, walk_of}
 
 same_or_not : (one other : Option ℕ) → Decided (one ≡ other)
 same_or_not None None = inl refl
@@ -152,14 +151,20 @@ module _ (ids : IdSize) (facts : List FactValue) (agree : IsConsistent facts) (r
     ]
   ]
 
+  -- there is a shorter walk to the group that a node is right below
+  nearer : (group node : ℕ) (nodes : List ℕ) → IsWalk ids facts nodes node → IsBelow ids facts (Some group) node
+      → (rest : List ℕ) × IsWalk ids facts rest group × (length rest + 1 ≤ length nodes)
+  nearer group node nodes walk below =
+      shorter ids facts group node nodes walk (over_dominates ids facts group node below) (over_other ids facts group node below)
+
   part_to : (most node : ℕ) (nodes : List ℕ) → IsWalk ids facts nodes node → length nodes ≤ most → (above : Option ℕ)
       → IsBelow ids facts above node → Decided (Part (Some node))
   part_to most node nodes walk short None below = part_step node None below (inl Roots)
   part_to zero node nodes walk short (Some group) below =
-      let rest = shorter ids facts group node nodes walk (over_dominates ids facts group node below) (over_other ids facts group node below) in
+      let rest = nearer group node nodes walk below in
       let less = rest.2 in absurd (omega arith)
   part_to (suc most) node nodes walk short (Some group) below =
-      let rest = shorter ids facts group node nodes walk (over_dominates ids facts group node below) (over_other ids facts group node below) in
+      let rest = nearer group node nodes walk below in
       let less = rest.2 in
       let next = head_below ids facts agree group (top_is_head ids facts below.1.0 group below.1.2) in
       part_step node (Some group) below (part_to most group rest.0 rest.1 (omega arith) next.0 next.1)
@@ -219,17 +224,18 @@ module _ (ids : IdSize) (facts : List FactValue) (agree : IsConsistent facts) (r
         λ either. elim either [ inl one ↦ (node, inl refl, one) | inr other ↦ (other.0, inr other.1, other.2) ],
       )) ids facts (retained node).bytes (sum_by (λ node. (retained node).bytes) nodes) first.0 rest)
 
-  -- what is right below a part retains no more than it
-  fits : (part : Option ℕ) → Part part → (nodes : List ℕ) → IsOnce nodes → ((node : ℕ) → IsOn node nodes → IsBelow ids facts part node)
+  -- what is right below a node that is held, or right below the roots, retains no more than it
+  pub fits : (part : Option ℕ) → ((group : ℕ) → part ≡ Some group → IsHeld ids facts group) → (nodes : List ℕ) → IsOnce nodes
+      → ((node : ℕ) → IsOn node nodes → IsBelow ids facts part node)
       → sum_by (λ node. (retained node).bytes) nodes ≤ bytes_of ids facts retained total part
-  fits None is nodes once below =
+  fits None held nodes once below =
       bytes_within ids facts agree (IsUnder nodes) (IsHeld ids facts) (sum_by (λ node. (retained node).bytes) nodes) total.bytes
       (held_dumped ids facts agree) (λ x under. under.2.reached) (all_under None nodes once below) is_total.0
-  fits (Some group) is nodes once below =
+  fits (Some group) held nodes once below =
       bytes_within ids facts agree (IsUnder nodes) (Dominates ids facts group) (sum_by (λ node. (retained node).bytes) nodes)
       (retained group).bytes (λ x dominates. held_dumped ids facts agree x dominates.reached)
       (λ x under. transitive ids facts group under.0 x (over_dominates ids facts group under.0 (below under.0 under.1)) under.2)
-      (all_under (Some group) nodes once below) (are group (part_held group is)).0
+      (all_under (Some group) nodes once below) (are group (held group refl)).0
 
   pub part_pieces : (part : Option ℕ) → Part part → (pieces : ℕ) × HasPieces ids facts retained total part pieces
   part_pieces part is =
@@ -237,7 +243,8 @@ module _ (ids : IdSize) (facts : List FactValue) (agree : IsConsistent facts) (r
       (λ node. both_decided (below_decided part node) (part_decided node)) (λ node both. below_dumped part node both.0) in
       let adds = below.adds in
       let sum = adds.bytes_are in
-      let within = fits part is adds.nodes adds.once (λ node on. ((adds.exact node).0 on).0) in (
+      let held : (group : ℕ) → part ≡ Some group → IsHeld ids facts group = λ group same. part_held group (subst Part same is) in
+      let within = fits part held adds.nodes adds.once (λ node on. ((adds.exact node).0 on).0) in (
         bytes_of ids facts retained total part - below.bytes,
         record { below = below.bytes; count = below.count; are_below = adds; is = omega arith },
       )

@@ -1,5 +1,12 @@
 -- If facts agree, the pieces of a part have sums by label, in order.
 use Rattle.std.proofs.Common.{◌≡◌, ◌≢◌, ◌≤◌, ◌*◌, ℕ, List, [], ◌∷◌, Option, Some, length, refl, sym, subst, inl, inr, arith}
+use Rattle.std.specs.Cmp.{IsTotalOrder}
+use Rattle.std.specs.Cmp.Lexicographic.{slice_cmp}
+use Rattle.std.specs.Ordering.{nat_cmp, ordering_then}
+use Rattle.std.specs.declared.cmp.Ordering.TheVariants.{Equal}
+use Rattle.std.proofs.lemmas.Cmp.{back_total, nat_cmp_total, nat_list_cmp_total, on_total, then_total}
+use Rattle.std.proofs.lemmas.Map.Lookups.{exact_bytes}
+use Rattle.hprof_histogram.proofs.RowOrder.{then_tied}
 use Rattle.hprof_values.specs.declared.ids.IdSize.{IdSize}
 use Rattle.hprof_items.specs.FactValue.{FactValue}
 use Rattle.hprof_rows.specs.Conflict.{IsConsistent}
@@ -16,9 +23,25 @@ use Rattle.hprof_suspects.specs.Groups.{IsBelow}
 use Rattle.hprof_suspects.specs.Parts.{AddUp, IsPart, IsPiece, IsPieceSum, PieceSum}
 use Rattle.hprof_suspects.specs.SuspectsText.{ArePieceSums, piece_cmp}
 use Rattle.hprof_suspects.proofs.Decisions.{has_label_decided, label_exists, le_decided}
-use Rattle.hprof_suspects.proofs.InOrder.{in_order}
+use Rattle.hprof_suspects.proofs.InOrder.{equal_numbers, first_tied, in_order}
 use Rattle.hprof_suspects.proofs.NodeParts.{Added, added, below_decided, below_dumped, part_decided}
-use Rattle.hprof_suspects.proofs.SomePieces.{pieces_tied, pieces_total}
+
+pub pieces_total : IsTotalOrder piece_cmp
+pieces_total =
+    then_total (back_total (on_total (λ (sum : PieceSum). sum.bytes) nat_cmp_total))
+    (then_total (back_total (on_total (λ (sum : PieceSum). sum.count) nat_cmp_total))
+    (on_total (λ (sum : PieceSum). sum.label) nat_list_cmp_total))
+
+pub pieces_tied : (one other : PieceSum) → piece_cmp one other ≡ Equal → one ≡ other
+pieces_tied one other e =
+    let text = slice_cmp nat_cmp one.label other.label in
+    let rest = ordering_then (nat_cmp other.count one.count) text in
+    let second = then_tied (nat_cmp other.bytes one.bytes) rest e in
+    let bytes : one.bytes ≡ other.bytes = sym (equal_numbers other.bytes one.bytes (first_tied (nat_cmp other.bytes one.bytes) rest e)) in
+    let count : one.count ≡ other.count = sym (equal_numbers other.count one.count
+    (first_tied (nat_cmp other.count one.count) text second)) in
+    let label : one.label ≡ other.label = exact_bytes one.label other.label (then_tied (nat_cmp other.count one.count) text second) in
+    λ i. record { label = label i; bytes = bytes i; count = count i }
 
 counted : (nodes : List ℕ) (count node : ℕ) → IsOn node nodes → count ≡ length nodes → count ≢ 0
 counted [] count node on many = absurd on

@@ -12,8 +12,7 @@ use Rattle.hprof_rows.specs.Conflict.{IsConsistent}
 use Rattle.hprof_dominators.specs.Walks.{IsOn}
 use Rattle.hprof_histogram.proofs.Members.{Contains-from_in, IsIn, in_from_Contains}
 use Rattle.hprof_histogram.proofs.RowOrder.{then_tied}
-use Rattle.hprof_reach.specs.Reaching.{IsNode}
-use Rattle.hprof_retained.specs.Retained.{IsHeld, IsTotal, Sum}
+use Rattle.hprof_retained.specs.Retained.{IsTotal, Sum}
 use Rattle.hprof_retained.proofs.NodeLists.{IsListOf, held_dumped, nodes_exist}
 use Rattle.hprof_retained.proofs.OneSums.{same_sum_by}
 use Rattle.hprof_keeps.specs.Order.{AreRetained}
@@ -22,8 +21,8 @@ use Rattle.hprof_suspects.specs.Parts.{HasPieces, IsPart, IsSuspect, Roots}
 use Rattle.hprof_suspects.specs.SuspectsText.{AreSuspects, Suspect, id_of, suspect_cmp}
 use Rattle.hprof_suspects.proofs.Decisions.{le_decided}
 use Rattle.hprof_suspects.proofs.InOrder.{equal_numbers, first_tied, in_order, less_numbers, rises_too}
-use Rattle.hprof_suspects.proofs.NodeGroups.{IsWalk, walk_of}
 use Rattle.hprof_suspects.proofs.NodeParts.{part_decided, part_held, part_pieces}
+use Rattle.hprof_suspects.proofs.NodeSome.{held_is_node}
 use Rattle.hprof_suspects.proofs.OneText.{suspects_total}
 
 -- ---- an order that tells all apart
@@ -53,14 +52,6 @@ full_tied one other e =
     let pieces = equal_numbers other.pieces one.pieces (first_tied (nat_cmp other.pieces one.pieces) names first) in
     let same : one.pieces ≡ other.pieces = sym pieces in
     λ i. record { part = part i; pieces = same i }
-
-module _ (ids : IdSize) (facts : List FactValue) where
-  last_is_node : (nodes : List ℕ) (node : ℕ) → IsWalk ids facts nodes node → IsNode facts node
-  last_is_node [] node start = start.0
-  last_is_node (before ∷ nodes) node step = step.0.1
-
-  pub held_is_node : (node : ℕ) → IsHeld ids facts node → IsNode facts node
-  held_is_node node held = let walk = walk_of ids facts node held in last_is_node walk.0 node walk.1
 
 module _ (ids : IdSize) (facts : List FactValue) (agree : IsConsistent facts) (retained : ℕ → Sum) (are : AreRetained ids facts retained)
     (total : Sum) (is_total : IsTotal ids facts total) where

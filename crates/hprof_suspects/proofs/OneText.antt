@@ -24,7 +24,7 @@ use Rattle.hprof_keeps.proofs.OneKeeps.{one_dominators}
 use Rattle.hprof_suspects.specs.Parts.{PieceSum}
 use Rattle.hprof_suspects.specs.SuspectsText.{ArePieceSums, AreSuspects, AreTexts, IsChain, IsPartText, IsSuspectsPart, IsSuspectsText, NoMore, OneMore, Suspect, chain_lines, id_of, piece_line, suspect_cmp, suspect_line}
 use Rattle.hprof_suspects.proofs.OtherSums.{piece_sum_too, same_sum, suspect_too}
-use Rattle.hprof_suspects.proofs.SomePieces.{pieces_total}
+use Rattle.hprof_suspects.proofs.NodePieces.{pieces_total}
 
 pub suspects_total : IsTotalOrder suspect_cmp
 suspects_total =

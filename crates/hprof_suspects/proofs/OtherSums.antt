@@ -12,7 +12,7 @@ use Rattle.hprof_retained.proofs.OneSums.{one_sum}
 use Rattle.hprof_keeps.specs.Order.{AreRetained}
 use Rattle.hprof_suspects.specs.Groups.{IsBelow}
 use Rattle.hprof_suspects.specs.Parts.{AddUp, IsLarge, IsPart, IsPiece, IsPieceSum, IsSingled, IsSuspect, Large, PieceSum, Roots, bytes_of}
-use Rattle.hprof_suspects.proofs.PartSums.{below_head}
+use Rattle.hprof_suspects.proofs.NodeGroups.{below_head}
 
 sums_same : (f g : ℕ → ℕ) (nodes : List ℕ) → ((node : ℕ) → IsOn node nodes → f node ≡ g node) → sum_by f nodes ≡ sum_by g nodes
 sums_same f g [] same = refl

@@ -35,7 +35,7 @@ use Rattle.hprof_suspects.specs.LabelSums.{AreLabelSums, AreLinesTo, IsLineTo, l
 use Rattle.hprof_suspects.specs.Parts.{AddUp, IsPiece, IsPieceSum, PieceSum}
 use Rattle.hprof_suspects.specs.SuspectsText.{ArePieceSums, piece_cmp}
 use Rattle.hprof_suspects.specs.declared.piece_lines.PieceLine.{PieceLine}
-use Rattle.hprof_suspects.proofs.PartSums.{below_head}
+use Rattle.hprof_suspects.proofs.NodeGroups.{below_head}
 use Rattle.hprof_suspects.proofs.PlaceLabels.{label_is}
 use Rattle.hprof_suspects.proofs.SortedLists.{all_rise, images_rise, map_back}
 use Rattle.hprof_suspects.proofs.SuspectOrder.{one_add}

@@ -1,6 +1,7 @@
 -- If facts agree, they have a report, and it is one.
+use Rattle.std.specs.Prelude.{IfOk}
 use Rattle.std.specs.List.{flat_map}
-use Rattle.std.proofs.Common.{◌≡◌, ◌++◌, ℕ, List, [], ◌∷◌, Option, Some, None, refl, inl, inr}
+use Rattle.std.proofs.Common.{◌≡◌, ◌++◌, ℕ, List, [], ◌∷◌, Option, Some, None, Result, Ok, Err, refl, inl, inr}
 use Rattle.std.proofs.lemmas.Bool.{cases_eq}
 use Rattle.hprof_values.specs.declared.ids.IdSize.{IdSize}
 use Rattle.hprof_items.specs.FactValue.{FactValue}
@@ -25,7 +26,8 @@ use Rattle.hprof_suspects.specs.SuspectsText.{AreTexts, IsChain, IsPartText, IsS
 use Rattle.hprof_suspects.proofs.NodeGroups.{walk_of}
 use Rattle.hprof_suspects.proofs.NodeParts.{part_held}
 use Rattle.hprof_suspects.proofs.NodePieces.{part_sums}
-use Rattle.hprof_suspects.proofs.NodeSuspects.{all_suspects, held_is_node}
+use Rattle.hprof_suspects.proofs.NodeSome.{held_is_node}
+use Rattle.hprof_suspects.proofs.NodeSuspects.{all_suspects}
 use Rattle.hprof_suspects.proofs.OneText.{text_once}
 
 module _ (ids : IdSize) (facts : List FactValue) where
@@ -125,3 +127,9 @@ suspects_exist ids facts agree =
 pub suspects_once : (ids : IdSize) (facts : List FactValue) (one other : List ℕ) → IsSuspectsText ids facts one
     → IsSuspectsText ids facts other → one ≡ other
 suspects_once ids facts one other is too = text_once ids facts is.agree one other is too
+
+-- the text that was made, or one that could be made
+pub made_or_some : {A E : Type 0} (r : Result A E) (bytes : A → List ℕ) (IsText : List ℕ → Type 0) → IfOk r (λ a. IsText (bytes a))
+    → (text : List ℕ) × IsText text → (text : List ℕ) × IsText text × IfOk r (λ a. bytes a ≡ text)
+made_or_some (Ok a) bytes IsText is some = (bytes a, is, refl)
+made_or_some (Err e) bytes IsText is some = (some.0, some.1, is)

@@ -18,23 +18,23 @@ use Rattle.hprof_histogram.proofs.Joining.{all_from_in}
 use Rattle.hprof_histogram.proofs.Members.{Contains-from_in, IsIn, in_from_Contains, in_map}
 use Rattle.hprof_histogram.proofs.RowOrder.{then_tied, tied_numbers}
 use Rattle.hprof_keeps.specs.Order.{node_of, retained_in}
-use Rattle.hprof_keeps.proofs.Held.{sum_there}
 use Rattle.hprof_keeps.proofs.Places as places
 use Rattle.hprof_rows.specs.Conflict.{IsConsistent}
 use Rattle.hprof_by_label.proofs.Joined.{bytes_within}
 use Rattle.hprof_retained.proofs.NodeLists.{held_dumped}
-use Rattle.hprof_retained.specs.Retained.{Dominates, IsHeld, Sum}
+use Rattle.hprof_retained.specs.Retained.{Dominates, IsHeld}
 use Rattle.hprof_retained.specs.Tree.{IsTreeOf, count_of, node_at, place_of, sum_at, total_of}
 use Rattle.hprof_retained.specs.declared.retained.Retained.{Retained}
 use Rattle.hprof_retained.proofs.OneSums.{same_sum_by}
-use Rattle.hprof_suspects.specs.Parts.{AddUp, IsPart, IsSuspect, Large, Roots, bytes_of}
+use Rattle.hprof_suspects.specs.Parts.{AddUp, IsPart, IsSuspect, Large, Roots}
 use Rattle.hprof_suspects.specs.PartPlaces.{AreParts}
 use Rattle.hprof_suspects.specs.Pieces.{ArePartSums, IsPartBelow}
 use Rattle.hprof_suspects.specs.SuspectPlaces.{AreSuspectsTo, IsSuspectAt, IsWithin, suspect_of, suspect_place_cmp}
 use Rattle.hprof_suspects.specs.SuspectsText.{AreSuspects, Suspect, id_of, suspect_cmp}
 use Rattle.hprof_suspects.specs.declared.suspects.SuspectPlace.{SuspectPlace}
-use Rattle.hprof_suspects.proofs.NodeSome.{held_some}
-use Rattle.hprof_suspects.proofs.PartSums.{below_head}
+use Rattle.hprof_suspects.proofs.NodeSome.{held_is_node}
+use Rattle.hprof_suspects.proofs.PartSums.{bytes_at}
+use Rattle.hprof_suspects.proofs.NodeGroups.{below_head}
 use Rattle.hprof_suspects.proofs.SortedLists.{all_rise, images_rise, map_back}
 
 pub suspects_total : IsTotalOrder suspect_place_cmp
@@ -49,15 +49,7 @@ tied : (one other : SuspectPlace) → suspect_place_cmp one other ≡ Equal → 
 tied one other e = tied_numbers one.node other.node (then_tied (nat_cmp other.pieces one.pieces) (nat_cmp one.node other.node) e)
 
 module _ (ids : IdSize) (facts : List FactValue) (retained : Retained) (tree : IsTreeOf ids facts retained) where
-  -- what the part at a place retains
-  pub bytes_at : (place : ℕ) → place < count_of retained
-      → (sum_at retained place).bytes ≡ bytes_of ids facts (retained_in retained) (total_of retained) (node_of retained place)
-  bytes_at zero low = refl
-  bytes_at (suc place) low =
-      ap (λ (s : Sum). s.bytes) (sum_there ids facts retained tree (suc place) (omega arith) low)
-      ∙ sym (ap (bytes_of ids facts (retained_in retained) (total_of retained)) (places.node_of_some retained (suc place) (omega arith)))
-
-  -- it is not more than all
+  -- what a place retains is not more than all
   bytes_low : IsConsistent facts → (place : ℕ) → place < count_of retained → (sum_at retained place).bytes ≤ (sum_at retained 0).bytes
   bytes_low agree zero low = omega arith
   bytes_low agree (suc place) low =
@@ -70,7 +62,7 @@ module _ (ids : IdSize) (facts : List FactValue) (retained : Retained) (tree : I
   pub one_id : (one other : ℕ) → one < other → other < count_of retained → id_of (node_of retained one) ≡ id_of (node_of retained other) → ⊥
   one_id zero other less low same =
       let some = ap id_of (places.node_of_some retained other (omega arith)) in
-      held_some ids facts (node_at retained other) (tree.held other (omega arith) low).0 (sym (same ∙ some))
+      (held_is_node ids facts (node_at retained other) (tree.held other (omega arith) low).0).0 (sym (same ∙ some))
   one_id (suc one) other less low same =
       let first = ap id_of (places.node_of_some retained (suc one) (omega arith)) in
       let second = ap id_of (places.node_of_some retained other (omega arith)) in
@@ -106,7 +98,7 @@ module _ (ids : IdSize) (facts : List FactValue) (retained : Retained) (tree : I
               below = slice_index sums suspect.place;
               count = adds.0;
               are_below = adds.1;
-              is = is.pieces ∙ bytes_at suspect.place is.before;
+              is = is.pieces ∙ bytes_at ids facts retained tree suspect.place is.before;
             };
             enough = is.enough;
           }
@@ -119,7 +111,7 @@ module _ (ids : IdSize) (facts : List FactValue) (retained : Retained) (tree : I
           let adds = below.each place low in
           let one = one_add (IsPartBelow ids facts retained place) is.has_pieces.below (slice_index sums place) is.has_pieces.count adds.0
           is.has_pieces.are_below adds.1 in
-          let own = bytes_at place low in
+          let own = bytes_at ids facts retained tree place low in
           let all = is.has_pieces.is in
           record {
             before = low;
