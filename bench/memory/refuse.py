@@ -56,7 +56,7 @@ REPORTS = [["histo"], ["object", "c8"], ["object", "64"], ["object", "c9"], ["ob
 REPORTS += [["path", "63"], ["path", "c9"], ["path", "ca"]]
 REPORTS += [["refs", "63"], ["refs", "c8"], ["refs", "c9"], ["classes"], ["objects", "64"], ["objects", "byte[]"], ["text", "ca"]]
 REPORTS += [["why", "63"], ["why", "c9"], ["why", "ca"], ["who", "c9"], ["who", "ca"]]
-REPORTS += [["keeps", "0"], ["keeps", "c9"], ["show", "c8"], ["show", "ca"], ["threads"], ["retained"]]
+REPORTS += [["keeps", "0"], ["keeps", "c9"], ["show", "c8"], ["show", "ca"], ["threads"], ["suspects"], ["retained"]]
 REPORTS += [["biggest", "64"], ["biggest", "java.lang.Class"]]
 
 # Each report asked for twice, so that what is kept is made and then used.

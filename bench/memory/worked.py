@@ -19,7 +19,7 @@ from pathlib import Path
 HERE = Path(__file__).resolve().parent
 CRATE = HERE.parent.parent / "crates" / "hprof_worked"
 PROGRAM = CRATE / "out" / "hprof_worked"
-CALLS = {"join", "join101", "salvage", "check", "histo", "classes", "objects", "biggest", "retained"}
+CALLS = {"join", "join101", "salvage", "check", "histo", "classes", "objects", "biggest", "retained", "suspects"}
 CALLS |= {"object", "refs", "path", "text", "why", "who", "keeps", "show", "threads", "diff", "ask"}
 CALLS |= {"edges", "layout", "unite", "read", "facts", "$"}
 TITLES = [

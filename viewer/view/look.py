@@ -47,6 +47,7 @@ dt{color:var(--soft)}dd{margin:0;overflow-wrap:anywhere}
 ol.path{padding-left:1.2rem}ol.path li{margin:.25rem 0;overflow-wrap:anywhere}
 .map{width:100%;height:auto;margin:.4rem 0}.map text{font-size:13px;fill:#fff;pointer-events:none}
 .map rect{stroke:var(--back)}.map .outer{fill:var(--bar)}.map .inner{fill:var(--less)}
+.suspects{list-style:none;padding:0}.suspects li{margin:.5rem 0}.suspects ol li{margin:.1rem 0}.suspects .track{width:60%}
 .refusal{border-left:4px solid var(--more);padding-left:.8rem}
 progress{width:100%;height:1.2rem}
 @media (max-width:40rem){header,main{padding:.4rem .6rem}header form{margin-left:0}.extra,th.share,td.share{display:none}

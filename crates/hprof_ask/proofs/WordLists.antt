@@ -33,17 +33,18 @@ module _ (P : ReportWord → Type 0) where
   of_each all (words.Heap heaps.Histogram) = all.1.0
   of_each all (words.Heap heaps.Classes) = all.1.1.0
   of_each all (words.Heap heaps.Threads) = all.1.1.1.0
-  of_each all (words.Heap heaps.Retained) = all.1.1.1.1.0
-  of_each all (words.Kind kinds.Biggest) = all.1.1.1.1.1.0
-  of_each all (words.Kind kinds.Objects) = all.1.1.1.1.1.1.0
-  of_each all (words.Node nodes.Show) = all.1.1.1.1.1.1.1.0
-  of_each all (words.Node nodes.Why) = all.1.1.1.1.1.1.1.1.0
-  of_each all (words.Node nodes.Who) = all.1.1.1.1.1.1.1.1.1.0
-  of_each all (words.Node nodes.Keeps) = all.1.1.1.1.1.1.1.1.1.1.0
-  of_each all (words.Node nodes.Text) = all.1.1.1.1.1.1.1.1.1.1.1.0
-  of_each all (words.Node nodes.Object) = all.1.1.1.1.1.1.1.1.1.1.1.1.0
-  of_each all (words.Node nodes.Refs) = all.1.1.1.1.1.1.1.1.1.1.1.1.1.0
-  of_each all (words.Node nodes.Path) = all.1.1.1.1.1.1.1.1.1.1.1.1.1.1.0
+  of_each all (words.Heap heaps.Suspects) = all.1.1.1.1.0
+  of_each all (words.Heap heaps.Retained) = all.1.1.1.1.1.0
+  of_each all (words.Kind kinds.Biggest) = all.1.1.1.1.1.1.0
+  of_each all (words.Kind kinds.Objects) = all.1.1.1.1.1.1.1.0
+  of_each all (words.Node nodes.Show) = all.1.1.1.1.1.1.1.1.0
+  of_each all (words.Node nodes.Why) = all.1.1.1.1.1.1.1.1.1.0
+  of_each all (words.Node nodes.Who) = all.1.1.1.1.1.1.1.1.1.1.0
+  of_each all (words.Node nodes.Keeps) = all.1.1.1.1.1.1.1.1.1.1.1.0
+  of_each all (words.Node nodes.Text) = all.1.1.1.1.1.1.1.1.1.1.1.1.0
+  of_each all (words.Node nodes.Object) = all.1.1.1.1.1.1.1.1.1.1.1.1.1.0
+  of_each all (words.Node nodes.Refs) = all.1.1.1.1.1.1.1.1.1.1.1.1.1.1.0
+  of_each all (words.Node nodes.Path) = all.1.1.1.1.1.1.1.1.1.1.1.1.1.1.1.0
 
   -- so does what holds of those that a loop has gone over, at its end
   pub of_all_words : (place : ℕ) → length all_words ≤ place → AllByRecursion P (take place all_words) → (word : ReportWord) → P word

@@ -15,6 +15,7 @@ use Rattle.hprof_show.proofs.OneReport.{one_show_text}
 use Rattle.hprof_holders.proofs.SomeThreads.{text_once as threads_once}
 use Rattle.hprof_holders.proofs.SomeWho.{who_once}
 use Rattle.hprof_histogram.specs.declared.row.Kind.{Kind}
+use Rattle.hprof_suspects.proofs.SomeSuspectsText.{suspects_once}
 use Rattle.hprof_by_label.proofs.OneRetained.{retained_once}
 use Rattle.hprof_keeps.specs.Chosen.{HasObjectOfKind}
 use Rattle.hprof_keeps.proofs.OneBiggest.{biggest_once}
@@ -43,6 +44,7 @@ module _ (summaries : List PartSummary) (ids : IdSize) (facts : List FactValue) 
   one_heap_report heaps.Histogram = one_histogram_text ids facts
   one_heap_report heaps.Classes = one_classes_text ids facts
   one_heap_report heaps.Threads = λ one other are too. threads_once facts are.agree ids one other are too
+  one_heap_report heaps.Suspects = suspects_once ids facts
   one_heap_report heaps.Retained = retained_once ids facts
 
   one_node_report : (report : NodeReport) (id : ℕ) (one other : List ℕ) → IsNodeReport ids facts report id one

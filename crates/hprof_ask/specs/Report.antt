@@ -27,6 +27,7 @@ use Rattle.hprof_keeps.specs.BiggestText.{IsBiggestText}
 use Rattle.hprof_keeps.specs.Chosen.{HasObjectOfClasses, HasObjectOfKind, IsClassAlone}
 use Rattle.hprof_keeps.specs.KeepsText.{IsKeepsText}
 use Rattle.hprof_by_label.specs.RetainedText.{IsRetainedText}
+use Rattle.hprof_suspects.specs.SuspectsText.{IsSuspectsText}
 use Rattle.hprof_why.specs.WhyText.{IsWhyText}
 use Rattle.hprof_ask.specs.declared.report.HeapReport.{HeapReport}
 use Rattle.hprof_ask.specs.declared.report.HeapReport.TheVariants as heaps
@@ -45,6 +46,7 @@ IsHeapReport summaries ids facts heaps.Check text = IsCheck summaries facts text
 IsHeapReport summaries ids facts heaps.Histogram text = IsHistogramText ids facts text
 IsHeapReport summaries ids facts heaps.Classes text = IsClassesText ids facts text
 IsHeapReport summaries ids facts heaps.Threads text = IsThreadsText ids facts text
+IsHeapReport summaries ids facts heaps.Suspects text = IsSuspectsText ids facts text
 IsHeapReport summaries ids facts heaps.Retained text = IsRetainedText ids facts text
 
 -- it is the report on the objects of a class or a type among these facts

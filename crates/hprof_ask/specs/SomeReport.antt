@@ -28,6 +28,7 @@ use Rattle.hprof_reports.proofs.ClassLists.{some_dumps}
 use Rattle.hprof_show.proofs.OneReport.{some_show}
 use Rattle.hprof_holders.proofs.SomeThreads.{text_exists as some_threads}
 use Rattle.hprof_holders.proofs.SomeWho.{who_exists}
+use Rattle.hprof_suspects.proofs.SomeSuspectsText.{suspects_exist}
 use Rattle.hprof_by_label.proofs.SomeRetained.{retained_exists}
 use Rattle.hprof_keeps.specs.BiggestText.{IsBiggestText}
 use Rattle.hprof_keeps.specs.declared.choice.Choice.TheVariants as choices
@@ -127,6 +128,7 @@ module _ (ids : IdSize) (facts : List FactValue) (agree : IsConsistent facts) wh
   some_heap_report summaries heaps.Histogram = some_histogram
   some_heap_report summaries heaps.Classes = some_classes
   some_heap_report summaries heaps.Threads = some_threads facts agree ids
+  some_heap_report summaries heaps.Suspects = suspects_exist ids facts agree
   some_heap_report summaries heaps.Retained = retained_exists ids facts agree
 
   some_kind_report : (report : KindReport) (kind : Kind) → (text : List ℕ) × IsKindReport ids facts report kind text

@@ -18,6 +18,7 @@ heap_word heaps.Check = codes "check"
 heap_word heaps.Histogram = codes "histo"
 heap_word heaps.Classes = codes "classes"
 heap_word heaps.Threads = codes "threads"
+heap_word heaps.Suspects = codes "suspects"
 heap_word heaps.Retained = codes "retained"
 
 -- the words of reports on the objects of a class or a type
@@ -58,7 +59,7 @@ follows_of (words.Node report) = node_follows report
 abbrev pub all_words : List ReportWord
 all_words =
     words.Heap heaps.Check ∷ words.Heap heaps.Histogram ∷ words.Heap heaps.Classes ∷ words.Heap heaps.Threads
-    ∷ words.Heap heaps.Retained ∷ words.Kind kinds.Biggest ∷ words.Kind kinds.Objects
+    ∷ words.Heap heaps.Suspects ∷ words.Heap heaps.Retained ∷ words.Kind kinds.Biggest ∷ words.Kind kinds.Objects
     ∷ words.Node nodes.Show ∷ words.Node nodes.Why ∷ words.Node nodes.Who ∷ words.Node nodes.Keeps ∷ words.Node nodes.Text
     ∷ words.Node nodes.Object ∷ words.Node nodes.Refs ∷ words.Node nodes.Path ∷ []
 

@@ -18,6 +18,7 @@ ghost use Rattle.hprof_holders.specs.WhoText.{IsWhoText};
 ghost use Rattle.hprof_keeps.specs.BiggestText.{IsBiggestText};
 ghost use Rattle.hprof_keeps.specs.Chosen.{ClassesAscend, IsChosen};
 ghost use Rattle.hprof_keeps.specs.KeepsText.{IsKeepsText};
+ghost use Rattle.hprof_suspects.specs.SuspectsText.{IsSuspectsText};
 ghost use Rattle.hprof_why.specs.WhyText.{IsWhyText};
 ghost use Rattle.hprof_ask.specs.Kept.{IsKept};
 ghost use Rattle.hprof_ask.specs.Report.{IsHeapReport, IsKindReport, IsNodeReport, IsReport, RefusesReport, TakesMemory};
@@ -39,6 +40,7 @@ use hprof_reports::{
 };
 use hprof_show::write_show;
 use hprof_stream::PartSummary;
+use hprof_suspects::write_suspects;
 use hprof_why::write_why;
 use std::alloc::{AllocError, Global};
 
@@ -204,6 +206,39 @@ impl<'a> Answerer<'a> {
         outcome
     }
 
+    /// Writes the report `suspects`.
+    fn write_suspects<W: Target>(
+        &self,
+        alloc: Global,
+        kept: &mut Kept,
+        target: &mut W,
+    ) -> Result<(), WriteStop>
+        requires well { W.health target.old ≡ Well }
+        requires kept { IsKept (size_of self.now.heap.now) (facts_of self.now.heap.now) kept.old }
+        ensures bytes { (text : List ℕ) × IsSuspectsText (size_of self.now.heap.now) (facts_of self.now.heap.now) text
+            × WritesText (W.written target.old) (W.written target.new) result text }
+        ensures health { LeavesTarget result (W.health target.new) }
+        ensures kept { IsKept (size_of self.now.heap.now) (facts_of self.now.heap.now) kept.new }
+    {
+        holds_of_heap(self.heap);
+        let survey = kept_or_made(alloc, self.heap, kept.survey.take())?;
+        let references = kept_or_made(alloc, self.heap, kept.references.take())?;
+        let retained = retained_or_made(alloc, self.heap, &references.weak, kept.retained.take())?;
+        let outcome = write_suspects(
+            alloc,
+            self.heap,
+            &survey.classes,
+            &references.weak,
+            &retained,
+            &mut kept.weakly,
+            target,
+        );
+        kept.survey = Some(survey);
+        kept.references = Some(references);
+        kept.retained = Some(retained);
+        outcome
+    }
+
     /// Writes the report `retained`.
     fn write_retained<W: Target>(
         &self,
@@ -360,6 +395,7 @@ impl<'a> Answerer<'a> {
             HeapReport::Histogram => self.write_histogram(alloc, kept, target),
             HeapReport::Classes => self.write_classes(alloc, kept, target),
             HeapReport::Threads => self.write_threads(alloc, kept, target),
+            HeapReport::Suspects => self.write_suspects(alloc, kept, target),
             HeapReport::Retained => self.write_retained(alloc, kept, target),
         }
     }

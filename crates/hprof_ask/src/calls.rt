@@ -103,6 +103,29 @@ pub fn classes_to<R: Source, W: Target>(
     )
 }
 
+/// Reads all parts, and writes the report `suspects` on their heap: the total of what strong references reach from a GC root, and for each
+/// part of the heap whose pieces are a tenth of it at least their bytes, the objects that keep the part alive, and the pieces added up by
+/// label. All parts are read before the first byte is written. If memory runs out then, the bytes written are the beginning of the report.
+pub fn suspects_to<R: Source, W: Target>(
+    alloc: Global,
+    readers: &mut [R],
+    target: &mut W,
+    limits: Limits,
+) -> Result<(), ToolFault>
+    requires readers { All (λ reader. R.health reader ≡ Well) readers.old }
+    requires writer { W.health target.old ≡ Well }
+    ensures { Makes R.left R.health R.pulls W.written W.health limits (report_making (Report.Heap HeapReport.Suspects))
+        readers.old readers.new target.old target.new (fault_of result) }
+{
+    report_to(
+        alloc,
+        readers,
+        Report::Heap(HeapReport::Suspects),
+        target,
+        limits,
+    )
+}
+
 /// Reads all parts, and writes the report `retained` on their heap: a line for each label of a class or a type with objects that strong
 /// references reach from a GC root, with the bytes that these retain, their own bytes and their number, the most retained bytes first.
 /// All parts are read before the first byte is written. If memory runs out then, the bytes written are the beginning of the report.

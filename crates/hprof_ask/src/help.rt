@@ -58,6 +58,33 @@ early, as head does, is a failed write.
 
 Exit status: 0 done, 1 refused (one line on standard error), 2 not understood.";
 
+/// The report `suspects`.
+pub(crate) const SUSPECTS: &str = "\
+First the bytes and the number of all classes and objects that strong references
+reach from a GC root. Then each suspect: an object below which memory falls apart
+into many pieces, with the share and the bytes of these pieces; the objects that
+keep it alive, from the outermost down to itself, each with the bytes and the
+number of objects that would go without it; and behind two spaces what the pieces
+are, added up by class: bytes, number, class. Sums below a tenth are left out.
+
+    $ hprof suspects friday.hprof | sed -n 3,10p
+    suspect 60% 1050
+    1131 68 740000380 jdk/internal/loader/ClassLoaders$AppClassLoader
+    1098 63 7400004d8 java/util/ArrayList
+    1082 62 7400004b8 [Ljava/lang/Object;
+    1066 61 740000410 class shop/Server
+    1066 60 740000e58 java/util/ArrayList
+    1050 59 740000df8 [Ljava/lang/Object;
+      970 7 shop/Session
+
+Of a long chain of objects the first ten and the last ten are printed. Objects of
+one class that keep each other, as the cells of a list, count as one. A suspect
+without objects above stands for the roots together. `biggest` lists the objects
+of a sum, `keeps` what is around an object, `why` which root and fields hold it.
+A class counts 0 bytes; headers and padding of objects do not count.
+
+Exit status: 0 done, 1 refused (one line on standard error), 2 not understood.";
+
 /// The report `retained`.
 pub(crate) const RETAINED: &str = "\
 Columns: bytes that the objects of a class or a type retain; their own bytes;

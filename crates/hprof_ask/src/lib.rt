@@ -27,7 +27,7 @@ pub use ask_fault::AskFault;
 pub use asker::Asker;
 pub use calls::{
     biggest_to, check_to, classes_to, histo_to, keeps_to, object_to, objects_to, path_to, refs_to,
-    report_to, retained_to, show_to, text_to, threads_to, who_to, why_to,
+    report_to, retained_to, show_to, suspects_to, text_to, threads_to, who_to, why_to,
 };
 pub use dialogue::{Answers, converse};
 pub use kept::Kept;

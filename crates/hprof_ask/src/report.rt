@@ -13,6 +13,8 @@ pub enum HeapReport {
     Classes,
     /// `threads`: each thread, its stack, and the objects that its frames hold.
     Threads,
+    /// `suspects`: where most of the memory is held, and what it falls apart into.
+    Suspects,
     /// `retained`: the classes and types by what they retain.
     Retained,
 }

@@ -46,11 +46,12 @@ pub struct ReportRow {
 }
 
 /// All reports, in the order in which the dialogue's help lists them.
-pub(crate) const ALL: [ReportWord; 15] = [
+pub(crate) const ALL: [ReportWord; 16] = [
     ReportWord::Heap(HeapReport::Check),
     ReportWord::Heap(HeapReport::Histogram),
     ReportWord::Heap(HeapReport::Classes),
     ReportWord::Heap(HeapReport::Threads),
+    ReportWord::Heap(HeapReport::Suspects),
     ReportWord::Heap(HeapReport::Retained),
     ReportWord::Kind(KindReport::Biggest),
     ReportWord::Kind(KindReport::Objects),
@@ -93,6 +94,12 @@ fn heap_row(report: HeapReport) -> ReportRow
             follows: Follows::Nothing,
             about: "Prints each thread, its stack, and the objects that its frames hold",
             help: help::THREADS,
+        },
+        HeapReport::Suspects => ReportRow {
+            word: "suspects",
+            follows: Follows::Nothing,
+            about: "Prints where most of the memory is held, and what it falls apart into",
+            help: help::SUSPECTS,
         },
         HeapReport::Retained => ReportRow {
             word: "retained",

@@ -17,3 +17,5 @@ pub use children::children_of;
 pub use choice::Choice;
 pub use dominators::dominators_of;
 pub use keeps::write_keeps;
+pub use lines::{node_line, total_line, weakly_line};
+pub use weakly::{WeakSum, weak_sum};

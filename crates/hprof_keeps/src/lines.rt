@@ -18,7 +18,7 @@ use std::alloc::{AllocError, Global};
 
 /// Returns the line of the total: the bytes and the number of all nodes that strong references reach. If memory runs out, the answer is
 /// `AllocError`.
-pub(crate) fn total_line(alloc: Global, retained: &Retained) -> Result<String, AllocError>
+pub fn total_line(alloc: Global, retained: &Retained) -> Result<String, AllocError>
     ensures { IfOk result (λ line. string_bytes line ≡ total_line (total_of retained.now)) }
 {
     let bytes = retained.bytes(0);
@@ -28,7 +28,7 @@ pub(crate) fn total_line(alloc: Global, retained: &Retained) -> Result<String, A
 }
 
 /// Returns the line of the node at a place, with what it retains, behind `front`. If memory runs out, the answer is `AllocError`.
-pub(crate) fn node_line(
+pub fn node_line(
     alloc: Global,
     heap: &Heap,
     classes: &ClassNames,
@@ -51,7 +51,7 @@ pub(crate) fn node_line(
 
 /// Returns the line of the nodes that only weak references reach, or an empty text if there are none. If memory runs out, the answer is
 /// `AllocError`.
-pub(crate) fn weakly_line(alloc: Global, sum: &WeakSum) -> Result<String, AllocError>
+pub fn weakly_line(alloc: Global, sum: &WeakSum) -> Result<String, AllocError>
     ensures { IfOk result (λ line. string_bytes line ≡ weakly_line (sum_of sum.now)) }
 {
     let bytes = sum.bytes;

@@ -44,7 +44,7 @@ pub(crate) fn is_weakly_held(
 
 /// The sizes and the number of the nodes that only weak references reach.
 #[derive(Drop)]
-pub(crate) struct WeakSum {
+pub struct WeakSum {
     /// Bytes.
     pub(crate) bytes: u128,
     /// The number of nodes.
@@ -63,7 +63,7 @@ fn sum_in(weakly: &WeaklyHeld) -> WeakSum
 
 /// Adds up the nodes of a heap that only weak references reach. `weakly` are these nodes, which are made, and kept there, if they are not
 /// there yet. If memory runs out, the answer is `AllocError`.
-pub(crate) fn weak_sum(
+pub fn weak_sum(
     alloc: Global,
     heap: &Heap,
     weak: &LeftOut,

@@ -21,19 +21,20 @@ module _ (P : CommandWord → Type 0) where
   of_each all (commands.Report (words.Heap heaps.Histogram)) = all.1.1.1.1.0
   of_each all (commands.Report (words.Heap heaps.Classes)) = all.1.1.1.1.1.0
   of_each all (commands.Report (words.Heap heaps.Threads)) = all.1.1.1.1.1.1.0
-  of_each all (commands.Report (words.Heap heaps.Retained)) = all.1.1.1.1.1.1.1.0
-  of_each all (commands.Report (words.Kind kinds.Biggest)) = all.1.1.1.1.1.1.1.1.0
-  of_each all (commands.Report (words.Kind kinds.Objects)) = all.1.1.1.1.1.1.1.1.1.0
-  of_each all commands.Compare = all.1.1.1.1.1.1.1.1.1.1.0
-  of_each all (commands.Report (words.Node nodes.Show)) = all.1.1.1.1.1.1.1.1.1.1.1.0
-  of_each all (commands.Report (words.Node nodes.Why)) = all.1.1.1.1.1.1.1.1.1.1.1.1.0
-  of_each all (commands.Report (words.Node nodes.Who)) = all.1.1.1.1.1.1.1.1.1.1.1.1.1.0
-  of_each all (commands.Report (words.Node nodes.Keeps)) = all.1.1.1.1.1.1.1.1.1.1.1.1.1.1.0
-  of_each all (commands.Report (words.Node nodes.Text)) = all.1.1.1.1.1.1.1.1.1.1.1.1.1.1.1.0
-  of_each all (commands.Report (words.Node nodes.Object)) = all.1.1.1.1.1.1.1.1.1.1.1.1.1.1.1.1.0
-  of_each all (commands.Report (words.Node nodes.Refs)) = all.1.1.1.1.1.1.1.1.1.1.1.1.1.1.1.1.1.0
-  of_each all (commands.Report (words.Node nodes.Path)) = all.1.1.1.1.1.1.1.1.1.1.1.1.1.1.1.1.1.1.0
-  of_each all commands.Ask = all.1.1.1.1.1.1.1.1.1.1.1.1.1.1.1.1.1.1.1.0
+  of_each all (commands.Report (words.Heap heaps.Suspects)) = all.1.1.1.1.1.1.1.0
+  of_each all (commands.Report (words.Heap heaps.Retained)) = all.1.1.1.1.1.1.1.1.0
+  of_each all (commands.Report (words.Kind kinds.Biggest)) = all.1.1.1.1.1.1.1.1.1.0
+  of_each all (commands.Report (words.Kind kinds.Objects)) = all.1.1.1.1.1.1.1.1.1.1.0
+  of_each all commands.Compare = all.1.1.1.1.1.1.1.1.1.1.1.0
+  of_each all (commands.Report (words.Node nodes.Show)) = all.1.1.1.1.1.1.1.1.1.1.1.1.0
+  of_each all (commands.Report (words.Node nodes.Why)) = all.1.1.1.1.1.1.1.1.1.1.1.1.1.0
+  of_each all (commands.Report (words.Node nodes.Who)) = all.1.1.1.1.1.1.1.1.1.1.1.1.1.1.0
+  of_each all (commands.Report (words.Node nodes.Keeps)) = all.1.1.1.1.1.1.1.1.1.1.1.1.1.1.1.0
+  of_each all (commands.Report (words.Node nodes.Text)) = all.1.1.1.1.1.1.1.1.1.1.1.1.1.1.1.1.0
+  of_each all (commands.Report (words.Node nodes.Object)) = all.1.1.1.1.1.1.1.1.1.1.1.1.1.1.1.1.1.0
+  of_each all (commands.Report (words.Node nodes.Refs)) = all.1.1.1.1.1.1.1.1.1.1.1.1.1.1.1.1.1.1.0
+  of_each all (commands.Report (words.Node nodes.Path)) = all.1.1.1.1.1.1.1.1.1.1.1.1.1.1.1.1.1.1.1.0
+  of_each all commands.Ask = all.1.1.1.1.1.1.1.1.1.1.1.1.1.1.1.1.1.1.1.1.0
 
   -- so does what holds of those that a loop has gone over, at its end
   pub of_all_commands : (place : ℕ) → length all_commands ≤ place → AllByRecursion P (take place all_commands) → (command : CommandWord)

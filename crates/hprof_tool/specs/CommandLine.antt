@@ -74,7 +74,8 @@ abbrev pub all_commands : List CommandWord
 all_commands =
     commands.Write files.Dump ∷ commands.Write files.Dump101 ∷ commands.Salvage ∷ commands.Report (words.Heap heaps.Check)
     ∷ commands.Report (words.Heap heaps.Histogram) ∷ commands.Report (words.Heap heaps.Classes)
-    ∷ commands.Report (words.Heap heaps.Threads) ∷ commands.Report (words.Heap heaps.Retained)
+    ∷ commands.Report (words.Heap heaps.Threads) ∷ commands.Report (words.Heap heaps.Suspects)
+    ∷ commands.Report (words.Heap heaps.Retained)
     ∷ commands.Report (words.Kind kinds.Biggest)
     ∷ commands.Report (words.Kind kinds.Objects) ∷ commands.Compare
     ∷ commands.Report (words.Node nodes.Show) ∷ commands.Report (words.Node nodes.Why) ∷ commands.Report (words.Node nodes.Who)

@@ -10,7 +10,7 @@ mod status;
 pub use hprof_ask::{
     AskFault, DialogueStop, HeapReport, KindReport, Kinds, Node, NodeReport, Report, ask_to,
     biggest_to, check_to, classes_to, histo_to, keeps_to, object_to, objects_to, path_to, refs_to,
-    report_to, retained_to, show_to, text_to, threads_to, who_to, why_to,
+    report_to, retained_to, show_to, suspects_to, text_to, threads_to, who_to, why_to,
 };
 pub use hprof_devices::{Device, Health, Source, Target};
 pub use hprof_diff::{DiffFault, diff_to};

@@ -2,11 +2,11 @@
 
 from collections import deque, namedtuple
 
-from ..class_names import title_of
 from ..markup import Markup, element, joined, link
-from ..node_lines import node, shown_node
+from ..node_lines import shown_node
 from ..paging import PAGE, Kept, is_there, page, pager
 from ..printed import SHORT
+from ..retained_lines import named, retained, sums, words_of
 from ..subjects import about
 from ..tables import bar, cell, facts, number, row, table
 from ..treemap import Leaf, treemap
@@ -18,21 +18,7 @@ QUESTION = b"keeps ID"
 ONLY_WEAK = b"only by weak references"
 # Of a longer chain the first and the last are shown; the picture has so many boxes, and so many of them have boxes of their own.
 CHAIN, BOXES, OPENED = 10, 40, 12
-Sum = namedtuple("Sum", "bytes objects")
-Row = namedtuple("Row", "bytes objects node")
 Answer = namedtuple("Answer", "total weakly outer left_out inner below largest note")
-
-
-def sums(line):
-    """The two numbers that a line begins with, and the rest of it."""
-    size, count, rest = line.split(b" ", 2)
-    return Sum(int(size), int(count)), rest
-
-
-def retained(line):
-    """A node with what it retains."""
-    sum, rest = sums(line)
-    return Row(sum.bytes, sum.objects, node(rest))
 
 
 class Reading:
@@ -76,13 +62,6 @@ class Reading:
             self.largest.append(retained(line))
 
 
-def words_of(one):
-    """What a node is, in a word."""
-    if one.label is None:
-        return f"{one.id:x}"
-    return f"class {title_of(one.label)}" if one.of_class else title_of(one.label)
-
-
 def leaf(frame, one, inner):
     name = words_of(one.node)
     title = f"{name} {one.node.id:x}: {counted(one.bytes, 'byte')}, {counted(one.objects, 'object')}"
@@ -113,11 +92,6 @@ def numbers(frame, rows, inner):
         lines.append(row(cell(named(frame, one.node), "name"), cell(""), number(thousands(one.bytes))))
         lines += [row(cell(""), cell(named(frame, two.node), "name"), number(thousands(two.bytes))) for two in within if two.bytes]
     return table(["It keeps", "and that keeps", ("Bytes", "n")], lines)
-
-
-def named(frame, one):
-    """A node, with a link to what it keeps."""
-    return joined([link(frame.at("keeps", one.id), words_of(one)), " ", element("small", f"{one.id:x}")])
 
 
 def below(frame, found):

@@ -12,6 +12,7 @@ from ..printed import SHORT
 from ..tables import bar, cell, facts, number, row, table
 from ..values import counted, thousands
 from ..visit import Missing
+from . import suspects
 
 # The rows of a page, and the parts that are told.
 ROWS, PARTS = 100, 2000
@@ -168,6 +169,7 @@ def show(visit):
     return visit.frame.page(
         "Overview",
         summary(weights),
+        suspects.shown(visit) if visit.number() == 1 and not word else "",
         filter_field(visit.frame.at(""), word, part, len(weights.named)),
         table(heads, rows, "sortable") if rows else element("p", none),
         pager(part, **filter_words(word)),

@@ -86,7 +86,7 @@ pub(crate) struct CommandRow {
 }
 
 /// All commands, in the order in which the program's help lists them.
-pub(crate) const COMMANDS: [CommandWord; 20] = [
+pub(crate) const COMMANDS: [CommandWord; 21] = [
     CommandWord::Write(NewFile::Dump),
     CommandWord::Write(NewFile::Dump101),
     CommandWord::Salvage,
@@ -94,6 +94,7 @@ pub(crate) const COMMANDS: [CommandWord; 20] = [
     CommandWord::Report(ReportWord::Heap(HeapReport::Histogram)),
     CommandWord::Report(ReportWord::Heap(HeapReport::Classes)),
     CommandWord::Report(ReportWord::Heap(HeapReport::Threads)),
+    CommandWord::Report(ReportWord::Heap(HeapReport::Suspects)),
     CommandWord::Report(ReportWord::Heap(HeapReport::Retained)),
     CommandWord::Report(ReportWord::Kind(KindReport::Biggest)),
     CommandWord::Report(ReportWord::Kind(KindReport::Objects)),

@@ -72,8 +72,8 @@ loop-number-preserved c =
           ∙ get_or_default_zero bytes w.number-label.result w.index_mut.result.now (omega (arith, same, many, within))
           ∙ ap (slice_index bytes) same in
           let counts_at : w.index_mut-then-place-ne0.result.now ≡ slice_index counts label = w.index_mut-then-place-ne0.ensures.value
-          ∙ get_or_default_zero counts w.number-label.result w.index_mut-then-place-ne0.result.now (omega
-          (arith, same, many_counts, within))
+          ∙ get_or_default_zero counts w.number-label.result w.index_mut-then-place-ne0.result.now
+          (omega (arith, same, many_counts, within))
           ∙ ap (slice_index counts) same in
           let node : w.node.result ≡ numbered_node retained number =
           w.node.ensures ∙ ap (λ (n : Numbered). slice_index (nodes_in n) number) c.nodes-nodes.ensures in
