@@ -145,9 +145,11 @@ class Refused(unittest.TestCase):
         parts = [str(self.script(wait=60))] * 2
         for compares in (False, True):
             site = Site(None, "/secret/", str(FAKE), parts, compares, None)
-            process = (site.growth or site.heap).program.process
+            job = site.growth or site.heap
+            process = job.program.process
             site.end()
             self.assertIsNotNone(process.returncode)
+            self.assertTrue(job.settled.wait(20) and job.program.ended.wait(20))
             for pipe in (process.stdout, process.stderr):
                 if pipe:
                     pipe.close()
