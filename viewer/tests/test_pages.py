@@ -123,6 +123,20 @@ class Sample(unittest.TestCase):
         self.assertEqual(page.rows[1], ["7400005a0", "45"])
         self.assertIn("0 arrays by sizeNone.", self.viewer.page("type/double").text)
 
+    def test_by_what_they_keep(self):
+        """The overview leads to the objects of a class by what they keep, and each to what it keeps."""
+        self.assertIn(self.viewer.base + "class/740000070?by=retained", self.viewer.page("").links)
+        page = self.viewer.page("class/7400001c0?by=retained")
+        self.assertIn("by what they keep", page.text)
+        self.assertEqual(page.rows[3:6], [
+            ["Object", "Retained bytes", "Retained objects", "Keeps"],
+            ["7400004d8", "1,098", "63", "what it keeps"],
+            ["740000e58", "1,066", "60", "what it keeps"],
+        ])
+        self.assertIn(self.viewer.base + "keeps/7400004d8", page.links)
+        self.assertEqual(self.viewer.page("type/byte?by=retained").rows[1][1:3], ["45", "1"])
+        self.assertEqual(self.viewer.page("class/7400001c0?by=name", 404).heading, "No such page")
+
     def test_references(self):
         page = self.viewer.page("refs/740000e58")
         self.assertIn("740000e58 java.util.ArrayList", page.text)

@@ -24,7 +24,7 @@ suspect 10% 1000
 ANSWERS = {
     "help": HELP,
     "check": "part 0: version 1.0.2 ids 4 time 1 records 1 facts 1 end yes\nnames 0\n",
-    "histo": "10 1 1 Node\n",
+    "histo": "10 1 1 Node\n20 7 33 shop/Session\n900 3 - byte[]\n",
     "suspects": FOUND,
 }
 
@@ -48,7 +48,7 @@ class Suspects(unittest.TestCase):
         self.assertIn("Node 1009and 30 moreNode 100a", page.text)
         self.assertIn("30 %class <b> 2aholds 3,000 bytes", page.text)
         self.assertIn("10 %The roots togetherholds 1,000 bytes: 1,000 bytes in 90 <b>", page.text)
-        for path in ("keeps/1013", "keeps/1000", "keeps/2a", "keeps/0", "find?label=shop%2FSession"):
+        for path in ("keeps/1013", "keeps/1000", "keeps/2a", "keeps/0", "class/33?by=retained", "type/byte?by=retained"):
             self.assertIn(viewer.base + path, page.links)
         self.assertEqual(page.faults, [])
         self.assertNotIn("Where the memory is held", viewer.page("?filter=nope").text)

@@ -109,6 +109,7 @@ class Identifiers(unittest.TestCase):
     def test_questions(self):
         self.assertEqual(subjects.about("refs", 0x7F), "refs 7f")
         self.assertEqual([subjects.objects_of(kind) for kind in (255, "byte")], ["objects ff", "objects byte[]"])
+        self.assertEqual([subjects.biggest_of(kind) for kind in (255, "byte")], ["biggest ff", "biggest byte[]"])
 
     def test_no_other_questions(self):
         for report, number in (("check", 1), ("object\nhelp", 1), ("object", "7f"), ("object", -1), ("object", 1 << 64), ("object", True)):
@@ -117,6 +118,8 @@ class Identifiers(unittest.TestCase):
         for kind in ("byte[]", "byte\nhelp", "7f", None, -1, 1.0):
             with self.assertRaises((ValueError, TypeError)):
                 subjects.objects_of(kind)
+            with self.assertRaises((ValueError, TypeError)):
+                subjects.biggest_of(kind)
 
     def test_words_of_a_search(self):
         self.assertEqual(printed_form("a.b\u00e9\\\U0001f600"), rb"a.b\u00e9\u005c\ud83d\ude00")

@@ -12,6 +12,8 @@ Own = namedtuple("Own", "place type name")
 Constant = namedtuple("Constant", "place index type bits")
 Referrer = namedtuple("Referrer", "id via place")
 Grown = namedtuple("Grown", "bytes count label")
+Sized = namedtuple("Sized", "bytes id")
+Biggest = namedtuple("Biggest", "bytes objects id")
 
 
 def word(line):
@@ -77,7 +79,13 @@ def referrer(line):
 def sized(line):
     """A line of `objects`: its bytes and its identifier."""
     size, id = line.split(b" ")
-    return int(size), int(id, 16)
+    return Sized(int(size), int(id, 16))
+
+
+def biggest(line):
+    """A line of `biggest`, without what the object is: the bytes and the number of the objects that it retains, and its identifier."""
+    size, count, id = line.split(b" ", 3)[:3]
+    return Biggest(int(size), int(count), int(id, 16))
 
 
 def grown(line):

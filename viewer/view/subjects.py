@@ -41,6 +41,16 @@ def about(report, number):
     return f"{report} {checked(number):x}"
 
 
+def kind_word(kind):
+    """The word for a class, which is a number, or for the arrays of a type, which is a word of TYPES."""
+    return f"{kind}[]" if kind in TYPES else f"{checked(kind):x}"
+
+
 def objects_of(kind):
-    """The question for the objects of a class, which is a number, or of a type, which is a word of TYPES."""
-    return f"objects {kind}[]" if kind in TYPES else f"objects {checked(kind):x}"
+    """The question for the objects of a class or a type by size."""
+    return f"objects {kind_word(kind)}"
+
+
+def biggest_of(kind):
+    """The question for the objects of a class or a type by what they retain."""
+    return f"biggest {kind_word(kind)}"

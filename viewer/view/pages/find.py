@@ -12,7 +12,7 @@ from ..subjects import about, is_marked, number_of
 from ..tables import cell, number, row, table
 from ..values import counted, thousands
 from ..visit import Missing
-from .overview import kind_link
+from ..weights import kind_link
 
 
 class Search:

@@ -1,4 +1,4 @@
-"""The page of a class: what it stands below and above, its fields, and its objects by size."""
+"""The page of a class: what it stands below and above, its fields, and its objects by size, or by what they keep."""
 
 import re
 from collections import namedtuple
@@ -7,15 +7,15 @@ from .. import lines
 from ..briefs import briefs, target, texts
 from ..class_names import name_of, title_of
 from ..markup import Markup, element, joined, link
-from ..paging import Kept, Part, is_there, page, pager
+from ..paging import Kept, is_there, page, pager
 from ..printed import SHORT, shown
-from ..subjects import about, objects_of
+from ..subjects import about
 from ..tables import cell, facts, number, row, table
 from ..values import REFERENCES, counted, thousands
 from ..values import number as value_of
 from ..visit import Missing
+from ..weights import kind_link
 from . import sizes
-from .overview import kind_link
 
 # More superclasses are left out.
 CHAIN = 100
@@ -70,8 +70,8 @@ def objects(visit, id, own):
     """A page of the objects. Where a class has none it is not asked for them: hprof looks at all objects to answer that."""
     wanted = page(visit.number())
     if own and own.count == 0:
-        return Part([], 0, wanted)
-    return sizes.asked(visit, objects_of(id), wanted)
+        return sizes.none(wanted)
+    return sizes.asked(visit, id, wanted)
 
 
 def label_in_histogram(visit, id):
@@ -160,7 +160,7 @@ def referred(head, parts):
     return [head.loader, head.signers, head.domain, *(int(one.bits, 16) for one in entries if one.type in REFERENCES)]
 
 
-def head_facts(visit, contents, objects, above, end, found):
+def head_facts(visit, contents, count, above, end, found):
     head, frame = contents.head, visit.frame
     other = link(frame.at("object", head.id), "an object has this identifier too") if contents.has_object else None
     return facts([
@@ -170,7 +170,7 @@ def head_facts(visit, contents, objects, above, end, found):
         ("Signers", target(frame, head.signers, found) if head.signers else None),
         ("Domain", target(frame, head.domain, found) if head.domain else None),
         ("Bytes of fields", thousands(head.size)),
-        ("Objects", thousands(objects.total)),
+        ("Objects", thousands(count)),
         ("Beside it", other),
     ])
 
@@ -182,41 +182,38 @@ def ways(frame, id):
     return element("p", *[part for one in links for part in (" \u00b7 ", one)][1:])
 
 
-def by_size(frame, part, texts):
-    return joined([element("h2", f"{counted(part.total, 'object')} by size"), sizes.shown_objects(frame, part, texts)])
-
-
 def without_dump(visit, id, contents, objects):
     """The page of a class without a class dump: it may have objects all the same."""
     label = label_in_histogram(visit, id)
-    if label is None and not objects.total:
+    if label is None and not objects.part.total:
         if contents.has_object:
             return visit.frame.missing("No class", joined(["At ", link(visit.frame.at("object", id), f"{id:x}"), " is an object."]))
         return visit.frame.missing(f"Nothing at {id:x}", "The dump has neither a class nor an object with this identifier.")
     title = title_of(label) if label else f"Class {id:x}"
     note = element("p", "The dump has no class dump of this class: its fields and its superclass are not known.")
-    return visit.frame.page(title, note, ways(visit.frame, id), by_size(visit.frame, objects, {}))
+    return visit.frame.page(title, note, ways(visit.frame, id), sizes.shown_objects(visit.frame, objects, "object", {}))
 
 
 def show(visit, id):
     wanted = page(visit.number("subclasses"))
     content, (own, subclasses) = visit.ask((about("object", id), contents(visit)), ("classes", beside(id, wanted)))
-    part = objects(visit, id, own)
+    found_objects = objects(visit, id, own)
+    part = found_objects.part
     if not all(map(is_there, (subclasses, part, *content.parts.values()))):
         raise Missing
     if content.head is None:
-        return without_dump(visit, id, content, part)
+        return without_dump(visit, id, content, found_objects)
     above, end, has_value = chain(visit, content.head)
     found = briefs(visit.heap, referred(content.head, content.parts))
-    strings = texts(visit.heap, [one for _, one in part.entries]) if has_value or content.has_value else {}
+    strings = texts(visit.heap, [one.id for one in part.entries]) if has_value or content.has_value else {}
     strings = {id: text for id, text in strings.items() if text}
     label = content.head.label
     return visit.frame.page(
         title_of(label),
-        head_facts(visit, content, part, above, end, found),
+        head_facts(visit, content, own.count if own else part.total, above, end, found),
         ways(visit.frame, id),
         sections(visit.frame, content.parts, found),
         below(visit.frame, subclasses),
-        by_size(visit.frame, part, strings),
+        sizes.shown_objects(visit.frame, found_objects, "object", strings),
         heading=name_of(label, is_whole=True),
     )

@@ -1,18 +1,16 @@
 """The overview: what `check` says, and the classes and types with the most bytes."""
 
 from datetime import datetime, timezone
-from urllib.parse import urlencode
 
-from .. import lines
-from ..class_names import name_of
 from ..markup import element, joined, link
 from ..names import LONGEST, Wanted
-from ..paging import Part, is_there, page, pager
+from ..paging import is_there, page, pager
 from ..printed import SHORT
 from ..tables import bar, cell, facts, number, row, table
 from ..values import counted, thousands
 from ..visit import Missing
-from . import suspects
+from ..weights import Weights, classes_link, kind_address
+from . import sizes, suspects
 
 # The rows of a page, and the parts that are told.
 ROWS, PARTS = 100, 2000
@@ -39,45 +37,6 @@ def checked(answer):
     return parts, counts
 
 
-class Weight:
-    """The classes of one name, or a type: their bytes and objects, how many there are, and one of them."""
-
-    def __init__(self, one):
-        self.label, self.kind = one.label, one.kind
-        self.bytes = self.objects = self.classes = 0
-
-    def add(self, one):
-        self.bytes += one.bytes
-        self.objects += one.count
-        self.classes += 1
-
-
-class Weights:
-    """The rows of `histo` by name, and the sums of all."""
-
-    def __init__(self):
-        self.named = {}
-        self.bytes = self.objects = 0
-
-    def read(self, answer):
-        for line in answer.lines(limit=LONGEST + 100):
-            one = lines.row(line)
-            name = (one.label, isinstance(one.kind, str)) if len(one.label) <= LONGEST else one.kind
-            self.named.setdefault(name, Weight(one)).add(one)
-            self.bytes += one.bytes
-            self.objects += one.count
-        return self
-
-    def page_of(self, wanted, page):
-        """A page of those whose name is wanted, by size."""
-        found = [one for one in self.named.values() if wanted.in_name(one.label)]
-        found.sort(key=lambda one: -one.bytes)
-        return Part(found[page.first : page.first + page.size], len(found), page)
-
-    def largest(self):
-        return max((one.bytes for one in self.named.values()), default=0)
-
-
 def retained_by_label(answer):
     """The retained bytes of each label, but for names that are too long to be told apart."""
     found = {}
@@ -101,17 +60,12 @@ def checks(names, parts, counts):
     return joined([element("h2", "The dump"), table(heads, map(part_row, names, parts)), told])
 
 
-def kind_link(frame, kind, label):
-    """A link to the page of a class or a type."""
-    return link(frame.at("type", kind) if isinstance(kind, str) else frame.at("class", kind), name_of(label))
-
-
-def classes_link(frame, one):
-    """A link to the class or the type, or to a list of the classes of one name."""
-    if one.classes == 1:
-        return kind_link(frame, one.kind, one.label)
-    address = frame.at("find") + "?" + urlencode({"label": one.label.decode("ascii")})
-    return joined([link(address, name_of(one.label)), " ", element("small", f"{thousands(one.classes)} classes")])
+def retained_cell(frame, retained, one):
+    """What the objects of a class or a type retain, with a link to them in this order."""
+    if len(one.label) > LONGEST:
+        return number("")
+    size = thousands(retained.get(one.label, 0))
+    return number(link(kind_address(frame, one.kind) + "?by=retained", size) if one.classes == 1 else size)
 
 
 def weight_row(frame, weights, retained, one):
@@ -125,7 +79,7 @@ def weight_row(frame, weights, retained, one):
         number(thousands(one.bytes)),
         cell(joined([track, share]), "share"),
         number(thousands(one.objects)),
-        *([] if retained is None else [number(thousands(retained.get(one.label, 0)) if len(one.label) <= LONGEST else "")]),
+        *([] if retained is None else [retained_cell(frame, retained, one)]),
         cell(element("span", id, class_="bits"), "extra"),
     )
 
@@ -160,7 +114,7 @@ def show(visit):
     part = weights.page_of(Wanted(word), page(visit.number(), ROWS))
     if not is_there(part):
         raise Missing
-    can_tell = RETAINED in visit.heap.questions
+    can_tell = {RETAINED, sizes.BIGGEST} <= visit.heap.questions
     retained = visit.heap.ask_once("retained", retained_by_label) if can_tell else None
     heads = ["Class or type", ("Bytes", "n", "descending"), ("Share", "n share"), ("Objects", "n")]
     heads += [("Retained bytes", "n")] * can_tell + [("Identifier", "plain extra")]
@@ -169,7 +123,7 @@ def show(visit):
     return visit.frame.page(
         "Overview",
         summary(weights),
-        suspects.shown(visit) if visit.number() == 1 and not word else "",
+        suspects.shown(visit, weights) if visit.number() == 1 and not word else "",
         filter_field(visit.frame.at(""), word, part, len(weights.named)),
         table(heads, rows, "sortable") if rows else element("p", none),
         pager(part, **filter_words(word)),

@@ -1,15 +1,14 @@
 """Where most of the memory is held: the suspects, each as a bar, with what keeps it and what it falls apart into."""
 
 from collections import namedtuple
-from urllib.parse import urlencode
 
 from ..class_names import name_of
 from ..markup import Markup, element, joined, link
-from ..names import LONGEST
 from ..printed import SHORT
 from ..retained_lines import named, retained, sums
 from ..tables import bar
 from ..values import counted
+from ..weights import classes_link
 
 QUESTION = b"suspects"
 # More labels of one suspect are left out.
@@ -49,11 +48,10 @@ class Reading:
             self.found[-1].pieces.append(Piece(int(size), int(count), label))
 
 
-def piece_shown(frame, one):
-    """The nodes with one label, with a link to a list of the classes that have it."""
-    what = name_of(one.label)
-    if len(one.label) <= LONGEST and not one.label.endswith(b"[]"):
-        what = link(frame.at("find") + "?" + urlencode({"label": one.label.decode("ascii")}), what)
+def piece_shown(frame, weights, one):
+    """The nodes with one label, with a link to the objects of that class or type by what they keep."""
+    weight = weights.of_label(one.label)
+    what = classes_link(frame, weight, "?by=retained") if weight else name_of(one.label)
     return joined([counted(one.bytes, "byte"), f" in {one.count:,} ", what])
 
 
@@ -67,10 +65,10 @@ def chain_shown(frame, one):
     return element("details", element("summary", f"kept by {counted(len(one.chain) - 1, 'object')} above"), element("ol", *above))
 
 
-def shown_suspect(frame, whole, one):
+def shown_suspect(frame, weights, whole, one):
     what = named(frame, one.chain[-1].node) if one.chain else link(frame.at("keeps", 0), "The roots together")
     track = element("span", bar(one.bytes, whole), class_="track")
-    pieces = joined([part for piece in one.pieces for part in ("; ", piece_shown(frame, piece))][1:])
+    pieces = joined([part for piece in one.pieces for part in ("; ", piece_shown(frame, weights, piece))][1:])
     return element(
         "li",
         element("div", track, f"{one.percent} %", class_="share"),
@@ -80,12 +78,12 @@ def shown_suspect(frame, whole, one):
     )
 
 
-def shown(visit):
-    """The suspects of a heap. Nothing if hprof cannot tell them, or if there are none."""
+def shown(visit, weights):
+    """The suspects of a heap with these weights. Nothing if hprof cannot tell them, or if there are none."""
     if QUESTION not in visit.heap.questions:
         return Markup()
     answer = visit.heap.ask_once("suspects", Reading().read)
     if not answer.found:
         return Markup()
-    rows = [shown_suspect(visit.frame, answer.total.bytes, one) for one in answer.found]
+    rows = [shown_suspect(visit.frame, weights, answer.total.bytes, one) for one in answer.found]
     return joined([element("h2", "Where the memory is held"), element("ul", *rows, class_="suspects")])
