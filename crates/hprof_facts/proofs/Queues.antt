@@ -10,7 +10,10 @@ use Rattle.hprof_items.specs.Spelling.{Fits}
 use Rattle.hprof_items.specs.SubRecord.{dump_bytes}
 use Rattle.hprof_stream.specs.Run.{FitsBegun, ListsHaveBegun, SpellsBegun, Steps, Run}
 use Rattle.hprof_items.specs.declared.header.Header.{Header}
+use Rattle.hprof_rows.proofs.HeapRows.{spelled_read}
 use Rattle.hprof_facts.specs.declared.queue.Queue.{Queue}
+use Rattle.hprof_facts.specs.declared.kept.Form.{Form}
+use Rattle.hprof_facts.specs.declared.kept.Form.TheVariants as forms
 use Rattle.hprof_facts.specs.Queues.{Holds}
 use Rattle.hprof_facts.specs.declared.kept.Slot.{Slot}
 use Rattle.hprof_facts.specs.Kept.{Keeps, KeepsAt, AreKept, AreKeptUnder}
@@ -23,8 +26,8 @@ kept_more ids bytes more slot fact kept =
     let first : slot.at ≤ length bytes = omega (arith, within) in
     let behind : length (drop slot.at bytes) ≡ length bytes - slot.at = length-drop slot.at bytes in
     let same : take slot.len (drop slot.at (bytes ++ more)) ≡ take slot.len (drop slot.at bytes) =
-        ap (take slot.len) (drop-append-le slot.at bytes more first)
-        ∙ take-append-le slot.len (drop slot.at bytes) more (omega (arith, within, behind)) in
+    ap (take slot.len) (drop-append-le slot.at bytes more first)
+    ∙ take-append-le slot.len (drop slot.at bytes) more (omega (arith, within, behind)) in
     record {
       within = omega (arith, within, length-append bytes more);
       keeps = subst (λ (l : List ℕ). Keeps ids slot.form l fact) (sym same) kept.keeps;
@@ -97,13 +100,13 @@ pub held_under : (begun : Option IdSize) (ids : IdSize) (bytes more after : List
     → (at ≤ length slots_after) × AreKeptUnder begun after (drop at slots_after) (facts ++ fact ∷ [])
 held_under begun ids bytes more after slots slots_after at facts slot fact is same longer within are begins long keeps =
     let under : AreKeptUnder (Some ids) bytes (drop at slots) facts =
-        subst (λ (b : Option IdSize). AreKeptUnder b bytes (drop at slots) facts) is are in
+    subst (λ (b : Option IdSize). AreKeptUnder b bytes (drop at slots) facts) is are in
     subst (λ (l : List Slot). (at ≤ length l) × AreKeptUnder begun after (drop at l) (facts ++ fact ∷ [])) (sym longer)
     (subst (λ (b : List ℕ). (at ≤ length (slots ++ slot ∷ [])) × AreKeptUnder begun b (drop at (slots ++ slot ∷ [])) (facts ++ fact ∷ []))
-        (sym same)
-        (subst (λ (b : Option IdSize). (at ≤ length (slots ++ slot ∷ [])) × AreKeptUnder b (bytes ++ more) (drop at (slots ++ slot ∷ []))
-            (facts ++ fact ∷ [])) (sym is)
-            (held_more ids bytes more slots at facts slot fact within under begins long keeps)))
+    (sym same)
+    (subst (λ (b : Option IdSize). (at ≤ length (slots ++ slot ∷ [])) × AreKeptUnder b (bytes ++ more) (drop at (slots ++ slot ∷ []))
+    (facts ++ fact ∷ [])) (sym is)
+    (held_more ids bytes more slots at facts slot fact within under begins long keeps)))
 
 -- going on to the first that is left
 pub record IsGoneTo (begun : Option IdSize) (bytes : List ℕ) (slots : List Slot) (at : ℕ) (fact : FactValue) (facts : List FactValue) : Type 0 where
@@ -142,18 +145,50 @@ pub given : (begun : Option IdSize) (fact : Fact) (spelled : List ℕ) → FitsB
 given None fact spelled fits lists spells = absurd fits
 given (Some ids) fact spelled fits lists spells = record { ids = ids; is = refl; fits = fits; lists = lists; spells = spells }
 
--- a run of an empty queue leaves it with the facts that were handed to it
-steps_hold : (old : Queue) (before facts : List FactValue) (new : Queue) → Holds old before
-    → Steps {S = Queue} (λ q h r. Holds r []) (λ q f r. (l : List FactValue) → Holds q l → Holds r (l ++ f ∷ [])) old facts new
-    → Holds new (before ++ facts)
-steps_hold old before [] new holds same =
-    subst (λ (l : List FactValue). Holds new l) (sym (append-nil before)) (subst (λ (q : Queue). Holds q before) same holds)
-steps_hold old before (fact ∷ facts) new holds run =
-    subst (λ (l : List FactValue). Holds new l) (append_assoc before (fact ∷ []) facts)
-    (steps_hold run.0 (before ++ fact ∷ []) facts new (run.1 before holds) run.2)
+-- all are kept where more bytes came behind
+are_kept_more : (ids : IdSize) (bytes more : List ℕ) (slots : List Slot) (facts : List FactValue) → AreKept ids bytes slots facts
+    → AreKept ids (bytes ++ more) slots facts
+are_kept_more ids bytes more [] [] are = tt
+are_kept_more ids bytes more (s ∷ slots) (f ∷ facts) are =
+    (kept_more ids bytes more s f are.0, are_kept_more ids bytes more slots facts are.1)
+are_kept_more ids bytes more [] (f ∷ facts) are = absurd are
+are_kept_more ids bytes more (s ∷ slots) [] are = absurd are
 
-pub run_holds : (old : Queue) (header : Option Header) (facts : List FactValue) (new : Queue) → Holds old []
-    → Run {S = Queue} (λ q h r. Holds r []) (λ q f r. (l : List FactValue) → Holds q l → Holds r (l ++ f ∷ [])) old header facts new
-    → Holds new facts
-run_holds old None facts new holds run = steps_hold old [] facts new holds run
-run_holds old (Some header) facts new holds run = steps_hold run.0 [] facts new run.1 run.2
+pub are_kept_under_more : (begun : Option IdSize) (bytes more : List ℕ) (slots : List Slot) (facts : List FactValue)
+    → AreKeptUnder begun bytes slots facts → AreKeptUnder begun (bytes ++ more) slots facts
+are_kept_under_more None bytes more slots facts are = are
+are_kept_under_more (Some ids) bytes more slots facts are = are_kept_more ids bytes more slots facts are
+
+-- ---- a queue holds one list of facts
+
+keeps_once : (ids : IdSize) (form : Form) (bytes : List ℕ) (fact other : FactValue) → Keeps ids form bytes fact → Keeps ids form bytes other
+    → fact ≡ other
+keeps_once ids (forms.Name id) bytes fact other keeps too = keeps ∙ sym too
+keeps_once ids (forms.Load serial class trace name) bytes fact other keeps too = keeps ∙ sym too
+keeps_once ids (forms.Unload serial) bytes fact other keeps too = keeps ∙ sym too
+keeps_once ids (forms.Frame id method signature source class_serial line) bytes fact other keeps too = keeps ∙ sym too
+keeps_once ids (forms.Trace serial thread) bytes fact other keeps too = keeps.1 ∙ sym too.1
+keeps_once ids (forms.Start thread object trace name group parent_group) bytes fact other keeps too = keeps ∙ sym too
+keeps_once ids (forms.End thread) bytes fact other keeps too = keeps ∙ sym too
+keeps_once ids forms.Spelled bytes fact other keeps too = sym (spelled_read ids 0 fact bytes keeps) ∙ spelled_read ids 0 other bytes too
+
+are_kept_once : (ids : IdSize) (bytes : List ℕ) (slots : List Slot) (facts others : List FactValue) → AreKept ids bytes slots facts
+    → AreKept ids bytes slots others → facts ≡ others
+are_kept_once ids bytes [] [] [] are too = refl
+are_kept_once ids bytes (s ∷ slots) (f ∷ facts) (o ∷ others) are too =
+    let one = keeps_once ids s.form (take s.len (drop s.at bytes)) f o are.0.keeps too.0.keeps in
+    let rest = are_kept_once ids bytes slots facts others are.1 too.1 in
+    ap (λ (x : FactValue). x ∷ facts) one ∙ ap (λ (l : List FactValue). o ∷ l) rest
+are_kept_once ids bytes [] [] (o ∷ others) are too = absurd too
+are_kept_once ids bytes [] (f ∷ facts) others are too = absurd are
+are_kept_once ids bytes (s ∷ slots) [] others are too = absurd are
+are_kept_once ids bytes (s ∷ slots) (f ∷ facts) [] are too = absurd too
+
+under_once : (begun : Option IdSize) (bytes : List ℕ) (slots : List Slot) (facts others : List FactValue)
+    → AreKeptUnder begun bytes slots facts → AreKeptUnder begun bytes slots others → facts ≡ others
+under_once None bytes slots facts others are too = are.1 ∙ sym too.1
+under_once (Some ids) bytes slots facts others are too = are_kept_once ids bytes slots facts others are too
+
+pub holds_once : (queue : Queue) (facts others : List FactValue) → Holds queue facts → Holds queue others → facts ≡ others
+holds_once queue facts others holds too =
+    under_once queue.begun queue.bytes.items (drop queue.given queue.slots.items) facts others holds.1 too.1

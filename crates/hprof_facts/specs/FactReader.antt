@@ -12,7 +12,7 @@ use Rattle.hprof_stream.specs.declared.summary.PartSummary.{PartSummary}
 use Rattle.hprof_stream.specs.Reader.{HasRead, IsReady, Pulled, ReadsPart}
 use Rattle.hprof_facts.specs.declared.fact_reader.FactReader.{FactReader}
 use Rattle.hprof_facts.specs.Listing as listing
-use Rattle.hprof_facts.specs.Queues.{HasCurrent, Holds, begun_with}
+use Rattle.hprof_facts.specs.Queues.{HasCurrent, Holds, begun_with, has_refused}
 
 -- the source that it reads from
 abbrev pub source_of : {R : Type 0} → FactReader R → R
@@ -42,14 +42,14 @@ reads_by (Some part) allowed = allowed + 1
 abbrev pub reads_to_come : {R : Type 0} → FactReader R → ℕ
 reads_to_come reader = reads_by reader.part reader.reads_left
 
--- while there is a part to read, the source is well, and the queue was begun with the size of the part
-abbrev pub IsSoundWith : {R : Type 0} → (R → Health) → Option PartReader → R → Option IdSize → Type 0
-IsSoundWith health None source begun = Unit {0}
-IsSoundWith health (Some part) source begun = (health source ≡ Well) × IsReady part begun
+-- while there is a part to read, the source is well, and the queue was begun with the size of the part and has refused nothing
+abbrev pub CanReadOn : {R : Type 0} → (R → Health) → Option PartReader → R → Option IdSize → Bool → Type 0
+CanReadOn health None source begun refused = Unit {0}
+CanReadOn health (Some part) source begun refused = (health source ≡ Well) × IsReady part begun × (refused ≡ false)
 
 -- it can be asked for the next fact
 abbrev pub CanAdvance : {R : Type 0} → (R → Health) → FactReader R → Type 0
-CanAdvance health reader = IsSoundWith health reader.part reader.source (begun_with reader.queue)
+CanAdvance health reader = CanReadOn health reader.part reader.source (begun_with reader.queue) (has_refused reader.queue)
 
 module _ {R : Type 0} (left : R → Option (List ℕ)) (health : R → Health) (pulls : R → ℕ) where
   -- reading the part came to that result, by the definition of `read_part`, and these are the facts that it handed on before

@@ -15,14 +15,18 @@ use hprof_values::IdSize;
 #[derive(Clone, Copy, Debug, PartialEq, Eq)]
 pub(crate) enum Form {
     /// A name, of which the bytes are kept.
-    Name { id: u64 },
+    Name {
+        id: u64,
+    },
     Load {
         serial: u32,
         class: u64,
         trace: u32,
         name: u64,
     },
-    Unload { serial: u32 },
+    Unload {
+        serial: u32,
+    },
     Frame {
         id: u64,
         method: u64,
@@ -32,7 +36,10 @@ pub(crate) enum Form {
         line: i32,
     },
     /// A stack, of which the bytes of its frames are kept.
-    Trace { serial: u32, thread: u32 },
+    Trace {
+        serial: u32,
+        thread: u32,
+    },
     Start {
         thread: u32,
         object: u64,
@@ -41,7 +48,9 @@ pub(crate) enum Form {
         group: u64,
         parent_group: u64,
     },
-    End { thread: u32 },
+    End {
+        thread: u32,
+    },
     /// A sub-record, whose bytes are kept as they came.
     Spelled,
 }

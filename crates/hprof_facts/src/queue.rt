@@ -1,6 +1,6 @@
 //! The queue of the facts of one piece.
 
-ghost use Rattle.std.specs.Prelude.{◌≡◌, ◌∷◌, ◌++◌, ◌<◌, ◌-◌, ◌+◌, ℕ, List, [], length, drop, Some, true, false, OnOk, OnErr, IfErr};
+ghost use Rattle.std.specs.Prelude.{◌≡◌, ◌∷◌, ◌++◌, ◌<◌, ◌≤◌, ◌-◌, ◌+◌, ℕ, List, [], length, take, drop, slice_get, Some, Err, true, false, OnOk, OnErr};
 ghost use Rattle.hprof_items.specs.FactValue.{FactValue, ListsHave, value_of};
 ghost use Rattle.hprof_facts.specs.Kept.{Keeps};
 
@@ -19,10 +19,14 @@ pub(crate) struct Queue {
     /// The size of identifiers that was begun last.
     begun: Option<IdSize>,
     failed: bool,
+    ghost within: { given ≤ length slots.items },
 }
 
 impl Queue {
     ghost use Rattle.std.specs.Option.{option_map};
+    ghost use Rattle.hprof_stream.specs.Run.{SpellsBegun};
+    ghost use Rattle.hprof_stream.specs.declared.sink.SinkFault.{SinkFault};
+    ghost use Rattle.hprof_facts.specs.declared.kept.Slot.{Slot};
     ghost use Rattle.hprof_facts.specs.Queues.{Holds, HasCurrent, has_refused, begun_with};
 
     /// Returns a queue that keeps nothing. It takes no memory yet.
@@ -58,6 +62,7 @@ impl Queue {
         ensures begun { self.new.begun ≡ self.old.begun }
         ensures failed { self.new.failed ≡ self.old.failed }
         ensures err { OnErr result (result ≡ Err SinkFault.OutOfMemory) }
+        ensures kept { OnErr result ((facts : List FactValue) → Holds self.old facts → Holds self.new facts) }
     {
         let slot = Slot {
             form,
@@ -139,23 +144,19 @@ impl Queue {
 }
 
 impl Sink for Queue {
-    ghost use Rattle.std.specs.Prelude.{◌≡◌, ◌++◌, ◌∷◌, [], List, false};
-    ghost use Rattle.hprof_items.specs.FactValue.{FactValue};
-    ghost use Rattle.hprof_stream.specs.declared.sink.SinkFault.TheVariants.{OutOfMemory};
-    ghost use Rattle.hprof_facts.specs.Queues.{Holds, begun_with, has_refused};
+    ghost use Rattle.hprof_facts.specs.Queues.{begun_with, has_refused, queue_begins, queue_refuses, queue_steps};
 
     // A header empties it.
-    ghost begins = { λ old header new. Holds new [] };
+    ghost begins = { queue_begins };
 
-    ghost steps = { λ old fact new. (facts : List FactValue) → Holds old facts → Holds new (facts ++ fact ∷ []) };
+    ghost steps = { queue_steps };
 
     ghost begun = { begun_with };
 
     ghost failed = { has_refused };
 
     // Only memory can be wanting.
-    ghost refuses = { λ old given fault new. (has_refused old ≡ false → fault ≡ OutOfMemory)
-        × ((facts : List FactValue) → Holds old facts → Holds new facts) };
+    ghost refuses = { queue_refuses };
 
     fn begin_part(&mut self, header: Header) -> Result<(), SinkFault> {
         if self.failed {
