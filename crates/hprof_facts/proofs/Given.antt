@@ -1,6 +1,7 @@
 -- What a reader that is pulled has given, as pieces come and facts go.
-use Rattle.std.proofs.Common.{◌≡◌, ℕ, ◌+◌, ◌<◌, true, false, List, [], ◌∷◌, ◌++◌, length, Option, Some, None, Result, Ok, Err, refl, sym, subst, ap}
+use Rattle.std.proofs.Common.{◌≡◌, ℕ, ◌+◌, ◌<◌, Bool, true, false, List, [], ◌∷◌, ◌++◌, length, Option, Some, None, Result, Ok, Err, refl, sym, subst, ap}
 use Rattle.std.proofs.Common.{append_assoc, append-nil, arith, ◌∙◌}
+use Rattle.std.proofs.lemmas.Bool.{both_ways}
 use Rattle.std.specs.Io.KnownBytes.{Consumes, IsAtEnd}
 use Rattle.hprof_devices.specs.declared.health.Health.{Health}
 use Rattle.hprof_devices.specs.declared.health.Health.TheVariants as healths
@@ -14,9 +15,9 @@ use Rattle.hprof_stream.specs.declared.summary.PartSummary.{PartSummary}
 use Rattle.hprof_stream.specs.Reader.{Feeds, Finishes, HasRead, IsPull, Pulled, header_of, once_more}
 use Rattle.hprof_stream.proofs.Sources.{HasFed, HasFed-end, HasFed-failed, HasFed-fault, HasFed-spent, ReadsPart-finished}
 use Rattle.hprof_facts.specs.declared.queue.Queue.{Queue}
-use Rattle.hprof_facts.specs.FactReader.{Ends, IsReading}
+use Rattle.hprof_facts.specs.FactReader.{Ends, IsReadTo, IsReading, summary_by}
 use Rattle.hprof_facts.specs.Listing as listing
-use Rattle.hprof_facts.specs.Queues.{Holds, has_refused, queue_begins, queue_refuses, queue_steps}
+use Rattle.hprof_facts.specs.Queues.{HasCurrent, Holds, has_refused, queue_begins, queue_refuses, queue_steps}
 use Rattle.hprof_facts.proofs.Listed.{IsListed, feeds_lists, run_holds, run_lists}
 use Rattle.hprof_facts.proofs.Queues.{holds_once}
 
@@ -112,3 +113,73 @@ module _ {R : Type 0} (left : R → Option (List ℕ)) (health : R → Health) (
       let spent = reading.spent in
       HasFed-spent left health pulls {S = List FactValue} listing.begins listing.steps listing.refuses listing.failed limits reading.turns was
       is part [] facts well (fed_of part is 0 facts reading) (omega (arith, spent))
+
+  -- ---- what is left in the queue
+
+  -- reading is over, and nothing is queued
+  pub read_over : (part : Option PartReader) (is : R) (allowed : ℕ) (outcome : Result PartSummary PartFault) (refused : Bool)
+      (facts queued : List FactValue) → part ≡ None → Ends left health pulls limits was is outcome (facts ++ queued)
+      → IsReadTo left health pulls limits was part is allowed outcome refused (facts ++ queued)
+  read_over part is allowed outcome refused facts queued none ends =
+      subst (λ (p : Option PartReader). IsReadTo left health pulls limits was p is allowed outcome refused (facts ++ queued)) (sym none) ends
+
+  -- and then it has ended
+  pub over_ends : (part : Option PartReader) (is : R) (allowed : ℕ) (outcome : Result PartSummary PartFault) (refused : Bool)
+      (given queued : List FactValue) → part ≡ None → queued ≡ []
+      → IsReadTo left health pulls limits was part is allowed outcome refused (given ++ queued)
+      → Ends left health pulls limits was is outcome given
+  over_ends part is allowed outcome refused given queued none empty read =
+      subst (λ (l : List FactValue). Ends left health pulls limits was is outcome l) (ap (λ (l : List FactValue). given ++ l) empty
+      ∙ append-nil given)
+      (subst (λ (p : Option PartReader). IsReadTo left health pulls limits was p is allowed outcome refused (given ++ queued)) none read)
+
+  -- a part that is read on, with nothing queued
+  pub part_reads : (part : Option PartReader) (from : PartReader) (is : R) (allowed : ℕ) (outcome : Result PartSummary PartFault)
+      (refused : Bool) (given queued : List FactValue) → part ≡ Some from → queued ≡ []
+      → IsReadTo left health pulls limits was part is allowed outcome refused (given ++ queued)
+      → IsReading left health pulls limits was from is allowed given × (refused ≡ false)
+  part_reads part from is allowed outcome refused given queued some empty read =
+      subst (λ (l : List FactValue). IsReading left health pulls limits was from is allowed l × (refused ≡ false))
+      (ap (λ (l : List FactValue). given ++ l) empty ∙ append-nil given)
+      (subst (λ (p : Option PartReader). IsReadTo left health pulls limits was p is allowed outcome refused (given ++ queued)) some read)
+
+  -- the first that is queued is given
+  pub record GivesFirst (part : Option PartReader) (is : R) (allowed : ℕ) (outcome : Result PartSummary PartFault) (refused : Bool)
+      (given : List FactValue) (new : Queue) : Type 0 where
+    pub fact : FactValue
+    pub rest : List FactValue
+    pub holds : Holds new rest
+    pub read : IsReadTo left health pulls limits was part is allowed outcome refused ((given ++ fact ∷ []) ++ rest)
+    pub current : HasCurrent new fact
+
+  pub gives_first : (part : Option PartReader) (is : R) (allowed : ℕ) (outcome : Result PartSummary PartFault) (refused : Bool)
+      (given queued : List FactValue) (old new : Queue) (more : Bool) → more ≡ true → Holds old queued
+      → ((fact : FactValue) (facts : List FactValue) → Holds old (fact ∷ facts) → (more ≡ true) × Holds new facts × HasCurrent new fact)
+      → (Holds old [] → (more ≡ false) × (new ≡ old))
+      → IsReadTo left health pulls limits was part is allowed outcome refused (given ++ queued)
+      → GivesFirst part is allowed outcome refused given new
+  gives_first part is allowed outcome refused given [] old new more is_more holds some none read =
+      absurd (both_ways more (none holds).0 is_more)
+  gives_first part is allowed outcome refused given (fact ∷ rest) old new more is_more holds some none read =
+      let it = some fact rest holds in
+      record {
+        fact = fact;
+        rest = rest;
+        holds = it.1;
+        read = subst (λ (l : List FactValue). IsReadTo left health pulls limits was part is allowed outcome refused l)
+            (sym (append_assoc given (fact ∷ []) rest)) read;
+        current = it.2;
+      }
+
+-- nothing was queued
+pub none_queued : (queued : List FactValue) (old new : Queue) (more : Bool) → more ≡ false → Holds old queued
+    → ((fact : FactValue) (facts : List FactValue) → Holds old (fact ∷ facts) → (more ≡ true) × Holds new facts × HasCurrent new fact)
+    → queued ≡ []
+none_queued [] old new more no_more holds some = refl
+none_queued (fact ∷ rest) old new more no_more holds some = absurd (both_ways more no_more (some fact rest holds).0)
+
+-- what a part that is over came to
+pub over_summary : (part : Option PartReader) (outcome : Result PartSummary PartFault) (summary : PartSummary) → part ≡ None
+    → outcome ≡ Ok summary → summary_by part outcome ≡ Some summary
+over_summary part outcome summary none ok =
+    ap (λ (p : Option PartReader). summary_by p outcome) none ∙ ap (λ (o : Result PartSummary PartFault). summary_by None o) ok

@@ -17,12 +17,12 @@ use Rattle.hprof_facts.specs.Queues.{Holds, has_refused, queue_begins, queue_ref
 
 -- ---- a run of a list
 
-steps_list : (old facts : List FactValue) → Steps {S = List FactValue} listing.steps old facts (old ++ facts)
+steps_list : (old facts : List FactValue) → Steps {S = List FactValue} listing.begins listing.steps old facts (old ++ facts)
 steps_list old [] = sym (append-nil old)
 steps_list old (fact ∷ facts) = (
   old ++ fact ∷ [],
   refl,
-  subst (λ (l : List FactValue). Steps {S = List FactValue} listing.steps (old ++ fact ∷ []) facts l) (append_assoc old (fact ∷ []) facts)
+  subst (λ (l : List FactValue). Steps {S = List FactValue} listing.begins listing.steps (old ++ fact ∷ []) facts l) (append_assoc old (fact ∷ []) facts)
       (steps_list (old ++ fact ∷ []) facts),
 )
 
@@ -34,7 +34,7 @@ run_lists old (Some header) facts = (old, refl, steps_list old facts)
 -- ---- a run of a queue
 
 steps_hold : (old : Queue) (before facts : List FactValue) (new : Queue) → has_refused old ≡ false → Holds old before
-    → Steps {S = Queue} queue_steps old facts new → (has_refused new ≡ false) × Holds new (before ++ facts)
+    → Steps {S = Queue} queue_begins queue_steps old facts new → (has_refused new ≡ false) × Holds new (before ++ facts)
 steps_hold old before [] new well holds same = (
   subst (λ (q : Queue). has_refused q ≡ false) same well,
   subst (λ (l : List FactValue). Holds new l) (sym (append-nil before)) (subst (λ (q : Queue). Holds q before) same holds),

@@ -1,5 +1,5 @@
 -- A reader of the facts of a part that is pulled: which facts it has given, and how it ends.
-use Rattle.std.specs.Prelude.{◌≡◌, ℕ, ◌+◌, Bool, true, false, List, [], ◌∷◌, ◌++◌, Option, Some, None, Result, Ok, Err}
+use Rattle.std.specs.Prelude.{◌≡◌, ℕ, ◌+◌, Bool, true, false, List, [], ◌∷◌, ◌++◌, length, Option, Some, None, Result, Ok, Err}
 use Rattle.std.specs.Io.KnownBytes.{Consumes}
 use Rattle.hprof_values.specs.declared.ids.IdSize.{IdSize}
 use Rattle.hprof_items.specs.FactValue.{FactValue}
@@ -42,14 +42,14 @@ reads_by (Some part) allowed = allowed + 1
 abbrev pub reads_to_come : {R : Type 0} → FactReader R → ℕ
 reads_to_come reader = reads_by reader.part reader.reads_left
 
--- while there is a part to read, the source is well, and the queue was begun with the size of the part and has refused nothing
-abbrev pub CanReadOn : {R : Type 0} → (R → Health) → Option PartReader → R → Option IdSize → Bool → Type 0
-CanReadOn health None source begun refused = Unit {0}
-CanReadOn health (Some part) source begun refused = (health source ≡ Well) × IsReady part begun × (refused ≡ false)
+-- while there is a part to read, the source is well, the queue was begun with the size of the part, and there is room for a piece
+abbrev pub CanReadOn : {R : Type 0} → (R → Health) → Option PartReader → R → Option IdSize → ℕ → Type 0
+CanReadOn health None source begun room = Unit {0}
+CanReadOn health (Some part) source begun room = (health source ≡ Well) × IsReady part begun × (room ≡ 65536)
 
 -- it can be asked for the next fact
 abbrev pub CanAdvance : {R : Type 0} → (R → Health) → FactReader R → Type 0
-CanAdvance health reader = CanReadOn health reader.part reader.source (begun_with reader.queue) (has_refused reader.queue)
+CanAdvance health reader = CanReadOn health reader.part reader.source (begun_with reader.queue) (length reader.piece.items)
 
 module _ {R : Type 0} (left : R → Option (List ℕ)) (health : R → Health) (pulls : R → ℕ) where
   -- reading the part came to that result, by the definition of `read_part`, and these are the facts that it handed on before
@@ -67,15 +67,16 @@ module _ {R : Type 0} (left : R → Option (List ℕ)) (health : R → Health) (
     pub spent : turns + allowed ≡ limits.max_reads
 
   -- a part that is being read states these facts so far; one that was read to its end handed them on
-  abbrev pub IsReadTo : Limits → R → Option PartReader → R → ℕ → Result PartSummary PartFault → List FactValue → Type 0
-  IsReadTo limits was None is allowed outcome facts = Ends limits was is outcome facts
-  IsReadTo limits was (Some part) is allowed outcome facts = IsReading limits was part is allowed facts
+  --   refused: whether the queue has refused a fact
+  abbrev pub IsReadTo : Limits → R → Option PartReader → R → ℕ → Result PartSummary PartFault → Bool → List FactValue → Type 0
+  IsReadTo limits was None is allowed outcome refused facts = Ends limits was is outcome facts
+  IsReadTo limits was (Some part) is allowed outcome refused facts = IsReading limits was part is allowed facts × (refused ≡ false)
 
   -- of the part that comes from the source, as it was, it has given these facts, from the first on
   pub record HasGiven (limits : Limits) (was : R) (given : List FactValue) (reader : FactReader R) : Type 0 where
     pub queued : List FactValue
     pub holds : Holds reader.queue queued
-    pub read : IsReadTo limits was reader.part reader.source reader.reads_left reader.outcome (given ++ queued)
+    pub read : IsReadTo limits was reader.part reader.source reader.reads_left reader.outcome (has_refused reader.queue) (given ++ queued)
 
   -- it goes on to the fact behind those; or reading the part came to its end, and all facts before that were given
   abbrev pub Advances : Limits → R → List FactValue → Result Bool PartFault → FactReader R → Type 0

@@ -1,6 +1,5 @@
 //! A reader of the facts of a part that is pulled.
 
-ghost use Rattle.std.specs.Prelude.{◌≡◌, length};
 ghost use Rattle.hprof_devices.specs.declared.health.Health.TheVariants.{Well};
 
 use crate::queue::Queue;
@@ -23,18 +22,19 @@ pub struct FactReader<R: Source + Drop> {
     queue: Queue,
     piece: Vec<u8>,
     reads_left: u64,
-    ghost room: { length piece.items ≡ 65536 },
 }
 
 impl<R: Source + Drop> FactReader<R> {
-    ghost use Rattle.std.specs.Prelude.{◌≡◌, ◌<◌, ◌∷◌, ℕ, List, [], IfOk, OnErr, Err, Some, true};
+    ghost use Rattle.std.specs.Prelude.{◌≡◌, ◌<◌, ◌≤◌, ℕ, List, [], IfOk, OnErr, Err, None, Some, false, length};
     ghost use Rattle.std.specs.Option.{option_map};
     ghost use Rattle.hprof_items.specs.FactValue.{FactValue, value_of};
     ghost use Rattle.hprof_stream.specs.declared.limits.Limits.{Limits};
     ghost use Rattle.hprof_stream.specs.declared.part_fault.PartFault.{PartFault};
+    ghost use Rattle.hprof_stream.specs.Reader.{IsReady};
     ghost use Rattle.hprof_stream.specs.Run.{SpellsBegun};
-    ghost use Rattle.hprof_facts.specs.FactReader.{Advances, CanAdvance, HasGiven, IsCurrent, ids_of, reads_to_come, summary_of};
-    ghost use Rattle.hprof_facts.specs.Queues.{Holds};
+    ghost use Rattle.hprof_facts.specs.FactReader.{Advances, CanAdvance, HasGiven, IsCurrent, IsReading};
+    ghost use Rattle.hprof_facts.specs.FactReader.{ids_of, reads_to_come, summary_of};
+    ghost use Rattle.hprof_facts.specs.Queues.{Holds, begun_with, has_refused};
 
     /// Returns a reader of the part that the source gives. It reads nothing yet. If memory runs out, the fault is `OutOfMemory`.
     pub fn new(alloc: Global, source: R, limits: Limits) -> Result<Self, PartFault>
@@ -56,19 +56,21 @@ impl<R: Source + Drop> FactReader<R> {
         })
     }
 
-    /// Reads the next piece of the part, and queues the facts of the items that are whole then. At its end or its first fault the part goes.
-    fn fill(&mut self)
-        requires can { CanAdvance R.health self.old }
+    /// Reads a piece of a part that goes on, and queues the facts of the items that are whole then. At its end, or at its first fault, the
+    /// part goes.
+    fn read_piece(&mut self, part: PartReader)
+        requires well { R.health self.old.source ≡ Well }
+        requires ready { IsReady part (begun_with self.old.queue) }
         requires empty { Holds self.old.queue [] }
+        requires none { self.old.part ≡ None }
+        requires room { length self.old.piece.items ≡ 65536 }
         ensures can { CanAdvance R.health self.new }
-        ensures given { (limits : Limits) (was : R) (given : List FactValue) → HasGiven R.left R.health R.pulls limits was given self.old
-            → HasGiven R.left R.health R.pulls limits was given self.new }
-        ensures less { 0 < reads_to_come self.old → reads_to_come self.new < reads_to_come self.old }
+        ensures given { (limits : Limits) (was : R) (facts : List FactValue)
+            → IsReading R.left R.health R.pulls limits was part self.old.source self.old.reads_left facts → has_refused self.old.queue ≡ false
+            → HasGiven R.left R.health R.pulls limits was facts self.new }
+        ensures less { reads_to_come self.new ≤ self.old.reads_left }
     {
-        self.queue.clear();
-        let Some(mut part) = self.part.take() else {
-            return;
-        };
+        let mut part = part;
         if self.reads_left == 0 {
             self.outcome = Err(PartFault::ReadsExceeded);
             return;
@@ -85,6 +87,21 @@ impl<R: Source + Drop> FactReader<R> {
         match part.feed(&self.piece[..count], &mut self.queue) {
             Ok(()) => self.part = Some(part),
             Err(fault) => self.outcome = Err(fault),
+        }
+    }
+
+    /// Reads the next piece, where the part goes on.
+    fn fill(&mut self)
+        requires can { CanAdvance R.health self.old }
+        requires empty { Holds self.old.queue [] }
+        ensures can { CanAdvance R.health self.new }
+        ensures given { (limits : Limits) (was : R) (given : List FactValue) → HasGiven R.left R.health R.pulls limits was given self.old
+            → HasGiven R.left R.health R.pulls limits was given self.new }
+        ensures less { 0 < reads_to_come self.old → reads_to_come self.new < reads_to_come self.old }
+    {
+        self.queue.clear();
+        if let Some(part) = self.part.take() {
+            self.read_piece(part);
         }
     }
 
