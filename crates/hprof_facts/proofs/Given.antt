@@ -36,19 +36,20 @@ module _ {R : Type 0} (left : R → Option (List ℕ)) (health : R → Health) (
   }
 
   -- a piece came, and was fed
-  pub reading_on : (part next : PartReader) (before is : R) (allowed : ℕ) (facts handed : List FactValue) (piece : List ℕ)
-      → IsPull left pulls before piece is → 0 < length piece
-      → (reading : IsReading left health pulls limits was part before (allowed + 1) facts)
+  --   allowed, less: the reads that could come before, and those that may come still
+  pub reading_on : (part next : PartReader) (before is : R) (allowed less : ℕ) (facts handed : List FactValue) (piece : List ℕ)
+      → allowed ≡ less + 1 → IsPull left pulls before piece is → 0 < length piece
+      → (reading : IsReading left health pulls limits was part before allowed facts)
       → HasRead limits (reading.came ++ piece) (facts ++ handed) next
-      → IsReading left health pulls limits was next is allowed (facts ++ handed)
-  reading_on part next before is allowed facts handed piece last some reading read =
+      → IsReading left health pulls limits was next is less (facts ++ handed)
+  reading_on part next before is allowed less facts handed piece one_less last some reading read =
       let spent = reading.spent in
       record {
         came = reading.came ++ piece;
         turns = reading.turns + 1;
         pulled = once_more reading.pulled last some;
         read = read;
-        spent = omega (arith, spent);
+        spent = omega (arith, spent, one_less);
       }
 
   -- a piece came, and feeding it was refused

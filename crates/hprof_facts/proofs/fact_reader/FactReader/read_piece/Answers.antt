@@ -5,11 +5,11 @@ use Rattle.std.proofs.Math.Seq.{take-append_seam}
 use Rattle.std.proofs.lemmas.List.{length-take-le}
 use Rattle.std.specs.Io.KnownBytes.{Consumes}
 use Rattle.hprof_items.specs.FactValue.{FactValue}
-use Rattle.hprof_stream.specs.Reader.{HasRead, header_of}
+use Rattle.hprof_stream.specs.Reader.{Feeds, HasRead, header_of}
 use Rattle.hprof_stream.specs.Run.{became}
 use Rattle.hprof_stream.specs.declared.part_fault.PartFault.TheVariants as faults
 use Rattle.hprof_facts.specs.FactReader.{Ends, IsReading}
-use Rattle.hprof_facts.specs.Queues.{has_refused}
+use Rattle.hprof_facts.specs.Queues.{has_refused, queue_begins, queue_refuses, queue_steps}
 use Rattle.hprof_facts.proofs.Given.{ends_failed, ends_finished, ends_refused, ends_spent, read_over, reading_on}
 use Rattle.hprof_facts.proofs.Listed.{run_holds}
 use Rattle.hprof_facts.proofs.fact_reader.FactReader.read_piece.Goals as goal
@@ -114,10 +114,8 @@ returns-in-Ok-feed-clause-given g c = λ limits was facts reading sound.
       holds = held.1;
       read = (
         reading_on g.R.Source.left g.R.Source.health g.R.Source.pulls limits was c.args.part c.feed.new.self its.source c.pull.new.self
-            (its.reads_left - 1) facts fed.0 (take c.in-Ok.count piece)
-            (record { gave = c.in-Ok.ensures.bytes; one = c.in-Ok.ensures.pulls; few = few }) some
-            (subst (λ (n : ℕ). IsReading g.R.Source.left g.R.Source.health g.R.Source.pulls limits was c.args.part its.source n facts)
-            one_more reading)
+            its.reads_left (its.reads_left - 1) facts fed.0 (take c.in-Ok.count piece) one_more
+            (record { gave = c.in-Ok.ensures.bytes; one = c.in-Ok.ensures.pulls; few = few }) some reading
             (subst (λ (l : List ℕ). HasRead limits (reading.came ++ take c.in-Ok.count l) (facts ++ fed.0) c.feed.new.self)
             (c.deref.ensures.value ∙ back) fed.1),
         held.0,
@@ -125,4 +123,31 @@ returns-in-Ok-feed-clause-given g c = λ limits was facts reading sound.
     }
 
 pub returns-in-Err-clause-given : goal.returns-in-Err-clause-given
-returns-in-Err-clause-given g c = λ limits was facts reading sound. ?
+returns-in-Err-clause-given g c = λ limits was facts reading sound.
+    let its = c.args.self.now in
+    let piece = c.pull.new.piece in
+    let came = length-take-le c.in-Ok.count piece c.in-Ok.ensures.count in
+    let some : 0 < length (take c.in-Ok.count piece) = omega (arith, c.if-count-eq0.false, came) in
+    let value = ap (λ (l : List ℕ). length l) c.deref_mut.ensures.value in
+    let full = c.requires.room in
+    let few : length (take c.in-Ok.count piece) ≤ 65536 = omega (arith, came, c.in-Ok.ensures.count, full, value) in
+    let all : its.piece.len ≡ length piece = omega (arith, c.deref_mut.ensures.len, value) in
+    let back : take its.piece.len (piece ++ drop (length piece) its.piece.items) ≡ piece =
+    whole its.piece.len piece (drop (length piece) its.piece.items) all in
+    let more = c.if-self-eq0.false in
+    let one_more : its.reads_left ≡ its.reads_left - 1 + 1 = omega (arith, more) in
+    let ends = ends_refused g.R.Source.left g.R.Source.health g.R.Source.pulls limits was c.args.part c.feed.new.self its.source
+    c.pull.new.self (its.reads_left - 1) facts (take c.in-Ok.count piece) c.in-Err.fault its.queue c.feed.new.sink
+    (record { gave = c.in-Ok.ensures.bytes; one = c.in-Ok.ensures.pulls; few = few }) some c.in-Ok.ensures.health c.in-Err.ensures.kept sound
+    c.requires.empty
+    (λ bytes others read. subst (λ (l : List ℕ). Feeds queue_begins queue_steps queue_refuses has_refused limits bytes others c.args.part
+    (take c.in-Ok.count l) its.queue (Err c.in-Err.fault) c.feed.new.self c.feed.new.sink) (c.deref.ensures.value ∙ back)
+    (c.in-Err.ensures.fed limits bytes others read))
+    (subst (λ (n : ℕ). IsReading g.R.Source.left g.R.Source.health g.R.Source.pulls limits was c.args.part its.source n facts) one_more
+    reading) in
+    record {
+      queued = ends.handed;
+      holds = ends.holds;
+      read = read_over g.R.Source.left g.R.Source.health g.R.Source.pulls limits was its.part c.pull.new.self (its.reads_left - 1)
+          (Err c.in-Err.fault) (has_refused c.feed.new.sink) facts ends.handed c.requires.none ends.comes;
+    }
