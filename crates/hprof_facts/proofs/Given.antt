@@ -2,7 +2,7 @@
 use Rattle.std.proofs.Common.{◌≡◌, ℕ, ◌+◌, ◌<◌, Bool, true, false, List, [], ◌∷◌, ◌++◌, length, Option, Some, None, Result, Ok, Err, refl, sym, subst, ap}
 use Rattle.std.proofs.Common.{append_assoc, append-nil, arith, ◌∙◌}
 use Rattle.std.proofs.lemmas.Bool.{both_ways}
-use Rattle.std.specs.Io.KnownBytes.{Consumes, IsAtEnd}
+use Rattle.std.specs.Io.KnownBytes.{IsAtEnd}
 use Rattle.hprof_devices.specs.declared.health.Health.{Health}
 use Rattle.hprof_devices.specs.declared.health.Health.TheVariants as healths
 use Rattle.hprof_items.specs.declared.header.Header.{Header}
@@ -12,13 +12,13 @@ use Rattle.hprof_stream.specs.declared.part_fault.PartFault.{PartFault}
 use Rattle.hprof_stream.specs.declared.part_fault.PartFault.TheVariants as faults
 use Rattle.hprof_stream.specs.declared.part_reader.PartReader.{PartReader}
 use Rattle.hprof_stream.specs.declared.summary.PartSummary.{PartSummary}
-use Rattle.hprof_stream.specs.Reader.{Feeds, Finishes, HasRead, IsPull, Pulled, header_of, once_more}
+use Rattle.hprof_stream.specs.Reader.{Feeds, Finishes, HasRead, IsPull, header_of, once_more}
 use Rattle.hprof_stream.proofs.Sources.{HasFed, HasFed-end, HasFed-failed, HasFed-fault, HasFed-spent, ReadsPart-finished}
 use Rattle.hprof_facts.specs.declared.queue.Queue.{Queue}
 use Rattle.hprof_facts.specs.FactReader.{Ends, IsReadTo, IsReading, summary_by}
 use Rattle.hprof_facts.specs.Listing as listing
 use Rattle.hprof_facts.specs.Queues.{HasCurrent, Holds, has_refused, queue_begins, queue_refuses, queue_steps}
-use Rattle.hprof_facts.proofs.Listed.{IsListed, feeds_lists, run_holds, run_lists}
+use Rattle.hprof_facts.proofs.Listed.{IsListed, feeds_lists, run_lists}
 use Rattle.hprof_facts.proofs.Queues.{holds_once}
 
 module _ {R : Type 0} (left : R → Option (List ℕ)) (health : R → Health) (pulls : R → ℕ) (limits : Limits) (was : R) where

@@ -1,5 +1,5 @@
 -- What was run over by a queue is what a list takes.
-use Rattle.std.proofs.Common.{◌≡◌, ℕ, Bool, true, false, List, [], ◌∷◌, ◌++◌, length, take, Option, Some, None, Result, Ok, Err, inl, inr, refl, sym}
+use Rattle.std.proofs.Common.{◌≡◌, ℕ, false, List, [], ◌∷◌, ◌++◌, take, Option, Some, None, Err, inl, inr, refl, sym}
 use Rattle.std.proofs.Common.{subst, append_assoc, append-nil}
 use Rattle.hprof_items.specs.declared.header.Header.{Header}
 use Rattle.hprof_items.specs.FactValue.{FactValue}
@@ -8,8 +8,7 @@ use Rattle.hprof_stream.specs.declared.part_fault.PartFault.{PartFault}
 use Rattle.hprof_stream.specs.declared.part_fault.PartFault.TheVariants as faults
 use Rattle.hprof_stream.specs.declared.part_reader.PartReader.{PartReader}
 use Rattle.hprof_stream.specs.declared.sink.SinkFault.{SinkFault}
-use Rattle.hprof_stream.specs.declared.sink.SinkFault.TheVariants.{OutOfMemory}
-use Rattle.hprof_stream.specs.Reader.{BeginsWhole, Feeds, IsFeedFault, IsUnheld, LacksMemory, RanOver, RanUnheld, RanUpTo, RefusesLast, header_of}
+use Rattle.hprof_stream.specs.Reader.{BeginsWhole, Feeds, IsUnheld, RanOver, RanUnheld, RefusesLast, header_of}
 use Rattle.hprof_stream.specs.Run.{Run, Steps, became}
 use Rattle.hprof_facts.specs.declared.queue.Queue.{Queue}
 use Rattle.hprof_facts.specs.Listing as listing

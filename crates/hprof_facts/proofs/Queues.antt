@@ -1,15 +1,14 @@
 -- Facts in a queue: one more, and the first taken.
-use Rattle.std.proofs.Common.{◌≡◌, ℕ, ◌+◌, ◌-◌, ◌<◌, ◌≤◌, zero, suc, List, [], ◌∷◌, ◌++◌, length, take, drop, Option, Some, None, refl, sym, ap}
+use Rattle.std.proofs.Common.{◌≡◌, ℕ, ◌+◌, ◌-◌, ◌≤◌, zero, suc, List, [], ◌∷◌, ◌++◌, length, take, drop, Option, Some, None, refl, sym, ap}
 use Rattle.std.proofs.Common.{subst, ◌∙◌, arith}
 use Rattle.std.specs.List.{slice_get}
-use Rattle.std.proofs.lemmas.List.{take-append-le, drop-append-le, length-append, length-drop, append-nil, append_assoc}
+use Rattle.std.proofs.lemmas.List.{take-append-le, drop-append-le, length-append, length-drop}
 use Rattle.hprof_values.specs.declared.ids.IdSize.{IdSize}
 use Rattle.hprof_items.specs.FactValue.{FactValue, ListsHave, value_of}
 use Rattle.hprof_items.specs.declared.fact.Fact.{Fact}
 use Rattle.hprof_items.specs.Spelling.{Fits}
 use Rattle.hprof_items.specs.SubRecord.{dump_bytes}
-use Rattle.hprof_stream.specs.Run.{FitsBegun, ListsHaveBegun, SpellsBegun, Steps, Run}
-use Rattle.hprof_items.specs.declared.header.Header.{Header}
+use Rattle.hprof_stream.specs.Run.{FitsBegun, ListsHaveBegun, SpellsBegun}
 use Rattle.hprof_rows.proofs.HeapRows.{spelled_read}
 use Rattle.hprof_facts.specs.declared.queue.Queue.{Queue}
 use Rattle.hprof_facts.specs.declared.kept.Form.{Form}

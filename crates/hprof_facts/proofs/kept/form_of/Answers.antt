@@ -1,8 +1,8 @@
-use Rattle.std.proofs.Common.{◌≡◌, List, ℕ, subst, refl, ap, sym, ◌∙◌}
+use Rattle.std.proofs.Common.{subst, ap, sym, ◌∙◌}
 use Rattle.hprof_values.specs.declared.ids.IdSize.{IdSize}
 use Rattle.hprof_values.specs.Lists.{IsIdList, identifiers_of}
 use Rattle.hprof_values.proofs.IdLists.{ids_again}
-use Rattle.hprof_items.specs.FactValue.{FactValue, Trace, ListsHave, value_of}
+use Rattle.hprof_items.specs.FactValue.{Trace, ListsHave, value_of}
 use Rattle.hprof_items.specs.declared.fact.Fact.{Fact}
 use Rattle.hprof_facts.proofs.kept.form_of.Goals as goal
 

@@ -1,4 +1,4 @@
-use Rattle.std.proofs.Common.{◌≡◌, ◌≤◌, [], length, sym, ap, ◌∙◌, arith, rules, Some}
+use Rattle.std.proofs.Common.{[], length, sym, ap, ◌∙◌, arith, Some}
 use Rattle.std.proofs.lemmas.List.{append-nil}
 use Rattle.hprof_items.specs.SubRecord.{dump_bytes}
 use Rattle.hprof_facts.proofs.kept.sub_fact.Goals as goal

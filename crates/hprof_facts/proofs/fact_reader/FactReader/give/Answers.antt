@@ -1,4 +1,4 @@
-use Rattle.std.proofs.Common.{◌≡◌, ◌++◌, Bool, List, [], Option, None, Some, Ok, Err, Result, sym, subst}
+use Rattle.std.proofs.Common.{◌≡◌, ◌++◌, Bool, List, [], None, Result, sym, subst}
 use Rattle.hprof_items.specs.FactValue.{FactValue}
 use Rattle.hprof_stream.specs.declared.part_fault.PartFault.{PartFault}
 use Rattle.hprof_stream.specs.declared.summary.PartSummary.{PartSummary}
@@ -16,7 +16,7 @@ returns-then-step-clause-advances g c = λ limits was given has.
     let it = gives_first g.R.Source.left g.R.Source.health g.R.Source.pulls limits was its.part its.source its.reads_left its.outcome
     (has_refused c.step.new.self) given has.queued its.queue c.step.new.self c.step.result c.if-step.true has.holds c.step.ensures.some
     c.step.ensures.none read in
-    (it.fact, (record { queued = it.rest; holds = it.holds; read = it.read }, it.current))
+    (it.fact, record { queued = it.rest; holds = it.holds; read = it.read }, it.current)
 
 pub returns-in-Ok-clause-advances : goal.returns-in-Ok-clause-advances
 returns-in-Ok-clause-advances g c = λ limits was given has.
@@ -36,11 +36,9 @@ returns-in-Ok-clause-advances g c = λ limits was given has.
       },
       (
         c.in-Ok.field-0,
-        (
-          over_summary its.part its.outcome c.in-Ok.field-0 none c.in-Ok.is,
-          subst (λ (o : Result PartSummary PartFault). Ends g.R.Source.left g.R.Source.health g.R.Source.pulls limits was its.source o given)
-              c.in-Ok.is ends,
-        ),
+        over_summary its.part its.outcome c.in-Ok.field-0 none c.in-Ok.is,
+        subst (λ (o : Result PartSummary PartFault). Ends g.R.Source.left g.R.Source.health g.R.Source.pulls limits was its.source o given)
+            c.in-Ok.is ends,
       ),
     )
 

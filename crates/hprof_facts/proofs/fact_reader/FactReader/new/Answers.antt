@@ -14,4 +14,4 @@ returns-clause-given g c = record {
 }
 
 pub returns-clause-can : goal.returns-clause-can
-returns-clause-can g c = (c.requires, (c.new.ensures.ready (begun_with c.new-2.result), c.in-Ok.ensures.len))
+returns-clause-can g c = (c.requires, c.new.ensures.ready (begun_with c.new-2.result), omega (arith, c.in-Ok.ensures.len, c.in-Ok.piece.ok.0))

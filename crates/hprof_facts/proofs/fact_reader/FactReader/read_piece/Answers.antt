@@ -1,5 +1,5 @@
-use Rattle.std.proofs.Common.{◌≡◌, ◌+◌, ◌-◌, ◌<◌, ◌≤◌, ◌++◌, ℕ, false, List, [], Option, None, Err, length, take, drop, sym, subst, ap, ◌∙◌, append-nil}
-use Rattle.std.proofs.Common.{arith, rules}
+use Rattle.std.proofs.Common.{◌≡◌, ◌+◌, ◌-◌, ◌<◌, ◌≤◌, ◌++◌, ℕ, List, [], Err, length, take, drop, sym, subst, ap, ◌∙◌, append-nil}
+use Rattle.std.proofs.Common.{arith}
 use Rattle.std.proofs.KnownBytes.{Consumes-kept, Consumes-nil}
 use Rattle.std.proofs.Math.Seq.{take-append_seam}
 use Rattle.std.proofs.lemmas.List.{length-take-le}
@@ -90,7 +90,7 @@ returns-in-Ok-feed-clause-can g c =
     let long = ap (λ (l : List ℕ). length l) back in
     let full = c.requires.room in
     let value = ap (λ (l : List ℕ). length l) c.deref_mut.ensures.value in
-    (c.in-Ok.ensures.health, (c.in-Ok-feed.ensures.ready, omega (arith, long, full, value)))
+    (c.in-Ok.ensures.health, c.in-Ok-feed.ensures.ready, omega (arith, long, full, value))
 
 pub returns-in-Ok-feed-clause-given : goal.returns-in-Ok-feed-clause-given
 returns-in-Ok-feed-clause-given g c = λ limits was facts reading sound.

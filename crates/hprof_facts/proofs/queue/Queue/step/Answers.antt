@@ -1,8 +1,7 @@
-use Rattle.std.proofs.Common.{◌≡◌, ℕ, List, ◌∷◌, [], ◌+◌, ◌-◌, ◌<◌, ◌≤◌, drop, length, sym, subst, refl, Some, Option, ap, ◌∙◌, arith, rules}
+use Rattle.std.proofs.Common.{◌≡◌, ℕ, List, ◌+◌, ◌-◌, ◌<◌, drop, length, subst, refl, Some, ap, arith, rules}
 use Rattle.std.specs.List.{slice_get}
 use Rattle.std.proofs.lemmas.List.{length-drop}
 use Rattle.hprof_facts.specs.declared.kept.Slot.{Slot}
-use Rattle.hprof_facts.specs.Kept.{AreKept, AreKeptUnder}
 use Rattle.hprof_facts.proofs.Queues.{gone_to, goes_under, none_left}
 use Rattle.hprof_facts.proofs.queue.Queue.step.Goals as goal
 
