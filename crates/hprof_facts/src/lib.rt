@@ -5,5 +5,7 @@
 mod fact_reader;
 mod kept;
 mod queue;
+#[cfg(test)]
+mod tests;
 
 pub use fact_reader::FactReader;
