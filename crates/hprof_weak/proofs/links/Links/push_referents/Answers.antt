@@ -5,22 +5,22 @@ use Rattle.hprof_weak.specs.Links.{PushesReferents, nexts_in}
 use Rattle.hprof_weak.proofs.Pushing.{Pushing, no_next, pushing_ends, pushing_on}
 use Rattle.hprof_weak.proofs.links.Links.push_referents.Goals as goal
 
-pub returns-in_default : goal.returns-in_default
-returns-in_default c = λ facts slots leads.
+pub returns-in_default-clause-pushes : goal.returns-in_default-clause-pushes
+returns-in_default-clause-pushes c = λ facts slots leads.
     let nexts = nexts_in c.args.self.now in
     let old = c.args.fields.now.items in
-    let pushing = c.loop-place.invariant facts slots leads in
+    let pushing = c.loop-place.invariant.pushing facts slots leads in
     let last = no_next c.next.result pushing.next (c.next.ensures pushing.next pushing.there) c.in_default.not-Some in
     let small = c.ranges.room in
     subst (λ (l : List FieldPlace). PushesReferents facts c.args.class slots c.args.room true old l) (sym c.in_ok-push.ensures.items)
     (pushing_ends facts nexts c.args.class slots old c.loop-place.fields.items c.loop-place.place c.loop-place.number c.args.room pushing
     c.loop-place-test.true (omega (arith, small)) last)
 
-pub loop-place-preserved : goal.loop-place-preserved
-loop-place-preserved c = λ facts slots leads.
+pub loop-place-preserved-clause-pushing : goal.loop-place-preserved-clause-pushing
+loop-place-preserved-clause-pushing c = λ facts slots leads.
     let nexts = nexts_in c.args.self.now in
     let old = c.args.fields.now.items in
-    let pushing = c.loop-place.invariant facts slots leads in
+    let pushing = c.loop-place.invariant.pushing facts slots leads in
     let next = sym (c.next.ensures pushing.next pushing.there) ∙ c.in-Some.is in
     let small = c.ranges.room in
     let one = c.saturating_add.ensures in
