@@ -478,7 +478,8 @@ impl<'a> Answerer<'a> {
         }
     }
 
-    /// Writes a report. If the writer fails or memory runs out, the bytes written are the beginning of the report. If the report is on a name
+    /// Writes a report. If the writer fails or memory runs out, the bytes written are the beginning of the report. If the report is on a
+    /// name
     /// that no class has, it is refused, and nothing is written. `kept` has what was kept of the heap at the reports before, and keeps
     /// what is made now.
     pub fn write<W: Target>(

@@ -1,6 +1,7 @@
 //! Questions that are taken line by line, and answered.
 
-ghost use Rattle.std.specs.Prelude.{◌≡◌, ◌++◌, ◌∷◌, [], ◌<◌, ◌≤◌, ◌+◌, ◌-◌, ◌^◌, min, ℕ, List, Option, take, length, vec_len, vec_capacity, Err, MatchResult, OnOk, IfOk};
+ghost use Rattle.std.specs.Prelude.{◌≡◌, ◌++◌, ◌∷◌, [], ◌<◌, ◌≤◌, ◌+◌, ◌-◌, ◌^◌, min, ℕ, List, Option, take, length, vec_len, vec_capacity};
+ghost use Rattle.std.specs.Prelude.{Err, MatchResult, OnOk, IfOk};
 ghost use Rattle.std.specs.Io.KnownBytes.{Consumes, IsAtEnd, Keeps};
 ghost use Rattle.hprof_devices.specs.declared.health.Health.TheVariants.{Well, Failed};
 ghost use Rattle.hprof_devices.specs.Device.{LeavesHealth};

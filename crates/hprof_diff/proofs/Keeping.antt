@@ -10,9 +10,11 @@ use Rattle.hprof_diff.specs.declared.part.Source.{Source}
 use Rattle.hprof_diff.specs.declared.label_counts.LabelCounts.{LabelCounts}
 use Rattle.hprof_meaning.specs.BareLabels.{AreBareLabels}
 use Rattle.hprof_diff.specs.Labels.{kind_label}
-use Rattle.hprof_diff.specs.Sources.{AreSourceLabels, FitsCounted, IsPart, IsSourceLabel, both, counted_of_row, nothing, parts_under, rows_under, sum_of, sum_of_parts}
+use Rattle.hprof_diff.specs.Sources.{AreSourceLabels, FitsCounted, IsPart, IsSourceLabel, both, counted_of_row, nothing, parts_under}
+use Rattle.hprof_diff.specs.Sources.{rows_under, sum_of, sum_of_parts}
 use Rattle.hprof_diff.specs.Kept.{AreKept, kept_in}
-use Rattle.hprof_diff.proofs.Sums.{both_assoc, both_comm, both_nothing, has_it, has_not, if_has, moved_more, nothing_both, room_alone, under_cons, under_fits}
+use Rattle.hprof_diff.proofs.Sums.{both_assoc, both_comm, both_nothing, has_it, has_not, if_has, moved_more, nothing_both, room_alone}
+use Rattle.hprof_diff.proofs.Sums.{under_cons, under_fits}
 use Rattle.hprof_diff.specs.LabelTexts.{label_of_kind, one_source_label, source_labels_exist}
 
 -- ---- rows that become parts

@@ -1,5 +1,6 @@
 -- The labels that are kept.
-use Rattle.std.proofs.Common.{◌≡◌, ℕ, String, Bool, true, false, cond, List, [], ◌∷◌, Option, Some, None, map, is_some, unwrap_or, refl, sym, ap, ◌∙◌, inl, inr, string_bytes}
+use Rattle.std.proofs.Common.{◌≡◌, ℕ, String, Bool, true, false, cond, List, [], ◌∷◌, Option, Some, None, map, is_some, unwrap_or, refl}
+use Rattle.std.proofs.Common.{sym, ap, ◌∙◌, inl, inr, string_bytes}
 use Rattle.std.specs.Prelude.{bytes_eq}
 use Rattle.std.specs.BTreeMap.{get_by_text, keys}
 use Rattle.std.specs.Cmp.Lexicographic.{slice_cmp}

@@ -1,7 +1,8 @@
 -- What is derived when a fact is added.
 use Rattle.std.specs.Prelude.{◌↔◌, ◌≢◌, nat_eq, ⊤}
 use Rattle.std.specs.List.{IsDistinct}
-use Rattle.std.proofs.Common.{◌≡◌, ℕ, ◌+◌, ◌-◌, ◌^◌, ◌⊎◌, min, List, [], ◌∷◌, ◌++◌, Bor, Contains, Some, Vec, Global, refl, sym, ap, subst, ◌∙◌}
+use Rattle.std.proofs.Common.{◌≡◌, ℕ, ◌+◌, ◌-◌, ◌^◌, ◌⊎◌, min, List, [], ◌∷◌, ◌++◌, Bor, Contains, Some, Vec, Global, refl, sym, ap, subst}
+use Rattle.std.proofs.Common.{◌∙◌}
 use Rattle.std.proofs.Common.{inl, inr}
 use Rattle.std.proofs.lemmas.Bool.{cases_eq}
 use Rattle.std.proofs.lemmas.List.Elements.{Contains-append_left, Contains-push, Contains-push_cases}
@@ -32,7 +33,8 @@ use Rattle.hprof_graph.specs.declared.derived.Derived.{Derived}
 use Rattle.hprof_graph.specs.Derived.{IsOther, AddsFact, GivesSoFar, HasLaid, IsDerived, IsDeriving, IsEdgeSoFar, IsInstance, IsInstanceOf}
 use Rattle.hprof_graph.proofs.Deriving.{appended, stopped_more}
 use Rattle.hprof_graph.proofs.EdgesSoFar.{with_fact}
-use Rattle.hprof_graph.proofs.Instances.{instance_stays, instance_was, laid_stays, layout_or_not, one_class, agreed, stays, was_or_is, is_there}
+use Rattle.hprof_graph.proofs.Instances.{instance_stays, instance_was, laid_stays, layout_or_not, one_class, agreed, stays, was_or_is}
+use Rattle.hprof_graph.proofs.Instances.{is_there}
 
 module _ (ids : IdSize) (before : List FactValue) (fact : FactValue) (facts : List FactValue) (adds : AddsFact before fact facts)
     (derived : Derived) where

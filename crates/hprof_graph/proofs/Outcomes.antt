@@ -2,7 +2,8 @@
 use Rattle.std.specs.Prelude.{◌≢◌, IfOk}
 use Rattle.std.specs.Option.{option_map}
 use Rattle.std.specs.Result.{result_ok}
-use Rattle.std.proofs.Common.{◌≡◌, Bool, true, false, not, cond, min, ◌||◌, List, [], Option, Some, None, Result, Ok, Err, Bor, refl, sym, ap, subst}
+use Rattle.std.proofs.Common.{◌≡◌, Bool, true, false, not, cond, min, ◌||◌, List, [], Option, Some, None, Result, Ok, Err, Bor, refl, sym}
+use Rattle.std.proofs.Common.{ap, subst}
 use Rattle.hprof_values.specs.declared.ids.IdSize.{IdSize}
 use Rattle.hprof_items.specs.declared.header.Header.{Header}
 use Rattle.hprof_items.specs.FactValue.{FactValue}
@@ -17,7 +18,8 @@ use Rattle.hprof_heap.specs.declared.heap.Heap.{Heap}
 use Rattle.hprof_heap.specs.declared.standing.Refusal.{Refusal}
 use Rattle.hprof_heap.specs.declared.standing.Refusal.TheVariants as refusals
 use Rattle.hprof_heap.specs.declared.standing.Standing.TheVariants as standings
-use Rattle.hprof_heap.specs.Gathering.{Begins, TellsStated, Gathered, IsStated, Takes, TakesHeap, answer_of, begun_heap, gathered, has_other_size, mark_after, marked, same_size}
+use Rattle.hprof_heap.specs.Gathering.{Begins, TellsStated, Gathered, IsStated, Takes, TakesHeap, answer_of, begun_heap, gathered}
+use Rattle.hprof_heap.specs.Gathering.{has_other_size, mark_after, marked, same_size}
 use Rattle.hprof_heap.specs.Gathering.{standing_of_answer, unconflicted}
 use Rattle.hprof_heap.specs.Heap.{heap_of}
 use Rattle.hprof_heap.specs.HeapFacts.{facts_of, size_of}

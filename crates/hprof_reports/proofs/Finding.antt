@@ -1,6 +1,7 @@
 -- The field at a place of a layout, found class by class.
 use Rattle.std.specs.Prelude.{◌≢◌}
-use Rattle.std.proofs.Common.{◌≡◌, ◌-◌, ◌<◌, ◌≤◌, ℕ, zero, suc, List, [], ◌∷◌, ◌++◌, length, map, Option, Some, None, refl, sym, ap, subst, ◌∙◌, arith}
+use Rattle.std.proofs.Common.{◌≡◌, ◌-◌, ◌<◌, ◌≤◌, ℕ, zero, suc, List, [], ◌∷◌, ◌++◌, length, map, Option, Some, None, refl, sym, ap, subst}
+use Rattle.std.proofs.Common.{◌∙◌, arith}
 use Rattle.std.specs.List.{AllByRecursion, slice_get}
 use Rattle.std.specs.Option.{option_map}
 use Rattle.std.proofs.lemmas.List.{length-map}
@@ -47,7 +48,8 @@ own_slot dump place entry there =
 
 -- ---- what is still to be found
 
--- the field at the place of the layout of the class is the one at this place of the layout of that class, from which at most so many classes
+-- the field at the place of the layout of the class is the one at this place of the layout of that class, from which at most so many
+-- classes
 -- are left
 pub record IsStillAt (facts : List FactValue) (class place at before left : ℕ) : Type 0 where
   pub found : (slots : List Slot) (slot : Slot) → IsKnown facts class slots → slice_get slots place ≡ Some slot

@@ -1,5 +1,6 @@
 -- What was found by a search up to a level, by numbers.
-use Rattle.std.proofs.Common.{◌≡◌, ◌⊎◌, ◌↔◌, ◌<◌, ◌≤◌, ℕ, zero, suc, Bool, true, false, List, Contains, length, slice_index, inl, inr, refl, sym, subst, subst₂, ◌∙◌, arith}
+use Rattle.std.proofs.Common.{◌≡◌, ◌⊎◌, ◌↔◌, ◌<◌, ◌≤◌, ℕ, zero, suc, Bool, true, false, List, Contains, length, slice_index, inl, inr, refl}
+use Rattle.std.proofs.Common.{sym, subst, subst₂, ◌∙◌, arith}
 use Rattle.std.specs.List.Sorted.{IsStrictlyIncreasing}
 use Rattle.hprof_search.specs.Finds.{Finds, Follows, LeadsOn, is_found}
 use Rattle.hprof_search.specs.Walks.{Reaches, IsDistance, IsLeastBefore}

@@ -23,7 +23,8 @@ use Rattle.hprof_tool.specs.declared.program.refused.Refused.TheVariants as refu
 use Rattle.hprof_tool.specs.Folder.{Answered, AreOpened}
 use Rattle.hprof_tool.specs.Program.{IsOfOpening, IsReportRefusal, usual_limits}
 use Rattle.hprof_devices.specs.declared.health.ReadFault.{ReadFault}
-use Rattle.hprof_tool.specs.Conversing.{CannotReadOn, AnswersAll, LeavesAnswers, OfFront, OverFiles, OverReaders, SaysOfReaders, refused_asking}
+use Rattle.hprof_tool.specs.Conversing.{CannotReadOn, AnswersAll, LeavesAnswers, OfFront, OverFiles, OverReaders, SaysOfReaders}
+use Rattle.hprof_tool.specs.Conversing.{refused_asking}
 use Rattle.hprof_tool.proofs.Files.{of_reporting}
 use Rattle.hprof_tool.proofs.Making.{no_parts_told, none_added}
 

@@ -362,7 +362,8 @@ fn perform<F: Folder, I: Source + Drop, O: Write + Drop, E: Write, P: Write + Dr
     }
 }
 
-/// Does what a task asks for, with a progress meter on the terminal, if there is one. The meter's line goes before anything else is written.
+/// Does what a task asks for, with a progress meter on the terminal, if there is one. The meter's line goes before anything else is
+/// written.
 fn perform_metered<S: Files + Clock, I: Read + Drop, O: Write + Drop, E: Write, P: Write + Drop>(
     alloc: Global,
     system: &S,

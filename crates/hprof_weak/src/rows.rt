@@ -44,7 +44,8 @@ impl WeakClasses {
         Some(*class)
     }
 
-    /// Appends the weak fields of the least classes, one class after another, as long as there is room for `most` fields in all. The classes
+    /// Appends the weak fields of the least classes, one class after another, as long as there is room for `most` fields in all. The
+    /// classes
     /// whose weak fields all are there are removed.
     fn put_few(&mut self, most: u64, fields: &mut Vec<FieldPlace>) -> Result<(), AllocError>
         ensures put { OnOk result ((facts : List FactValue) → IsConsistent facts → ArePut facts self.old fields.old.items
