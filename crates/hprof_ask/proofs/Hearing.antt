@@ -75,7 +75,8 @@ module _ (IsAnswer : Question → List ℕ → Type 0) where
 
   module _ (bytes : List ℕ) (start now : Option (List ℕ)) (kept : List ℕ) (heard : Heard IsAnswer bytes start now kept) where
     -- a byte more of a line
-    pub heard_byte : (byte : ℕ) (next : List ℕ) → byte ≢ 10 → ((rest : List ℕ) → kept ≡ take 4098 rest → next ≡ take 4098 (rest ++ byte ∷ []))
+    pub heard_byte : (byte : ℕ) (next : List ℕ) → byte ≢ 10
+        → ((rest : List ℕ) → kept ≡ take 4098 rest → next ≡ take 4098 (rest ++ byte ∷ []))
         → Heard IsAnswer (bytes ++ byte ∷ []) start now next
     heard_byte byte next other keeps = record {
       lines = heard.lines;

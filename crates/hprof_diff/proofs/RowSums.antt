@@ -53,7 +53,8 @@ one_row : (ids : IdSize) (facts : List FactValue) (row other : Row) → CountsKi
 one_row ids facts row other counts counts_too kind =
     let count : row.count ≡ other.count =
     counts.count ∙ ap (λ (k : Kind). length (of_kind k facts)) kind ∙ sym counts_too.count in
-    let bytes : row.bytes ≡ other.bytes = counts.bytes ∙ ap (λ (k : Kind). sum_by (size_of_object ids) (of_kind k facts)) kind ∙ sym counts_too.bytes in
+    let bytes : row.bytes ≡ other.bytes = counts.bytes ∙ ap (λ (k : Kind). sum_by (size_of_object ids) (of_kind k facts)) kind
+    ∙ sym counts_too.bytes in
     λ i. record { kind = kind i; count = count i; bytes = bytes i }
 
 module _ (ids : IdSize) (facts : List FactValue) where

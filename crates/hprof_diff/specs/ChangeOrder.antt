@@ -60,7 +60,8 @@ step_congr x y z e = by_order (step_cmp y z) refl where
   by_order : (order : Ordering) → step_cmp y z ≡ order → step_cmp x z ≡ order
   by_order Less yz = let lt = is_less (y.new + z.old) (z.new + y.old) yz in less (x.new + z.old) (z.new + x.old) (omega (arith, xy, lt))
   by_order Equal yz = let is = is_equal (y.new + z.old) (z.new + y.old) yz in equal (x.new + z.old) (z.new + x.old) (omega (arith, xy, is))
-  by_order Greater yz = let gt = is_greater (y.new + z.old) (z.new + y.old) yz in greater (x.new + z.old) (z.new + x.old) (omega (arith, xy, gt))
+  by_order Greater yz = let gt =
+      is_greater (y.new + z.old) (z.new + y.old) yz in greater (x.new + z.old) (z.new + x.old) (omega (arith, xy, gt))
 
 pub step_cmp_total : IsTotalOrder step_cmp
 step_cmp_total = record {

@@ -239,8 +239,10 @@ module _ {O : Type 0} (contents : O → Option (List ℕ)) (old : O) (From To : 
   leaves_over refusals.Create new leaves = leaves
 
 -- the same questions, which another source gives
-module _ {P W I Q O : Type 0} (answered : Answered P W) (tells : P → Option (List ℕ)) (left : I → Option (List ℕ)) (asked : Q → Option (List ℕ))
-    (contents : O → Option (List ℕ)) (names : List (Bor (List ℕ))) (input : I) (source : Q) (old : O) (same : asked source ≡ left input) where
+module _ {P W I Q O : Type 0} (answered : Answered P W) (tells : P → Option (List ℕ)) (left : I → Option (List ℕ))
+    (asked : Q → Option (List ℕ))
+    (contents : O → Option (List ℕ)) (names : List (Bor (List ℕ))) (input : I) (source : Q) (old : O)
+    (same : asked source ≡ left input) where
   pub same_questions : (Holds : (Question → List ℕ → Type 0) → List ℕ → Type 0)
       → OverFiles answered tells asked contents names source old Holds → OverFiles answered tells left contents names input old Holds
   same_questions Holds over = record {
