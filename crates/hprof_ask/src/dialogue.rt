@@ -114,7 +114,8 @@ fn go_over<A: Answers, W: Target>(
     requires well { W.health target.old ≡ Well }
     requires kept { A.keeps answers.now kept.old }
     requires room { KEPT ≤ vec_capacity line.old }
-    ensures bytes { (bytes : List ℕ) (start : Option (List ℕ)) → Heard (A.is_answer answers.now) bytes start (W.written target.old) line.old.items
+    ensures bytes { (bytes : List ℕ) (start : Option (List ℕ))
+        → Heard (A.is_answer answers.now) bytes start (W.written target.old) line.old.items
         → GoesOver (A.is_answer answers.now) (bytes ++ piece.now) start (W.written target.new) line.new.items result }
     ensures health { LeavesWriter result (W.health target.new) }
     ensures kept { A.keeps answers.now kept.new }

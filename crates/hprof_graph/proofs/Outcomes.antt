@@ -195,7 +195,8 @@ begun_on derived (Some heap) (Some key) false header is =
     (λ t. IsDerivedOf (unconflicted (Some (begun_heap (Some heap) header)) (Some key) (not t)) derived) [ true ↦ tt | false ↦ tt ]
 begun_on derived (Some heap) None false header is =
     elim (same_size heap.ids header.ids) as
-    (λ t. IsDerivedOf (unconflicted (Some (cond t (record heap { millis = min heap.millis header.millis }) heap)) None (not t)) derived) [ true ↦ is | false ↦ tt ]
+    (λ t. IsDerivedOf (unconflicted (Some (cond t (record heap { millis = min heap.millis header.millis }) heap)) None (not t)) derived)
+    [ true ↦ is | false ↦ tt ]
 
 -- what a gatherer answers that has not failed
 unfailed : (g : Gathered) → g.failed ≡ false → answer_of g ≡ unconflicted g.heap g.conflict g.two_sizes
@@ -208,7 +209,8 @@ begins_on old new header derived begins is =
     let after = begun_on derived old.heap old.conflict old.two_sizes header before in
     subst (λ (o : Result HeapValue Refusal). IsDerivedOf o derived) (sym (unfailed new begins.sound))
     (subst (λ (h : Option HeapValue). IsDerivedOf (unconflicted h new.conflict new.two_sizes) derived) (sym begins.heap)
-    (subst (λ (k : Option Key). IsDerivedOf (unconflicted (Some (begun_heap old.heap header)) k new.two_sizes) derived) (sym begins.conflict)
+    (subst (λ (k : Option Key). IsDerivedOf (unconflicted (Some (begun_heap old.heap header)) k new.two_sizes) derived)
+    (sym begins.conflict)
     (subst (λ (t : Bool). IsDerivedOf (unconflicted (Some (begun_heap old.heap header)) old.conflict t) derived) (sym begins.two_sizes)
     after)))
 

@@ -98,7 +98,8 @@ led_more Leads nodes level targets index number old middle new below is ascend l
         | inl early ↦ (is_taken level index below number one is (inl early.0), early.1)
         | inr late ↦ (
           is_taken level index below number one is (inr (sym late.0)),
-          subst (λ (n : ℕ). Leads (slice_index nodes n) (slice_index nodes other)) (sym late.0) ((leads (slice_index nodes other)).0 late.1),
+          subst (λ (n : ℕ). Leads (slice_index nodes n) (slice_index nodes other)) (sym late.0)
+              ((leads (slice_index nodes other)).0 late.1),
         )
       ],
       λ led. elim (was_taken level index below number one is led.0) [

@@ -22,7 +22,8 @@ impl WeakClasses {
         room: u64,
         fields: &mut Vec<FieldPlace>,
     ) -> Result<bool, AllocError>
-        ensures puts { OnOk result ((facts : List FactValue) → PutsWeak facts class room self.old self.new fields.old.items fields.new.items) }
+        ensures puts { OnOk result ((facts : List FactValue)
+            → PutsWeak facts class room self.old self.new fields.old.items fields.new.items) }
         ensures all { IfOk result (λ all. IsTrue all ↔ (first_of self.new class ≡ None)) }
         ensures few { OnOk result (length fields.new.items ≤ length fields.old.items + room) }
     {
