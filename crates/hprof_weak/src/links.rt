@@ -79,7 +79,8 @@ impl Links {
         fields: &mut Vec<FieldPlace>,
     ) -> Result<bool, AllocError>
         ensures pushes { IfOk result (λ all. (facts : List FactValue) (slots : List Slot)
-            → Leads facts (nexts_in self.now) (Some first) slots → PushesReferents facts class slots room all fields.old.items fields.new.items) }
+            → Leads facts (nexts_in self.now) (Some first) slots
+            → PushesReferents facts class slots room all fields.old.items fields.new.items) }
         ensures few { OnOk result (length fields.new.items ≤ length fields.old.items + room) }
     {
         let mut place = first.before;
