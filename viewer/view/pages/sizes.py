@@ -1,4 +1,4 @@
-"""The objects of a class or a type, a page of them, by size or by what they keep: read of the answer to `objects` or `biggest`, and shown."""
+"""The objects of a class or a type, by size or by what they keep: a page of them, read of an answer, and shown."""
 
 from collections import namedtuple
 
@@ -34,10 +34,11 @@ def none(page):
 
 def heading(objects, singular):
     """How many objects there are, and links to the other orders. Only what strong references reach keeps anything."""
-    others = [link(address("by", one, {}), ORDERS[one]) for one in objects.orders if one != objects.order]
+    orders = objects.orders if objects.part.total or objects.order != "size" else []
+    others = [link(address("by", one, {}), ORDERS[one]) for one in orders if one != objects.order]
     words = f"{counted(objects.part.total, singular)} {ORDERS[objects.order]}"
-    reached = element("small", "those that strong references reach") if objects.order == "retained" else ""
-    return joined([element("h2", words, " ", reached), element("p", *others) if others else ""])
+    reached = [" ", element("small", "those that strong references reach")] if objects.order == "retained" else []
+    return joined([element("h2", words, *reached), element("p", *others) if others else ""])
 
 
 def shown_row(frame, one, by_retained, texts):

@@ -1,0 +1,4 @@
+pub mod Kept
+pub mod Queues
+pub mod Listing
+pub mod FactReader

@@ -1,0 +1,47 @@
+-- A queue of facts.
+use Rattle.std.specs.Prelude.{◌≡◌, ◌-◌, ◌<◌, ◌≤◌, Bool, false, List, [], ◌∷◌, ◌++◌, drop, length, slice_get, Option, Some}
+use Rattle.hprof_values.specs.declared.ids.IdSize.{IdSize}
+use Rattle.hprof_items.specs.declared.header.Header.{Header}
+use Rattle.hprof_items.specs.FactValue.{FactValue}
+use Rattle.hprof_stream.specs.declared.sink.SinkFault.{SinkFault}
+use Rattle.hprof_stream.specs.declared.sink.SinkFault.TheVariants.{OutOfMemory}
+use Rattle.hprof_facts.specs.declared.queue.Queue.{Queue}
+use Rattle.hprof_facts.specs.declared.kept.Slot.{Slot}
+use Rattle.hprof_facts.specs.Kept.{AreKeptUnder, KeepsAt}
+
+-- the size that was begun last
+abbrev pub begun_with : Queue → Option IdSize
+begun_with queue = queue.begun
+
+-- it refused a fact
+abbrev pub has_refused : Queue → Bool
+has_refused queue = queue.failed
+
+-- these facts are still to be given
+abbrev pub Holds : Queue → List FactValue → Type 0
+Holds queue facts = (queue.given ≤ length queue.slots.items)
+    × AreKeptUnder queue.begun queue.bytes.items (drop queue.given queue.slots.items) facts
+
+-- this fact was given last
+pub record HasCurrent (queue : Queue) (fact : FactValue) : Type 0 where
+  pub ids : IdSize
+  pub slot : Slot
+  pub begun : queue.begun ≡ Some ids
+  pub some : 0 < queue.given
+  pub stands : slice_get queue.slots.items (queue.given - 1) ≡ Some slot
+  pub keeps : KeepsAt ids queue.bytes.items slot fact
+
+-- ---- the queue as a sink
+
+-- a header empties it
+abbrev pub queue_begins : Queue → Header → Queue → Type 0
+queue_begins old header new = (has_refused new ≡ false) × Holds new []
+
+-- a fact is held behind the others
+abbrev pub queue_steps : Queue → FactValue → Queue → Type 0
+queue_steps old fact new = (has_refused new ≡ false) × ((facts : List FactValue) → Holds old facts → Holds new (facts ++ fact ∷ []))
+
+-- only memory can be wanting, and nothing that it holds is lost
+abbrev pub queue_refuses : Queue → List FactValue → SinkFault → Queue → Type 0
+queue_refuses old given fault new =
+    (has_refused old ≡ false → fault ≡ OutOfMemory) × ((facts : List FactValue) → Holds old facts → Holds new facts)

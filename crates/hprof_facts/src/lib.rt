@@ -1,0 +1,11 @@
+//! Reads the facts of a part of a heap dump one after the other: the caller asks for the next one, where [`hprof_stream::read_part`] hands
+//! them to a sink.
+#![tactic(auto)]
+
+mod fact_reader;
+mod kept;
+mod queue;
+#[cfg(test)]
+mod tests;
+
+pub use fact_reader::FactReader;
