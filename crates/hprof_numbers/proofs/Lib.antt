@@ -5,7 +5,6 @@ pub mod Counting
 pub mod Filling
 pub mod Starting
 pub mod Ending
-pub mod Pairing
 pub mod Path
 pub mod Arriving
 pub mod Stepping
