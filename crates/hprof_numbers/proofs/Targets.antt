@@ -78,13 +78,13 @@ module _ (nodes : List ℕ) (other : Option ℕ) (targets : List ℕ) where
   pub targets_none : (items : List ℕ) → Appends (IsFirstNumber nodes other targets 0) items items
   targets_none items = appends_none _ items (λ one it. absurd (omega (arith, it.1)))
 
-  pub targets_all : (count : ℕ) (items then : List ℕ) → count ≡ length targets → Appends (IsFirstNumber nodes other targets count) items then
-      → Appends (IsNumberOf nodes other (Contains targets)) items then
+  pub targets_all : (count : ℕ) (items then : List ℕ) → count ≡ length targets
+      → Appends (IsFirstNumber nodes other targets count) items then → Appends (IsNumberOf nodes other (Contains targets)) items then
   targets_all count items then all appends = appends_same _ _ items then
       (λ one it. (slice_index targets it.0, has_number targets _ it.0 (omega (arith, it.1, all)) refl, it.2))
       (λ one it.
-          let at = number_of targets it.0 it.1 in
-          (at.0, omega (arith, at.1, all), ap (number_or nodes other) at.2 ∙ it.2))
+      let at = number_of targets it.0 it.1 in
+      (at.0, omega (arith, at.1, all), ap (number_or nodes other) at.2 ∙ it.2))
       appends
 
   module _ (count : ℕ) (items then : List ℕ) (appends : Appends (IsFirstNumber nodes other targets count) items then) where
@@ -92,7 +92,8 @@ module _ (nodes : List ℕ) (other : Option ℕ) (targets : List ℕ) where
     later one it = (it.0, omega (arith, it.1), it.2)
 
     -- a target has no number
-    pub target_out : number_or nodes other (slice_index targets count) ≡ None → Appends (IsFirstNumber nodes other targets (count + 1)) items then
+    pub target_out : number_or nodes other (slice_index targets count) ≡ None
+        → Appends (IsFirstNumber nodes other targets (count + 1)) items then
     target_out none = appends_same _ _ items then later
         (λ one it. elim (last it.0 count it.1) [
           | inl before ↦ (it.0, before, it.2)

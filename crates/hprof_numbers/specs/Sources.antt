@@ -6,7 +6,7 @@ use Rattle.hprof_numbers.specs.Places.{number_in}
 use Rattle.hprof_numbers.specs.declared.sources.Sources.{Sources}
 use Rattle.hprof_numbers.specs.Lists.{end_in, start_in}
 
--- the list of a node is that of its number; all that is no node has one list
+-- the list of a node is that of its number; identifiers that are no nodes share one
 abbrev pub list_of : List ℕ → ℕ → ℕ
 list_of nodes node = unwrap_or (number_in nodes node) (length nodes)
 

@@ -11,8 +11,8 @@ use crate::sources::Sources;
 use crate::turning::turned;
 use std::alloc::{AllocError, Global};
 
-/// Returns for each node of a graph the nodes with an edge to it, in one pass over all edges. All that is no node has one list, of the nodes
-/// with an edge to any of it. If memory runs out, the answer is `AllocError`.
+/// Returns for each node of a graph the nodes with an edge to it, in one pass over all edges. Identifiers that are no nodes share one list,
+/// of the nodes with an edge to any of them. If memory runs out, the answer is `AllocError`.
 pub fn sources_of<G: Graph>(
     alloc: Global,
     graph: &mut G,

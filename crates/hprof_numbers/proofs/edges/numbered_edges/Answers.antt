@@ -23,7 +23,7 @@ loop-number-preserved g c =
     let still = i.stays (slice_index nodes number) to in
     (λ has. still.0 (told.0 has), λ leads. told.1 (still.1 leads)) in
     record {
-      edges = rw (c.in_ok-push_or_widen.ensures, c.len-in-loop-number.ensures)
+      edges = rw (c.in_ok-push_or_widen.ensures, c.len.ensures)
           (edges_more Leads nodes c.args.other (items_in c.loop-number.ends) (items_in c.loop-number.items)
           (items_in c.put_targets.new.items) targets number
           i.edges exact (rw c.deref.ensures.value at c.in_ok-put_targets.ensures.items));

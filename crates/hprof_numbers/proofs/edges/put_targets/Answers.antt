@@ -10,7 +10,8 @@ pub push-requires : goal.push-requires
 push-requires c =
     let target = slice_index c.args.targets.now c.loop-target.target-index in
     let number = c.in-Some.number in
-    let is = number_is (nodes_in c.args.nodes.now) c.args.other target c.number_of.result (Some number) c.number_of.ensures c.in-Some.ensures in
+    let found = c.number_of.result in
+    let is = number_is (nodes_in c.args.nodes.now) c.args.other target found (Some number) c.number_of.ensures c.in-Some.ensures in
     record { fits = omega (arith, c.requires.fit target number is, c.loop-target.invariant.bound) }
 
 pub loop-target-preserved : goal.loop-target-preserved
