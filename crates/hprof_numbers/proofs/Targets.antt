@@ -13,7 +13,7 @@ use Rattle.hprof_numbers.specs.Targets.{AreNumberedEdges, IsNumberOf, number_or}
 use Rattle.hprof_numbers.specs.declared.lists.Lists.{Lists}
 use Rattle.hprof_numbers.proofs.Arriving.{last}
 use Rattle.hprof_numbers.proofs.Ascending.{has_number, number_of}
-use Rattle.hprof_numbers.proofs.Behind.{AreRows, IsInRow, appends_more, appends_none, appends_same, no_rows, row_before, row_last, row_low, rows_more}
+use Rattle.hprof_numbers.proofs.Behind.{AreRows, IsInRow, appends_more, appends_same, row_before, row_last, row_low, rows_more}
 use Rattle.hprof_numbers.proofs.Placed.{has_place, stands}
 
 -- ---- the number of a target
@@ -75,9 +75,6 @@ IsFirstNumber nodes other targets count number =
     (place : ℕ) × (place < count) × (number_or nodes other (slice_index targets place) ≡ Some number)
 
 module _ (nodes : List ℕ) (other : Option ℕ) (targets : List ℕ) where
-  pub targets_none : (items : List ℕ) → Appends (IsFirstNumber nodes other targets 0) items items
-  targets_none items = appends_none _ items (λ one it. absurd (omega (arith, it.1)))
-
   pub targets_all : (count : ℕ) (items then : List ℕ) → count ≡ length targets
       → Appends (IsFirstNumber nodes other targets count) items then → Appends (IsNumberOf nodes other (Contains targets)) items then
   targets_all count items then all appends = appends_same _ _ items then
@@ -125,34 +122,30 @@ pub record HasEdges (Leads : ℕ → ℕ → Type 0) (nodes : List ℕ) (other :
   pub each : (from number : ℕ) → from < done
       → IsInRow ends items from number ↔ IsNumberOf nodes other (Leads (slice_index nodes from)) number
 
-module _ (Leads : ℕ → ℕ → Type 0) (nodes : List ℕ) (other : Option ℕ) where
-  pub no_edges : HasEdges Leads nodes other [] [] 0
-  no_edges = record { rows = no_rows; as_many = refl; each = λ from number low. absurd (omega (arith, low)) }
+module _ (Leads : ℕ → ℕ → Type 0) (nodes : List ℕ) (other : Option ℕ) (ends items then targets : List ℕ) (from : ℕ)
+    (has : HasEdges Leads nodes other ends items from) (exact : (to : ℕ) → Contains targets to ↔ Leads (slice_index nodes from) to)
+    (appends : Appends (IsNumberOf nodes other (Contains targets)) items then) where
+  abbrev ends_then : List ℕ
+  ends_then = ends ++ length then ∷ []
 
-  module _ (ends items then targets : List ℕ) (from : ℕ) (has : HasEdges Leads nodes other ends items from)
-      (exact : (to : ℕ) → Contains targets to ↔ Leads (slice_index nodes from) to)
-      (appends : Appends (IsNumberOf nodes other (Contains targets)) items then) where
-    abbrev ends_then : List ℕ
-    ends_then = ends ++ length then ∷ []
+  now : (number : ℕ) → IsInRow ends_then then from number ↔ IsNumberOf nodes other (Leads (slice_index nodes from)) number
+  now number =
+      let is = subst (λ (n : ℕ). IsInRow ends_then then n number ↔ IsNumberOf nodes other (Contains targets) number)
+      has.as_many (row_last _ ends items then has.rows appends number) in (
+        λ it. let of = is.0 it in (of.0, (exact of.0).0 of.1, of.2),
+        λ it. is.1 (it.0, (exact it.0).1 it.1, it.2),
+      )
 
-    now : (number : ℕ) → IsInRow ends_then then from number ↔ IsNumberOf nodes other (Leads (slice_index nodes from)) number
-    now number =
-        let is = subst (λ (n : ℕ). IsInRow ends_then then n number ↔ IsNumberOf nodes other (Contains targets) number)
-        has.as_many (row_last _ ends items then has.rows appends number) in (
-          λ it. let of = is.0 it in (of.0, (exact of.0).0 of.1, of.2),
-          λ it. is.1 (it.0, (exact it.0).1 it.1, it.2),
-        )
-
-    pub edges_more : HasEdges Leads nodes other ends_then then (from + 1)
-    edges_more = record {
-      rows = rows_more _ ends items then has.rows appends;
-      as_many = omega (arith, length-append ends (length then ∷ []), has.as_many);
-      each = λ one number low. elim (last one from low) [
-        | inl before ↦
-            let is = row_before _ ends items then has.rows appends one number (omega (arith, before, has.as_many)) in
-            (λ it. (has.each one number before).0 (is.0 it), λ it. is.1 ((has.each one number before).1 it))
-        | inr is ↦ subst (λ (n : ℕ). IsInRow ends_then then n number
-            ↔ IsNumberOf nodes other (Leads (slice_index nodes n)) number)
-            (sym is) (now number)
-      ];
-    }
+  pub edges_more : HasEdges Leads nodes other ends_then then (from + 1)
+  edges_more = record {
+    rows = rows_more _ ends items then has.rows appends;
+    as_many = omega (arith, length-append ends (length then ∷ []), has.as_many);
+    each = λ one number low. elim (last one from low) [
+      | inl before ↦
+          let is = row_before _ ends items then has.rows appends one number (omega (arith, before, has.as_many)) in
+          (λ it. (has.each one number before).0 (is.0 it), λ it. is.1 ((has.each one number before).1 it))
+      | inr is ↦ subst (λ (n : ℕ). IsInRow ends_then then n number
+          ↔ IsNumberOf nodes other (Leads (slice_index nodes n)) number)
+          (sym is) (now number)
+    ];
+  }

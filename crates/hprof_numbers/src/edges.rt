@@ -45,8 +45,8 @@ pub fn numbers_of(alloc: Global, nodes: &Numbered, targets: &[u64]) -> Result<Nu
 }
 
 /// Returns for each node of a graph, by its number, the numbers of its targets, in one pass over all edges. A target that is no node has
-/// the number `other`, or is left out if there is none. There is room for `most` lists, and numbers are below it. If memory runs out, the
-/// answer is `AllocError`.
+/// the number `other`, or is left out if there is none. All numbers are below `most`, and there is room for so many lists. If memory runs
+/// out, the answer is `AllocError`.
 pub(crate) fn numbered_edges<G: Graph>(
     alloc: Global,
     graph: &mut G,
