@@ -15,6 +15,8 @@ use std::alloc::{AllocError, Global};
 
 /// Appends the number of each target. One that is no node has the number `other`, or is left out if there is none. If memory runs out, the
 /// answer is `AllocError` and `items` is unspecified.
+// Inlined, so that `other` is known in the loop over edges.
+#[inline(always)]
 fn put_targets(
     items: &mut Numbers,
     nodes: &Numbered,
@@ -47,6 +49,8 @@ pub fn numbers_of(alloc: Global, nodes: &Numbered, targets: &[u64]) -> Result<Nu
 /// Returns for each node of a graph, by its number, the numbers of its targets, in one pass over all edges. A target that is no node has
 /// the number `other`, or is left out if there is none. All numbers are below `most`, and there is room for so many lists. If memory runs
 /// out, the answer is `AllocError`.
+// Inlined, as `put_targets` is.
+#[inline(always)]
 pub(crate) fn numbered_edges<G: Graph>(
     alloc: Global,
     graph: &mut G,
