@@ -85,7 +85,11 @@ module _ {R Q W : Type 0} (left : R → Option (List ℕ)) (health : R → Healt
       refused = λ other e. absurd cc;
       kind = λ other e. absurd cc;
       ok = λ e. absurd cc;
-      questions = λ other e. (record { heap = heap; agree = agree; summaries = summaries; of_parts = of_parts; holds = ends.0 }, ends.1, ends.2);
+      questions = λ other e. (
+        record { heap = heap; agree = agree; summaries = summaries; of_parts = of_parts; holds = ends.0 },
+        ends.1,
+        ends.2,
+      );
       write = λ other e. absurd cc;
       memory = λ e. absurd cc;
       no_other = λ parts ids millis facts told state are_well asks is_well few unhindered unwanted. elim ends.1 [

@@ -38,11 +38,13 @@ module _ (IsAnswer : Question → List ℕ → Type 0) {Q W : Type 0} (left : Q 
   module _ (is : Q) (mid : W) (kept : List ℕ) (so_far : SoFar is mid kept) where
     -- it could not be flushed
     pub ends_flushing : (after : W) (stop : DialogueStop) → Keeps (written mid) (written after) → asking is ≡ healths.Well
-        → LeavesWriter {A = Unit {0}} (Err stop) (well after) → EndsDialogue IsAnswer left asking pulls written well was is before after {A = Unit {0}} (Err stop)
+        → LeavesWriter {A = Unit {0}} (Err stop) (well after)
+        → EndsDialogue IsAnswer left asking pulls written well was is before after {A = Unit {0}} (Err stop)
     ends_flushing after stop keeps asks health = ends_some is after stop (record {
       bytes = so_far.bytes;
       consumed = so_far.consumed;
-      holds = inl (heard_taken IsAnswer so_far.bytes (written before) (written mid) kept so_far.holds (IsAtEnd (left is)) (written after) keeps);
+      holds = inl (heard_taken IsAnswer so_far.bytes (written before) (written mid) kept so_far.holds (IsAtEnd (left is))
+          (written after) keeps);
     }) asks health
 
     -- the writer flushed all
@@ -77,16 +79,19 @@ module _ (IsAnswer : Question → List ℕ → Type 0) {Q W : Type 0} (left : Q 
           ends_some next after stop (record {
             bytes = so_far.bytes ++ piece;
             consumed = came_more;
-            holds = some_for IsAnswer ⊥ (IsAtEnd (left next)) (λ none. absurd none) (so_far.bytes ++ piece) (written before) (written after) some;
+            holds = some_for IsAnswer ⊥ (IsAtEnd (left next)) (λ none. absurd none) (so_far.bytes ++ piece) (written before)
+                (written after) some;
           }) asks health
 
       -- and a line in it ended the dialogue; then it is tried to pass all on
       pub ends_quit : (then after : W) (r : Result (Unit {0}) DialogueStop)
-          → AnswersLines IsAnswer AreLinesToQuit (so_far.bytes ++ piece) (written before) (written then) → Keeps (written then) (written after)
+          → AnswersLines IsAnswer AreLinesToQuit (so_far.bytes ++ piece) (written before) (written then)
+          → Keeps (written then) (written after)
           → asking next ≡ healths.Well → LeavesWriter r (well after)
           → EndsDialogue IsAnswer left asking pulls written well was next before after r
       ends_quit then after r all keeps asks health =
-          by r (lines_still IsAnswer AreLinesToQuit (so_far.bytes ++ piece) (written before) (written then) (written after) keeps all) health where
+          by r (lines_still IsAnswer AreLinesToQuit (so_far.bytes ++ piece) (written before) (written then) (written after) keeps all)
+          health where
             by : (r : Result (Unit {0}) DialogueStop)
                 → AnswersLines IsAnswer AreLinesToQuit (so_far.bytes ++ piece) (written before) (written after)
                 → LeavesWriter r (well after) → EndsDialogue IsAnswer left asking pulls written well was next before after r

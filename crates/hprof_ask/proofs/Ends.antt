@@ -25,7 +25,8 @@ use Rattle.hprof_ask.specs.Summarised.{Holds}
 
 -- memory: whether writing takes memory
 pub text_ends : {W : Type 0} (written : W → Option (List ℕ)) (well : W → Health) (IsText : List ℕ → Type 0)
-    (Refuses : ProductRefusal → Type 0) (memory : Type 0) (before after : W) (r : Result (Unit {0}) WriteStop) (text : List ℕ) → IsText text → WritesText (written before) (written after) r text
+    (Refuses : ProductRefusal → Type 0) (memory : Type 0) (before after : W) (r : Result (Unit {0}) WriteStop) (text : List ℕ)
+    → IsText text → WritesText (written before) (written after) r text
     → LeavesTarget r (well after) → (r ≡ Err stops.OutOfMemory → memory) → EndsWriting written well IsText Refuses memory before after r
 text_ends written well IsText Refuses memory before after (Ok done) text is writes health wants = (health, (text, is, writes))
 text_ends written well IsText Refuses memory before after (Err (stops.Write fault)) text is front health wants =

@@ -1,5 +1,6 @@
 -- Lines that are heard and answered, one after the other.
-use Rattle.std.proofs.Common.{◌≡◌, ◌≢◌, ℕ, ◌<◌, ◌≤◌, List, [], ◌∷◌, ◌++◌, length, take, Option, Result, Ok, Err, refl, sym, ap, subst, ◌∙◌, inl, inr, append_assoc, append-nil, arith}
+use Rattle.std.proofs.Common.{◌≡◌, ◌≢◌, ℕ, ◌<◌, ◌≤◌, List, [], ◌∷◌, ◌++◌, length, take, Option, Result, Ok, Err, refl, sym, ap, subst, ◌∙◌}
+use Rattle.std.proofs.Common.{inl, inr, append_assoc, append-nil, arith}
 use Rattle.std.specs.Io.KnownBytes.{Appends, Keeps}
 use Rattle.std.proofs.KnownBytes.{Appends-nil, Appends-trans, Appends-kept}
 use Rattle.hprof_ask.specs.declared.dialogue.Course.{Course}
@@ -74,7 +75,8 @@ module _ (IsAnswer : Question → List ℕ → Type 0) where
 
   module _ (bytes : List ℕ) (start now : Option (List ℕ)) (kept : List ℕ) (heard : Heard IsAnswer bytes start now kept) where
     -- a byte more of a line
-    pub heard_byte : (byte : ℕ) (next : List ℕ) → byte ≢ 10 → ((rest : List ℕ) → kept ≡ take 4098 rest → next ≡ take 4098 (rest ++ byte ∷ []))
+    pub heard_byte : (byte : ℕ) (next : List ℕ) → byte ≢ 10
+        → ((rest : List ℕ) → kept ≡ take 4098 rest → next ≡ take 4098 (rest ++ byte ∷ []))
         → Heard IsAnswer (bytes ++ byte ∷ []) start now next
     heard_byte byte next other keeps = record {
       lines = heard.lines;

@@ -1,5 +1,6 @@
 -- Lines, taken one after the other.
-use Rattle.std.proofs.Common.{◌≡◌, ◌≢◌, ℕ, List, [], ◌∷◌, ◌++◌, length, refl, sym, ap, subst, ◌∙◌, inl, inr, append_assoc, arith, Bool, true, false, ◌==◌}
+use Rattle.std.proofs.Common.{◌≡◌, ◌≢◌, ℕ, List, [], ◌∷◌, ◌++◌, length, refl, sym, ap, subst, ◌∙◌, inl, inr, append_assoc, arith, Bool}
+use Rattle.std.proofs.Common.{true, false, ◌==◌}
 use Rattle.std.specs.List.{AllByRecursion}
 use Rattle.std.proofs.lemmas.List.{length-append}
 use Rattle.std.proofs.lemmas.Bool.{eqb-true, eqb-false}
@@ -55,7 +56,8 @@ first_extended bytes (line ∷ lines) rest more first = (
 )
 
 -- lines in front of a rest that begins with lines
-pub first_then : (bytes : List ℕ) (lines : List (List ℕ)) (mid : List ℕ) (more : List (List ℕ)) (rest : List ℕ) → AreFirstLines bytes lines mid
+pub first_then : (bytes : List ℕ) (lines : List (List ℕ)) (mid : List ℕ) (more : List (List ℕ)) (rest : List ℕ)
+    → AreFirstLines bytes lines mid
     → AreFirstLines mid more rest → AreFirstLines bytes (lines ++ more) rest
 first_then bytes [] mid more rest first then = subst (λ (l : List ℕ). AreFirstLines l more rest) (sym first) then
 first_then bytes (line ∷ lines) mid more rest first then = (first.0, first.1, first_then first.0 lines mid more rest first.2 then)

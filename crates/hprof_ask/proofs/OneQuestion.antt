@@ -1,5 +1,6 @@
 -- A line asks one thing.
-use Rattle.std.proofs.Common.{◌≡◌, ◌⊎◌, ℕ, ◌<◌, ◌==◌, ◌||◌, Bool, true, false, List, [], ◌∷◌, ◌++◌, refl, sym, ap, subst, ◌∙◌, inl, inr, get_or, arith, codes, append_assoc}
+use Rattle.std.proofs.Common.{◌≡◌, ◌⊎◌, ℕ, ◌<◌, ◌==◌, ◌||◌, Bool, true, false, List, [], ◌∷◌, ◌++◌, refl, sym, ap, subst, ◌∙◌, inl, inr}
+use Rattle.std.proofs.Common.{get_or, arith, codes, append_assoc}
 use Rattle.std.specs.Prelude.{if◌then◌else◌, bytes_eq, Some, None}
 use Rattle.std.specs.Borrow.{Bor}
 use Rattle.std.proofs.lemmas.List.{append_cancel_left}
@@ -72,12 +73,31 @@ word_by (word ∷ rest) text = if bytes_eq (word_of word) text then word else wo
 
 -- words have no space, differ from each other, and are none of `help`, `quit` and `exit`
 abbrev Differs : ReportWord → Type 0
-Differs word = (has_space (word_of word) ≡ false) × (word_by all_words (word_of word) ≡ word) × (bytes_eq (word_of word) (codes "help") ≡ false)
+Differs word = (has_space (word_of word) ≡ false) × (word_by all_words (word_of word) ≡ word)
+    × (bytes_eq (word_of word) (codes "help") ≡ false)
     × (bytes_eq (word_of word) [] ≡ false) × (bytes_eq (word_of word) (codes "quit") ≡ false)
     × (bytes_eq (word_of word) (codes "exit") ≡ false)
 
 differs : (word : ReportWord) → Differs word
-differs = of_each Differs ((refl, refl, refl, refl, refl, refl), ((refl, refl, refl, refl, refl, refl), ((refl, refl, refl, refl, refl, refl), ((refl, refl, refl, refl, refl, refl), ((refl, refl, refl, refl, refl, refl), ((refl, refl, refl, refl, refl, refl), ((refl, refl, refl, refl, refl, refl), ((refl, refl, refl, refl, refl, refl), ((refl, refl, refl, refl, refl, refl), ((refl, refl, refl, refl, refl, refl), ((refl, refl, refl, refl, refl, refl), ((refl, refl, refl, refl, refl, refl), ((refl, refl, refl, refl, refl, refl), ((refl, refl, refl, refl, refl, refl), ((refl, refl, refl, refl, refl, refl), ((refl, refl, refl, refl, refl, refl), tt))))))))))))))))
+differs = of_each Differs (
+  (refl, refl, refl, refl, refl, refl),
+  (refl, refl, refl, refl, refl, refl),
+  (refl, refl, refl, refl, refl, refl),
+  (refl, refl, refl, refl, refl, refl),
+  (refl, refl, refl, refl, refl, refl),
+  (refl, refl, refl, refl, refl, refl),
+  (refl, refl, refl, refl, refl, refl),
+  (refl, refl, refl, refl, refl, refl),
+  (refl, refl, refl, refl, refl, refl),
+  (refl, refl, refl, refl, refl, refl),
+  (refl, refl, refl, refl, refl, refl),
+  (refl, refl, refl, refl, refl, refl),
+  (refl, refl, refl, refl, refl, refl),
+  (refl, refl, refl, refl, refl, refl),
+  (refl, refl, refl, refl, refl, refl),
+  (refl, refl, refl, refl, refl, refl),
+  tt,
+)
 
 -- the line of a word begins with it
 line_front : (word : ReportWord) (line text : List ℕ) → IsLineOf line word text → front line ≡ word_of word
@@ -85,7 +105,8 @@ line_front word line text is = front_of (follows_of word) line (word_of word) te
 
 behind : (line word one other : List ℕ) → line ≡ word ++ 32 ∷ one → line ≡ word ++ 32 ∷ other → one ≡ other
 behind line word one other is is_too =
-    append_cancel_left (word ++ 32 ∷ []) one other (append_assoc word (32 ∷ []) one ∙ sym is ∙ is_too ∙ sym (append_assoc word (32 ∷ []) other))
+    append_cancel_left (word ++ 32 ∷ []) one other
+    (append_assoc word (32 ∷ []) one ∙ sym is ∙ is_too ∙ sym (append_assoc word (32 ∷ []) other))
 
 one_text : (follows : Follows) (line word one other : List ℕ) → IsFollowed follows line word one → IsFollowed follows line word other
     → one ≡ other
@@ -165,7 +186,8 @@ says_text follow.Nothing text name says = absurd says
 says_text follow.Identifier text name says = absurd says
 says_text follow.ClassOrType text name says = absurd says
 
-one_node : (follows : Follows) (text : List ℕ) (report : NodeReport) (one other : Node) → SaysNode follows text one → SaysNode follows text other
+one_node : (follows : Follows) (text : List ℕ) (report : NodeReport) (one other : Node) → SaysNode follows text one
+    → SaysNode follows text other
     → placed_report (reports.Node report one) ≡ placed_report (reports.Node report other)
 one_node follows text report (that.Identifier one) (that.Identifier other) is is_too =
     ap (λ (id : ℕ). reports.Node report (that.Identifier id)) (sym is.1 ∙ is_too.1)
@@ -209,14 +231,17 @@ names_id (words.Node word) text (reports.Kind of kind) is same = absurd is
 names_id (words.Heap word) text report is same = absurd cc
 names_id (words.Kind word) text report is same = absurd cc
 
-misnames : (word : ReportWord) (text : List ℕ) (report : Report) (fault : Misnamed) → AsksReport word text report → IsMisnamed word text fault → ⊥
+misnames : (word : ReportWord) (text : List ℕ) (report : Report) (fault : Misnamed) → AsksReport word text report
+    → IsMisnamed word text fault → ⊥
 misnames word text report misnamed.NoIdentifier is fails = fails.1 (names_id word text report is fails.0)
 
-one_misnamed : (word : ReportWord) (text : List ℕ) (one other : Misnamed) → IsMisnamed word text one → IsMisnamed word text other → one ≡ other
+one_misnamed : (word : ReportWord) (text : List ℕ) (one other : Misnamed) → IsMisnamed word text one → IsMisnamed word text other → one
+    ≡ other
 one_misnamed word text misnamed.NoIdentifier misnamed.NoIdentifier is is_too = refl
 
 one_named : (word : ReportWord) (text : List ℕ) (one other : Question) → IsNamed word text one → IsNamed word text other → IsSame one other
-one_named word text (questions.Report one) (questions.Report other) is is_too = ap questions.Report (one_asked word text one other is is_too)
+one_named word text (questions.Report one) (questions.Report other) is is_too =
+    ap questions.Report (one_asked word text one other is is_too)
 one_named word text (questions.Report one) (questions.Misnamed other) is is_too = absurd (misnames word text one other is is_too)
 one_named word text (questions.Misnamed one) (questions.Report other) is is_too = absurd (misnames word text other one is_too is)
 one_named word text (questions.Misnamed one) (questions.Misnamed other) is is_too =

@@ -1,5 +1,6 @@
 -- What is written of the reply to a question for a report.
-use Rattle.std.proofs.Common.{◌≡◌, inl, inr, ℕ, zero, suc, ◌≤◌, List, [], ◌∷◌, length, take, Option, Err, codes, refl, sym, ap, subst, arith}
+use Rattle.std.proofs.Common.{◌≡◌, inl, inr, ℕ, zero, suc, ◌≤◌, List, [], ◌∷◌, length, take, Option, Err, codes, refl, sym, ap, subst}
+use Rattle.std.proofs.Common.{arith}
 use Rattle.std.specs.Io.KnownBytes.{Appends}
 use Rattle.std.proofs.KnownBytes.{Appends-nil}
 use Rattle.hprof_devices.specs.declared.health.Health.{Health}
@@ -23,7 +24,8 @@ within (suc count) [] = (0, omega arith, refl)
 within (suc count) (byte ∷ bytes) =
     let it = within count bytes in (suc it.0, omega (arith, it.1), ap (λ (l : List ℕ). byte ∷ l) it.2)
 
-module _ {W : Type 0} (written : W → Option (List ℕ)) (well : W → Health) (summaries : List PartSummary) (ids : IdSize) (facts : List FactValue)
+module _ {W : Type 0} (written : W → Option (List ℕ)) (well : W → Health) (summaries : List PartSummary) (ids : IdSize)
+    (facts : List FactValue)
     (report : Report) (before after : W) where
   front : (count : ℕ) (text : List ℕ) → Appends (written before) (written after) (take count text)
       → (n : ℕ) × (n ≤ length text) × Appends (written before) (written after) (take n text)
@@ -42,7 +44,8 @@ module _ {W : Type 0} (written : W → Option (List ℕ)) (well : W → Health) 
   )
 
   pub stopped : (stop : WriteStop) → ((refusal : ProductRefusal) → stop ≡ stops.Refused refusal → ⊥)
-      → EndsWriting written well (IsReport summaries ids facts report) (RefusesReport facts report) (TakesMemory report) before after (Err stop)
+      → EndsWriting written well (IsReport summaries ids facts report) (RefusesReport facts report) (TakesMemory report) before after
+      (Err stop)
       → ((text : List ℕ) × IsReportReply summaries ids facts report text
       × WritesText {A = Unit {0}} (written before) (written after) (Err stop) text) × LeavesTarget {A = Unit {0}} (Err stop) (well after)
   stopped (stops.Write fault) unrefused (health, (text, count, is, appends)) = ((text, inl is, front count text appends), health)

@@ -105,7 +105,8 @@ module _ (IsAnswer : Question → List ℕ → Type 0) where
     EndsDialogue (Err (stops.Questions fault)) = Came (AnswersLines AreOpenLines)
         × ((asking is ≡ healths.Failed) ⊎ (2 ^ 64 - 1 ≤ pulls is)) × (well after ≡ healths.Well)
     -- the writer failed or stuck
-    EndsDialogue (Err (stops.Write fault)) = Came (AnswersSome (IsAtEnd (left is))) × (asking is ≡ healths.Well) × (well after ≡ health_after fault)
+    EndsDialogue (Err (stops.Write fault)) = Came (AnswersSome (IsAtEnd (left is))) × (asking is ≡ healths.Well)
+        × (well after ≡ health_after fault)
     -- memory was wanted
     EndsDialogue (Err stops.OutOfMemory) = Came (AnswersSome (IsAtEnd (left is))) × (asking is ≡ healths.Well) × (well after ≡ healths.Well)
 

@@ -35,7 +35,8 @@ behind_reply questions.Quit = []
 behind_reply other = codes "\n"
 
 -- the answer: the reply, and that behind it
-pub record IsHeapAnswer (summaries : List PartSummary) (ids : IdSize) (facts : List FactValue) (question : Question) (text : List ℕ) : Type 0 where
+pub record IsHeapAnswer (summaries : List PartSummary) (ids : IdSize) (facts : List FactValue) (question : Question)
+    (text : List ℕ) : Type 0 where
   pub reply : List ℕ
   pub is_reply : IsReply summaries ids facts question reply
   pub is : text ≡ reply ++ behind_reply question

@@ -15,10 +15,12 @@ pub biggest_of_name : (ids : IdSize) (facts : List FactValue) (name classes : Li
 biggest_of_name ids facts name classes dumps same text is =
     biggest_alike ids facts (λ node. HasObjectOfClasses facts classes node ⊎ (IsTrue dumps × IsClassAlone facts node))
     (IsOfClasses facts name classes) (λ node. (to node, back node)) text is where
-      to : (node : ℕ) → HasObjectOfClasses facts classes node ⊎ (IsTrue dumps × IsClassAlone facts node) → IsOfClasses facts name classes node
+      to : (node : ℕ) → HasObjectOfClasses facts classes node ⊎ (IsTrue dumps × IsClassAlone facts node)
+          → IsOfClasses facts name classes node
       to node (inl object) = inl object
       to node (inr alone) = inr (same.0 alone.0, alone.1)
 
-      back : (node : ℕ) → IsOfClasses facts name classes node → HasObjectOfClasses facts classes node ⊎ (IsTrue dumps × IsClassAlone facts node)
+      back : (node : ℕ) → IsOfClasses facts name classes node → HasObjectOfClasses facts classes node
+          ⊎ (IsTrue dumps × IsClassAlone facts node)
       back node (inl object) = inl object
       back node (inr alone) = inr (same.1 alone.0, alone.1)

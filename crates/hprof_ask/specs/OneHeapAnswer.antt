@@ -68,6 +68,7 @@ module _ (summaries : List PartSummary) (ids : IdSize) (facts : List FactValue) 
       → IsHeapAnswer summaries ids facts question one → IsHeapAnswer summaries ids facts same other → one ≡ other
   one_heap_answer question same one other are_same is is_too =
       is.is
-      ∙ ap₂ (λ (reply behind : List ℕ). reply ++ behind) (one_same_reply question same is.reply is_too.reply are_same is.is_reply is_too.is_reply)
+      ∙ ap₂ (λ (reply behind : List ℕ). reply ++ behind)
+      (one_same_reply question same is.reply is_too.reply are_same is.is_reply is_too.is_reply)
       (behind_same question same are_same)
       ∙ sym is_too.is

@@ -34,7 +34,8 @@ use Rattle.hprof_ask.specs.declared.report.Kinds.TheVariants as these
 use Rattle.hprof_ask.specs.declared.report.Node.TheVariants as that
 use Rattle.hprof_ask.specs.declared.report.Report.{Report}
 use Rattle.hprof_ask.specs.declared.report.Report.TheVariants as reports
-use Rattle.hprof_ask.specs.Report.{IsHeapReport, IsKindReport, IsNamedKind, IsNamedReport, IsNodeReport, IsOfClasses, IsReport, IsReportOfClasses}
+use Rattle.hprof_ask.specs.Report.{IsHeapReport, IsKindReport, IsNamedKind, IsNamedReport, IsNodeReport, IsOfClasses, IsReport}
+use Rattle.hprof_ask.specs.Report.{IsReportOfClasses}
 use Rattle.hprof_ask.specs.Report.{IsReportOfDumps, LacksClass}
 
 module _ (summaries : List PartSummary) (ids : IdSize) (facts : List FactValue) where

@@ -35,7 +35,8 @@ units_or_not bytes =
       | inl first ↦ elim (eqb_tells (get_or form.0 1 0) 120) [
         | inl second ↦ inl (λ has.
             let is = form.1.of_units has.0 has.1 in
-            units_begin has.0 (ap (λ (l : List ℕ). get_or l 0 0) (sym is) ∙ first.1) (ap (λ (l : List ℕ). get_or l 1 0) (sym is) ∙ second.1))
+            units_begin has.0 (ap (λ (l : List ℕ). get_or l 0 0) (sym is) ∙ first.1)
+            (ap (λ (l : List ℕ). get_or l 1 0) (sym is) ∙ second.1))
         | inr other ↦ inr (λ none. other.1 (ap (λ (l : List ℕ). get_or l 1 0) (form.1.of_bytes none)))
       ]
       | inr other ↦ inr (λ none. other.1 (ap (λ (l : List ℕ). get_or l 0 0) (form.1.of_bytes none)))

@@ -123,7 +123,8 @@ module _ (ids : IdSize) (facts : List FactValue) (agree : IsConsistent facts) wh
       let text = text_exists ids facts id in
       (text_line id text.0, record { agree = agree; text = text.0; is_text = text.1; is = refl })
 
-  pub some_heap_report : (summaries : List PartSummary) (report : HeapReport) → (text : List ℕ) × IsHeapReport summaries ids facts report text
+  pub some_heap_report : (summaries : List PartSummary) (report : HeapReport) → (text : List ℕ)
+      × IsHeapReport summaries ids facts report text
   some_heap_report summaries heaps.Check = some_check summaries facts
   some_heap_report summaries heaps.Histogram = some_histogram
   some_heap_report summaries heaps.Classes = some_classes

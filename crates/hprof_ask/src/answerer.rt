@@ -384,7 +384,8 @@ impl<'a> Answerer<'a> {
     ) -> Result<(), WriteStop>
         requires well { W.health target.old ≡ Well }
         requires kept { IsKept (size_of self.now.heap.now) (facts_of self.now.heap.now) kept.old }
-        ensures bytes { (text : List ℕ) × IsHeapReport self.now.summaries.now (size_of self.now.heap.now) (facts_of self.now.heap.now) report text
+        ensures bytes { (text : List ℕ)
+            × IsHeapReport self.now.summaries.now (size_of self.now.heap.now) (facts_of self.now.heap.now) report text
             × WritesText (W.written target.old) (W.written target.new) result text }
         ensures health { LeavesTarget result (W.health target.new) }
         ensures memory { result ≡ Err WriteStop.OutOfMemory → TakesMemory (Report.Heap report) }
@@ -412,7 +413,8 @@ impl<'a> Answerer<'a> {
         requires ascend { ClassesAscend choice }
         requires kept { IsKept (size_of self.now.heap.now) (facts_of self.now.heap.now) kept.old }
         ensures bytes { (text : List ℕ)
-            × IsBiggestText (size_of self.now.heap.now) (facts_of self.now.heap.now) (IsChosen (facts_of self.now.heap.now) choice.entry) text
+            × IsBiggestText (size_of self.now.heap.now) (facts_of self.now.heap.now)
+            (IsChosen (facts_of self.now.heap.now) choice.entry) text
             × WritesText (W.written target.old) (W.written target.new) result text }
         ensures health { LeavesTarget result (W.health target.new) }
         ensures kept { IsKept (size_of self.now.heap.now) (facts_of self.now.heap.now) kept.new }
@@ -478,7 +480,8 @@ impl<'a> Answerer<'a> {
         }
     }
 
-    /// Writes a report. If the writer fails or memory runs out, the bytes written are the beginning of the report. If the report is on a name
+    /// Writes a report. If the writer fails or memory runs out, the bytes written are the beginning of the report. If the report is on a
+    /// name
     /// that no class has, it is refused, and nothing is written. `kept` has what was kept of the heap at the reports before, and keeps
     /// what is made now.
     pub fn write<W: Target>(

@@ -343,7 +343,8 @@ pub fn who_to<R: Source, W: Target>(
     }
 }
 
-/// Reads all parts, and writes the report `keeps` on an identifier in their heap: what the roots hold together, the nodes that keep it alive,
+/// Reads all parts, and writes the report `keeps` on an identifier in their heap: what the roots hold together, the nodes that keep it
+/// alive,
 /// from the outermost, and those that it keeps alive right below it, each with the bytes and the objects that it retains; or that only weak
 /// references lead there, or that no root reaches it. All parts are read before the first byte is written. If memory runs out then, the
 /// bytes written are the beginning of the report.

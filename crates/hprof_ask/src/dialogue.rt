@@ -1,6 +1,7 @@
 //! Questions that are taken line by line, and answered.
 
-ghost use Rattle.std.specs.Prelude.{◌≡◌, ◌++◌, ◌∷◌, [], ◌<◌, ◌≤◌, ◌+◌, ◌-◌, ◌^◌, min, ℕ, List, Option, take, length, vec_len, vec_capacity, Err, MatchResult, OnOk, IfOk};
+ghost use Rattle.std.specs.Prelude.{◌≡◌, ◌++◌, ◌∷◌, [], ◌<◌, ◌≤◌, ◌+◌, ◌-◌, ◌^◌, min, ℕ, List, Option, take, length, vec_len, vec_capacity};
+ghost use Rattle.std.specs.Prelude.{Err, MatchResult, OnOk, IfOk};
 ghost use Rattle.std.specs.Io.KnownBytes.{Consumes, IsAtEnd, Keeps};
 ghost use Rattle.hprof_devices.specs.declared.health.Health.TheVariants.{Well, Failed};
 ghost use Rattle.hprof_devices.specs.Device.{LeavesHealth};
@@ -113,7 +114,8 @@ fn go_over<A: Answers, W: Target>(
     requires well { W.health target.old ≡ Well }
     requires kept { A.keeps answers.now kept.old }
     requires room { KEPT ≤ vec_capacity line.old }
-    ensures bytes { (bytes : List ℕ) (start : Option (List ℕ)) → Heard (A.is_answer answers.now) bytes start (W.written target.old) line.old.items
+    ensures bytes { (bytes : List ℕ) (start : Option (List ℕ))
+        → Heard (A.is_answer answers.now) bytes start (W.written target.old) line.old.items
         → GoesOver (A.is_answer answers.now) (bytes ++ piece.now) start (W.written target.new) line.new.items result }
     ensures health { LeavesWriter result (W.health target.new) }
     ensures kept { A.keeps answers.now kept.new }

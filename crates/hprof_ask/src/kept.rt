@@ -58,7 +58,8 @@ impl OfHeap for Reach {
     }
 }
 
-/// Returns what each node retains, if it is kept, or makes it. `weak` are the weak fields of the heap's classes. The error is that memory ran
+/// Returns what each node retains, if it is kept, or makes it. `weak` are the weak fields of the heap's classes. The error is that memory
+/// ran
 /// out.
 pub(crate) fn retained_or_made(
     alloc: Global,

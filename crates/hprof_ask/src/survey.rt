@@ -53,7 +53,8 @@ impl References {
     /// Takes the search by strong references, or makes it.
     pub(crate) fn take_strong(&mut self, alloc: Global, heap: &Heap) -> Result<Reach, AllocError>
         requires { AreReferences (size_of heap.now) (facts_of heap.now) self.old }
-        ensures strong { IfOk result (IsReachBy (IsKept (fields_in self.new.weak) (facts_of heap.now)) (size_of heap.now) (facts_of heap.now)) }
+        ensures strong { IfOk result
+            (IsReachBy (IsKept (fields_in self.new.weak) (facts_of heap.now)) (size_of heap.now) (facts_of heap.now)) }
         ensures references { AreReferences (size_of heap.now) (facts_of heap.now) self.new }
     {
         match self.strong.take() {

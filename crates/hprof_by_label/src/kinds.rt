@@ -9,8 +9,8 @@ ghost use Rattle.hprof_by_label.specs.Kinds.{IsKindLabel};
 ghost use Rattle.hprof_by_label.specs.NodeLabel.{IsNodeLabel};
 
 use hprof_heap::{Finger, Heap, ObjectDump, find_object_near};
-use hprof_meaning::bare_label;
-use hprof_naming::{ClassNames, type_word};
+use hprof_meaning::{array_label, bare_label};
+use hprof_naming::ClassNames;
 use hprof_values::Basic;
 use std::alloc::{AllocError, Global};
 
@@ -35,14 +35,6 @@ pub(crate) fn kind_of(heap: &Heap, node: u64, near: &mut Finger) -> Kind
         Some(ObjectDump::PrimArray { elem, .. }) => Kind::Prim(elem),
         None => Kind::ClassDump,
     }
-}
-
-/// Returns the label of arrays of a type. If memory runs out, the answer is `AllocError`.
-fn array_label(alloc: Global, elem: Basic) -> Result<String, AllocError>
-    ensures { IfOk result (λ text. string_bytes text ≡ type_word elem ++ codes "[]") }
-{
-    let word = type_word(elem);
-    format!(in alloc; "{word}[]")
 }
 
 /// Returns the label of nodes of a kind. If memory runs out, the answer is `AllocError`.

@@ -10,9 +10,11 @@ use Rattle.hprof_diff.specs.declared.part.Source.{Source}
 use Rattle.hprof_diff.specs.declared.label_counts.LabelCounts.{LabelCounts}
 use Rattle.hprof_meaning.specs.BareLabels.{AreBareLabels}
 use Rattle.hprof_diff.specs.Labels.{kind_label}
-use Rattle.hprof_diff.specs.Sources.{AreSourceLabels, FitsCounted, IsPart, IsSourceLabel, both, counted_of_row, nothing, parts_under, rows_under, sum_of, sum_of_parts}
+use Rattle.hprof_diff.specs.Sources.{AreSourceLabels, FitsCounted, IsPart, IsSourceLabel, both, counted_of_row, nothing, parts_under}
+use Rattle.hprof_diff.specs.Sources.{rows_under, sum_of, sum_of_parts}
 use Rattle.hprof_diff.specs.Kept.{AreKept, kept_in}
-use Rattle.hprof_diff.proofs.Sums.{both_assoc, both_comm, both_nothing, has_it, has_not, if_has, moved_more, nothing_both, room_alone, under_cons, under_fits}
+use Rattle.hprof_diff.proofs.Sums.{both_assoc, both_comm, both_nothing, has_it, has_not, if_has, moved_more, nothing_both, room_alone}
+use Rattle.hprof_diff.proofs.Sums.{under_cons, under_fits}
 use Rattle.hprof_diff.specs.LabelTexts.{label_of_kind, one_source_label, source_labels_exist}
 
 -- ---- rows that become parts
@@ -23,18 +25,22 @@ pub record ArePartsTo (facts : List FactValue) (all : List Row) (parts : List Pa
       → (text : List ℕ) → both (parts_under label text parts) (rows_under class_label text left) ≡ rows_under class_label text all
   pub sums : both (sum_of_parts parts) (sum_of counted_of_row left) ≡ sum_of counted_of_row all
 
-pub parts_begin : (facts : List FactValue) (rows left : List Row) (parts : List Part) → parts ≡ [] → left ≡ rows → ArePartsTo facts rows parts left
+pub parts_begin : (facts : List FactValue) (rows left : List Row) (parts : List Part) → parts ≡ [] → left ≡ rows
+    → ArePartsTo facts rows parts left
 parts_begin facts rows left parts none e = subst (λ (p : List Part). ArePartsTo facts rows p left) (sym none) (record {
   labelled = λ label class_label are are_too text. nothing_both (rows_under class_label text left) ∙ ap (rows_under class_label text) e;
   sums = nothing_both (sum_of counted_of_row left) ∙ ap (sum_of counted_of_row) e;
 })
 
-pub parts_more : (facts : List FactValue) → IsConsistent facts → (all left rest : List Row) (parts after : List Part) (row : Row) (part : Part)
-    → IsPart facts row part → left ≡ row ∷ rest → after ≡ parts ++ part ∷ [] → ArePartsTo facts all parts left → ArePartsTo facts all after rest
+pub parts_more : (facts : List FactValue) → IsConsistent facts
+    → (all left rest : List Row) (parts after : List Part) (row : Row) (part : Part)
+    → IsPart facts row part → left ≡ row ∷ rest → after ≡ parts ++ part ∷ [] → ArePartsTo facts all parts left
+    → ArePartsTo facts all after rest
 parts_more facts agree all left rest parts after row part is taken pushed to =
     subst (λ (p : List Part). ArePartsTo facts all p rest) (sym pushed) (record {
       labelled = λ label class_label are are_too text.
-          moved_more (λ (p : Part). label p.source) (λ (p : Part). p.counted) (λ (r : Row). kind_label class_label r.kind) counted_of_row text
+          moved_more (λ (p : Part). label p.source) (λ (p : Part). p.counted)
+          (λ (r : Row). kind_label class_label r.kind) counted_of_row text
           parts part row rest (label_of_kind facts agree label class_label are are_too row.kind part.source is.source) is.counted
           ∙ ap (λ (l : List Row). both (parts_under label text parts) (rows_under class_label text l)) (sym taken)
           ∙ to.labelled label class_label are are_too text;
@@ -73,7 +79,8 @@ both_if : (b : Bool) (these those : Counted) → if_has b (both these those) ≡
 both_if true these those =
     has_it (both these those) ∙ ap (λ (c : Counted). both c those) (sym (has_it these)) ∙ ap (both (if_has true these)) (sym (has_it those))
 both_if false these those =
-    has_not (both these those) ∙ ap (λ (c : Counted). both c nothing) (sym (has_not these)) ∙ ap (both (if_has false these)) (sym (has_not those))
+    has_not (both these those) ∙ ap (λ (c : Counted). both c nothing) (sym (has_not these))
+    ∙ ap (both (if_has false these)) (sym (has_not those))
 
 pub run_more : (all left rest : List Part) (sum part after : Part) → left ≡ part ∷ rest → part.source ≡ sum.source
     → after ≡ record { source = sum.source; counted = both sum.counted part.counted } → IsRunTo all sum left → IsRunTo all after rest
@@ -98,7 +105,8 @@ run_sums all left sum to = to (λ source. []) []
 
 sums_cons : (part : Part) (parts : List Part) → sum_of_parts (part ∷ parts) ≡ both part.counted (sum_of_parts parts)
 sums_cons part parts =
-    under_cons (λ (p : Part). []) (λ (p : Part). p.counted) [] part parts ∙ ap (λ (c : Counted). both c (sum_of_parts parts)) (has_it part.counted)
+    under_cons (λ (p : Part). []) (λ (p : Part). p.counted) [] part parts
+    ∙ ap (λ (c : Counted). both c (sum_of_parts parts)) (has_it part.counted)
 
 -- the next one of the run has room
 pub run_room : (all left rest : List Part) (sum part : Part) → FitsCounted (sum_of_parts all) → left ≡ part ∷ rest → IsRunTo all sum left
@@ -111,7 +119,8 @@ run_room all left rest sum part room taken to =
     room
 
 -- what is behind a run has room
-pub room_behind : (all left : List Part) (sum : Part) → FitsCounted (sum_of_parts all) → IsRunTo all sum left → FitsCounted (sum_of_parts left)
+pub room_behind : (all left : List Part) (sum : Part) → FitsCounted (sum_of_parts all) → IsRunTo all sum left
+    → FitsCounted (sum_of_parts left)
 room_behind all left sum room to =
     room_alone (sum_of_parts left) sum.counted (sum_of_parts all)
     (both_comm (sum_of_parts left) sum.counted ∙ sym (sums_cons sum left) ∙ run_sums all left sum to) room

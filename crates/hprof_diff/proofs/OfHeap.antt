@@ -33,7 +33,8 @@ module _ (ids : IdSize) (facts : List FactValue) (rows : List Row) (is : IsHisto
       (all_rows_fit ids facts fit rows is few)
 
   -- what is kept of them are totals
-  pub kept_are_totals : ((label : Source → List ℕ) (class_label : ℕ → List ℕ) → AreSourceLabels facts label → AreBareLabels facts class_label
+  pub kept_are_totals : ((label : Source → List ℕ) (class_label : ℕ → List ℕ) → AreSourceLabels facts label
+      → AreBareLabels facts class_label
       → (text : List ℕ) → parts_under label text parts ≡ rows_under class_label text rows) → (counts : LabelCounts)
       → AreKept facts sorted counts → AreTotals ids facts (totals_in counts)
   kept_are_totals labelled counts kept =

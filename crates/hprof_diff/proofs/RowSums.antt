@@ -1,5 +1,6 @@
 -- Each object is counted in one row, so the sums of all rows have room.
-use Rattle.std.proofs.Common.{◌≡◌, ℕ, ◌+◌, ◌*◌, ◌^◌, ◌<◌, ◌≤◌, Bool, true, false, cond, List, [], ◌∷◌, Option, Some, None, length, refl, sym, ap, ◌∙◌, inl, inr, arith, length-append}
+use Rattle.std.proofs.Common.{◌≡◌, ℕ, ◌+◌, ◌*◌, ◌^◌, ◌<◌, ◌≤◌, Bool, true, false, cond, List, [], ◌∷◌, Option, Some, None, length, refl}
+use Rattle.std.proofs.Common.{sym, ap, ◌∙◌, inl, inr, arith, length-append}
 use Rattle.std.specs.List.{AllByRecursion, IsDistinct, count_by, sum_by}
 use Rattle.std.specs.List.Sorted.{IsStrictlySortedBy}
 use Rattle.std.specs.declared.cmp.Ordering.TheVariants.{Less, Equal}
@@ -52,7 +53,8 @@ one_row : (ids : IdSize) (facts : List FactValue) (row other : Row) → CountsKi
 one_row ids facts row other counts counts_too kind =
     let count : row.count ≡ other.count =
     counts.count ∙ ap (λ (k : Kind). length (of_kind k facts)) kind ∙ sym counts_too.count in
-    let bytes : row.bytes ≡ other.bytes = counts.bytes ∙ ap (λ (k : Kind). sum_by (size_of_object ids) (of_kind k facts)) kind ∙ sym counts_too.bytes in
+    let bytes : row.bytes ≡ other.bytes = counts.bytes ∙ ap (λ (k : Kind). sum_by (size_of_object ids) (of_kind k facts)) kind
+    ∙ sym counts_too.bytes in
     λ i. record { kind = kind i; count = count i; bytes = bytes i }
 
 module _ (ids : IdSize) (facts : List FactValue) where

@@ -124,7 +124,8 @@ moved_more label counted label_too counted_too text xs x y ys same same_too =
 
 -- ---- a filter
 
-pub sum_of_filter : {X : Type 0} (f : X → ℕ) (test : X → Bool) (xs : List X) → sum_by f (filter test xs) ≡ sum_by (λ x. cond (test x) (f x) 0) xs
+pub sum_of_filter : {X : Type 0} (f : X → ℕ) (test : X → Bool) (xs : List X) → sum_by f (filter test xs)
+    ≡ sum_by (λ x. cond (test x) (f x) 0) xs
 sum_of_filter f test [] = refl
 sum_of_filter f test (x ∷ xs) =
     by_test (test x) (sum_of_filter f test xs) ∙ sym (sum_by-cons (λ y. cond (test y) (f y) 0) x xs) where

@@ -1,5 +1,6 @@
 -- The labels that are kept.
-use Rattle.std.proofs.Common.{◌≡◌, ℕ, String, Bool, true, false, cond, List, [], ◌∷◌, Option, Some, None, map, is_some, unwrap_or, refl, sym, ap, ◌∙◌, inl, inr, string_bytes}
+use Rattle.std.proofs.Common.{◌≡◌, ℕ, String, Bool, true, false, cond, List, [], ◌∷◌, Option, Some, None, map, is_some, unwrap_or, refl}
+use Rattle.std.proofs.Common.{sym, ap, ◌∙◌, inl, inr, string_bytes}
 use Rattle.std.specs.Prelude.{bytes_eq}
 use Rattle.std.specs.BTreeMap.{get_by_text, keys}
 use Rattle.std.specs.Cmp.Lexicographic.{slice_cmp}
@@ -84,8 +85,9 @@ none_kept counts text none = by_option (get_by_text counts.labels text) none whe
 pub kept_updated : (old new : LabelCounts) (label text : List ℕ) (counted sum : Counted) → sum ≡ both (kept_in old label) counted
     → get_by_text new.labels text ≡ update bytes_eq (get_by_text old.labels) label (Some sum) text
     → kept_in new text ≡ cond (bytes_eq label text) (both (kept_in old text) counted) (kept_in old text)
-kept_updated old new label text counted sum is updates = ap (λ (o : Option Counted). unwrap_or o nothing) updates ∙ by_test (bytes_eq label text) refl where
-  by_test : (b : Bool) → bytes_eq label text ≡ b → unwrap_or (cond b (Some sum) (get_by_text old.labels text)) nothing
-      ≡ cond b (both (kept_in old text) counted) (kept_in old text)
-  by_test true e = is ∙ ap (λ (l : List ℕ). both (kept_in old l) counted) ((bytes_eq-Decides label text).0 e)
-  by_test false e = refl
+kept_updated old new label text counted sum is updates = ap (λ (o : Option Counted). unwrap_or o nothing) updates
+    ∙ by_test (bytes_eq label text) refl where
+      by_test : (b : Bool) → bytes_eq label text ≡ b → unwrap_or (cond b (Some sum) (get_by_text old.labels text)) nothing
+          ≡ cond b (both (kept_in old text) counted) (kept_in old text)
+      by_test true e = is ∙ ap (λ (l : List ℕ). both (kept_in old l) counted) ((bytes_eq-Decides label text).0 e)
+      by_test false e = refl

@@ -1,5 +1,6 @@
 -- The changes of labels are a difference.
-use Rattle.std.proofs.Common.{◌≡◌, ◌≢◌, ◌⊎◌, inl, inr, ℕ, Bool, true, false, cond, List, [], ◌∷◌, ◌++◌, map, not, refl, sym, ap, subst, ◌∙◌, ◌==◌, ◌&&◌, eq-eqb}
+use Rattle.std.proofs.Common.{◌≡◌, ◌≢◌, ◌⊎◌, inl, inr, ℕ, Bool, true, false, cond, List, [], ◌∷◌, ◌++◌, map, not, refl, sym, ap, subst, ◌∙◌}
+use Rattle.std.proofs.Common.{◌==◌, ◌&&◌, eq-eqb}
 use Rattle.std.specs.Prelude.{bytes_eq}
 use Rattle.std.specs.Cmp.{IsTotalOrder}
 use Rattle.std.specs.List.{AllByRecursion, IsDistinct, filter}
@@ -148,7 +149,8 @@ module _ (old new : Totals) where
       (image.is ∙ ap (change_of old new) (sym label), some_differ change passed.1)
 
   among_has : (labels : List (List ℕ)) (label : List ℕ) → IsIn label labels
-      → Differs (change_of old new label).bytes (change_of old new label).count → IsIn (change_of old new label) (changes_among old new labels)
+      → Differs (change_of old new label).bytes (change_of old new label).count
+      → IsIn (change_of old new label) (changes_among old new labels)
   among_has labels label has differ =
       in_filter differs (map (change_of old new) labels) (change_of old new label) (differ_some (change_of old new label) differ)
       (in_map (change_of old new) labels label has)
@@ -162,7 +164,8 @@ module _ (old new : Totals) where
     ascend = sorted;
     is = λ change has.
         in_among labels change (in_from_Contains (changes_among old new labels) change
-        (Contains-permutation changes (changes_among old new labels) change (IsPermutation-sym (changes_among old new labels) changes moved) has));
+        (Contains-permutation changes (changes_among old new labels) change
+        (IsPermutation-sym (changes_among old new labels) changes moved) has));
     all = λ label differ.
         Contains-permutation (changes_among old new labels) changes (change_of old new label) moved
         (Contains-from_in (changes_among old new labels) (change_of old new label) (among_has labels label (all label differ) differ));
@@ -180,7 +183,8 @@ module _ (old new : Totals) where
 
   pub one_difference : (one other : List ChangeValue) → IsDifference old new one → IsDifference old new other → one ≡ other
   one_difference one other is is_too =
-      one_sorted change_cmp_total one other is.ascend is_too.ascend (member_of_other one other is is_too) (member_of_other other one is_too is)
+      one_sorted change_cmp_total one other is.ascend is_too.ascend (member_of_other one other is is_too)
+      (member_of_other other one is_too is)
 
   -- ---- there is one
 
@@ -201,7 +205,8 @@ module _ (old new : Totals) where
     pub differ : (label : List ℕ) → IsIn label sorted → differs (change_of old new label) ≡ true
     pub all : (label : List ℕ) → IsIn label labels → differs (change_of old new label) ≡ true → IsIn label sorted
 
-  one_more : (label : List ℕ) (labels : List (List ℕ)) → differs (change_of old new label) ≡ true → InOrder labels → InOrder (label ∷ labels)
+  one_more : (label : List ℕ) (labels : List (List ℕ)) → differs (change_of old new label) ≡ true → InOrder labels
+      → InOrder (label ∷ labels)
   one_more label labels of_it before =
       let more = join_one label_cmp label_cmp_total tied_same label before.sorted before.ascend in
       record {
@@ -217,7 +222,8 @@ module _ (old new : Totals) where
         ];
       }
 
-  one_less : (label : List ℕ) (labels : List (List ℕ)) → differs (change_of old new label) ≡ false → InOrder labels → InOrder (label ∷ labels)
+  one_less : (label : List ℕ) (labels : List (List ℕ)) → differs (change_of old new label) ≡ false → InOrder labels
+      → InOrder (label ∷ labels)
   one_less label labels of_it before = record {
     sorted = before.sorted;
     ascend = before.ascend;
@@ -262,7 +268,8 @@ module _ (old new : Totals) where
         record {
           ascend = changes_sorted made.sorted made.ascend;
           is = λ change has.
-              let image = in_image (change_of old new) made.sorted change (in_from_Contains (map (change_of old new) made.sorted) change has) in
+              let image = in_image (change_of old new) made.sorted change
+              (in_from_Contains (map (change_of old new) made.sorted) change has) in
               let label : change.label ≡ image.x = ap (λ (c : ChangeValue). c.label) image.is in (
                 image.is ∙ ap (change_of old new) (sym label),
                 some_differ change (ap differs image.is ∙ made.differ image.x image.has),
@@ -360,4 +367,5 @@ growth_exists old ids facts new is = difference_among (totals_in old) new (label
     by_test false e (inl has) = in_back (labels_in old) others label has
     by_test false e (inr none) =
         let none_too = none_kept old label e in
-        absurd (same_none (totals_in old) new label (ap (λ (c : Counted). c.count) none_too, ap (λ (c : Counted). c.bytes) none_too) none differ)
+        absurd (same_none (totals_in old) new label
+        (ap (λ (c : Counted). c.count) none_too, ap (λ (c : Counted). c.bytes) none_too) none differ)

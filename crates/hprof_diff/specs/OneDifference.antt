@@ -33,7 +33,9 @@ one_total_of parts one other is is_too =
 pub one_report : (olds news : List (List ℕ)) (one other : List ℕ) → IsDifferenceOf olds news one → IsDifferenceOf olds news other
     → one ≡ other
 one_report olds news one other is is_too =
-    let of_old = subst (λ (old : Totals). IsDifferenceText old is.new one) (one_total_of olds is.old is_too.old is.are_old is_too.are_old) is.is in
-    let of_new = subst (λ (new : Totals). IsDifferenceText is_too.old new one) (one_total_of news is.new is_too.new is.are_new is_too.are_new)
+    let of_old = subst (λ (old : Totals). IsDifferenceText old is.new one)
+    (one_total_of olds is.old is_too.old is.are_old is_too.are_old) is.is in
+    let of_new = subst (λ (new : Totals). IsDifferenceText is_too.old new one)
+    (one_total_of news is.new is_too.new is.are_new is_too.are_new)
     of_old in
     one_difference_text is_too.old is_too.new one other of_new is_too.is

@@ -35,7 +35,8 @@ pub one_total : (ids : IdSize) (facts : List FactValue) (one other : Totals) →
     → AreTotals ids facts other → one ≡ other
 one_total ids facts one other agree is is_too =
     let rows = at_most_one ids facts is.rows is_too.rows is.are_rows is_too.are_rows in
-    let each = λ (class : ℕ). one_bare_label facts agree class (is.label class) (is_too.label class) (is.are_labels class) (is_too.are_labels class) in
+    let each = λ (class : ℕ). one_bare_label facts agree class (is.label class) (is_too.label class) (is.are_labels class)
+    (is_too.are_labels class) in
     let label : is.label ≡ is_too.label = λ i class. each class i in
     let count = λ (text : List ℕ). is.counts text ∙ (λ i. count_of_rows (labelled (label i) text (rows i))) ∙ sym (is_too.counts text) in
     let bytes = λ (text : List ℕ). is.bytes text ∙ (λ i. bytes_of_rows (labelled (label i) text (rows i))) ∙ sym (is_too.bytes text) in

@@ -39,7 +39,8 @@ pub(crate) fn parts_of(
     rows: &[Row],
 ) -> Result<Vec<Part>, AllocError>
     requires { AreClassNames (facts_of heap.now) names.now }
-    ensures labelled { IfOk result (λ parts. (label : Source → List ℕ) (class_label : ℕ → List ℕ) → AreSourceLabels (facts_of heap.now) label
+    ensures labelled { IfOk result (λ parts. (label : Source → List ℕ) (class_label : ℕ → List ℕ)
+        → AreSourceLabels (facts_of heap.now) label
         → AreBareLabels (facts_of heap.now) class_label → (text : List ℕ)
         → parts_under label text parts.items ≡ rows_under class_label text rows.now) }
     ensures all { IfOk result (λ parts. sum_of_parts parts.items ≡ sum_of counted_of_row rows.now) }

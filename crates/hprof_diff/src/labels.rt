@@ -7,18 +7,8 @@ ghost use Rattle.hprof_diff.specs.Sources.{IsSourceLabel};
 
 use crate::part::Source;
 use hprof_heap::Heap;
-use hprof_meaning::bare_label;
-use hprof_naming::type_word;
-use hprof_values::Basic;
+use hprof_meaning::{array_label, bare_label};
 use std::alloc::{AllocError, Global};
-
-/// Returns the label of arrays of this type.
-fn array_label(alloc: Global, elem: Basic) -> Result<String, AllocError>
-    ensures { IfOk result (λ text. string_bytes text ≡ type_word elem ++ codes "[]") }
-{
-    let word = type_word(elem);
-    format!(in alloc; "{word}[]")
-}
 
 /// Returns the label from a source. If memory runs out, the answer is `AllocError`.
 pub(crate) fn source_label(alloc: Global, heap: &Heap, source: Source) -> Result<String, AllocError>

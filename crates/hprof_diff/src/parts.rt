@@ -88,7 +88,8 @@ pub fn diff_to<R: Source, W: Target>(
     requires writer { W.health target.old ≡ Well }
     ensures ends { EndsDifference R.left R.health R.pulls W.written W.health limits olds.old olds.new news.old news.new
         target.old target.new result }
-    ensures ok { IfOk result (λ done. (old_parts new_parts : List (List ℕ)) → Tell R.left olds.old old_parts → Tell R.left news.old new_parts
+    ensures ok { IfOk result (λ done. (old_parts new_parts : List (List ℕ))
+        → Tell R.left olds.old old_parts → Tell R.left news.old new_parts
         → WritesAll (IsDifferenceOf old_parts) new_parts (W.written target.old) (W.written target.new)) }
 {
     let old = match count_parts(alloc, olds, limits) {

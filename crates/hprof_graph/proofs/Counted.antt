@@ -90,7 +90,8 @@ module _ (ids : IdSize) (facts : List FactValue) (derived : Derived) (is : IsDer
       (is.deriving_is.all_are instance).1 (cannot.class, cannot.is_of),
       λ there.
           let can = is.deriving_is.laid_are instance there in
-          cannot.no_layout (subst (HasLayout facts) (one_class facts is.deriving_is.agree instance can.class cannot.class can.is_of cannot.is_of)
+          cannot.no_layout (subst (HasLayout facts)
+          (one_class facts is.deriving_is.agree instance can.class cannot.class can.is_of cannot.is_of)
           can.layout),
     ),
   )

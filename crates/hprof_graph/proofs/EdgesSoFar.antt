@@ -124,7 +124,8 @@ module _ (ids : IdSize) (before : List FactValue) (fact : FactValue) (facts : Li
         };
       }
 
-  gives_was : (edge : Edge) (other : FactValue) → Has before other → GivesSoFar ids facts laid other edge → GivesSoFar ids before laid other edge
+  gives_was : (edge : Edge) (other : FactValue) → Has before other → GivesSoFar ids facts laid other edge
+      → GivesSoFar ids before laid other edge
   gives_was edge (Instance id trace class bytes) has (inl to_class) = inl to_class
   gives_was edge (Instance id trace class bytes) has (inr both) =
       inr (
@@ -143,7 +144,8 @@ module _ (ids : IdSize) (before : List FactValue) (fact : FactValue) (facts : Li
 
   -- it gives its edges
   pub with_fact : (edge : Edge)
-      → IsEdgeSoFar ids facts laid edge ↔ (IsEdgeSoFar ids before laid edge ⊎ (GivesByClass fact edge ⊎ GivesSoFar ids facts laid fact edge))
+      → IsEdgeSoFar ids facts laid edge
+      ↔ (IsEdgeSoFar ids before laid edge ⊎ (GivesByClass fact edge ⊎ GivesSoFar ids facts laid fact edge))
   with_fact edge = (there, back) where
     there : IsEdgeSoFar ids facts laid edge
         → IsEdgeSoFar ids before laid edge ⊎ (GivesByClass fact edge ⊎ GivesSoFar ids facts laid fact edge)

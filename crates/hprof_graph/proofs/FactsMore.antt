@@ -1,7 +1,8 @@
 -- What is derived when a fact is added.
 use Rattle.std.specs.Prelude.{◌↔◌, ◌≢◌, nat_eq, ⊤}
 use Rattle.std.specs.List.{IsDistinct}
-use Rattle.std.proofs.Common.{◌≡◌, ℕ, ◌+◌, ◌-◌, ◌^◌, ◌⊎◌, min, List, [], ◌∷◌, ◌++◌, Bor, Contains, Some, Vec, Global, refl, sym, ap, subst, ◌∙◌}
+use Rattle.std.proofs.Common.{◌≡◌, ℕ, ◌+◌, ◌-◌, ◌^◌, ◌⊎◌, min, List, [], ◌∷◌, ◌++◌, Bor, Contains, Some, Vec, Global, refl, sym, ap, subst}
+use Rattle.std.proofs.Common.{◌∙◌}
 use Rattle.std.proofs.Common.{inl, inr}
 use Rattle.std.proofs.lemmas.Bool.{cases_eq}
 use Rattle.std.proofs.lemmas.List.Elements.{Contains-append_left, Contains-push, Contains-push_cases}
@@ -32,7 +33,8 @@ use Rattle.hprof_graph.specs.declared.derived.Derived.{Derived}
 use Rattle.hprof_graph.specs.Derived.{IsOther, AddsFact, GivesSoFar, HasLaid, IsDerived, IsDeriving, IsEdgeSoFar, IsInstance, IsInstanceOf}
 use Rattle.hprof_graph.proofs.Deriving.{appended, stopped_more}
 use Rattle.hprof_graph.proofs.EdgesSoFar.{with_fact}
-use Rattle.hprof_graph.proofs.Instances.{instance_stays, instance_was, laid_stays, layout_or_not, one_class, agreed, stays, was_or_is, is_there}
+use Rattle.hprof_graph.proofs.Instances.{instance_stays, instance_was, laid_stays, layout_or_not, one_class, agreed, stays, was_or_is}
+use Rattle.hprof_graph.proofs.Instances.{is_there}
 
 module _ (ids : IdSize) (before : List FactValue) (fact : FactValue) (facts : List FactValue) (adds : AddsFact before fact facts)
     (derived : Derived) where
@@ -63,7 +65,8 @@ module _ (ids : IdSize) (before : List FactValue) (fact : FactValue) (facts : Li
               (λ edge. (λ there. (gives edge).0 ((edges.exact edge).0 there), λ holds. (edges.exact edge).1 ((gives edge).1 holds)))
               (with_fact ids before fact facts adds is.laid was.laid_are);
           waits = λ class instance. (
-            λ there. (let both = (was.waits class instance).0 there in (instance_stays before fact facts adds instance class both.0, both.1)),
+            λ there. (let both =
+                (was.waits class instance).0 there in (instance_stays before fact facts adds instance class both.0, both.1)),
             λ both. (was.waits class instance).1 (was_instance instance class both.0, both.1),
           );
           waits_once = was.waits_once;
@@ -154,7 +157,8 @@ is_other (facts.ObjArray id trace class elements) no_instance no_array = no_arra
 is_other fact no_instance no_array = tt
 
 -- a fact that is no class dump, no instance and no array of objects
-pub neither : (fact : Fact) → ((dump : ClassValue) → fact_of_class dump ≡ value_of fact → ⊥) → IsOther fact → NothingToDerive (value_of fact)
+pub neither : (fact : Fact) → ((dump : ClassValue) → fact_of_class dump ≡ value_of fact → ⊥) → IsOther fact
+    → NothingToDerive (value_of fact)
 neither (facts.Class id trace parent loader signers domain reserved1 reserved2 size constants statics fields) no_dump other =
     no_dump (dump_in (value_of (facts.Class id trace parent loader signers domain reserved1 reserved2 size constants statics fields))) refl
 neither (facts.Instance id trace class bytes) no_dump other = other

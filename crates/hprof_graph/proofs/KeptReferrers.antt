@@ -60,7 +60,8 @@ module _ (ids : IdSize) (facts : List FactValue) where
 
     pub referrers_are : (derived : Derived) → IsDerived ids facts derived → ((edge : Edge) → edge.to ≡ id → keeps_of derived edge ≡ true)
         → (result : List Edge) → IsStrictlySortedBy (edge_ord.ghosts).cmp result
-        → ((edge : Edge) → Contains result edge ↔ (Contains (edges_in derived.set) edge × (edge.to ≡ id))) → AreReferrers ids facts id result
+        → ((edge : Edge) → Contains result edge ↔ (Contains (edges_in derived.set) edge × (edge.to ≡ id)))
+        → AreReferrers ids facts id result
     referrers_are derived is keeps result ascend exact = record {
       ascend = ascend;
       exact = λ edge. (

@@ -3,7 +3,8 @@ use Rattle.std.specs.Prelude.{◌↔◌, ◌≢◌}
 use Rattle.std.specs.List.{dedup, dedup_from}
 use Rattle.std.specs.List.Sorted.{IsPartitionPoint, IsPartitionedBy, IsPermutation, IsSorted, IsStrictlySortedBy}
 use Rattle.std.proofs.Common.{◌≡◌, ℕ, ◌+◌, ◌-◌, ◌<◌, ◌≤◌, ◌==◌, ◌++◌, Bool, true, false, not, cond, List, [], ◌∷◌, length, take, drop}
-use Rattle.std.proofs.Common.{get_or, Contains, refl, sym, ap, subst, ◌∙◌, inl, inr, arith, get_or-take, get_or-drop, length-drop, length-take}
+use Rattle.std.proofs.Common.{get_or, Contains, refl, sym, ap, subst, ◌∙◌, inl, inr, arith, get_or-take, get_or-drop, length-drop}
+use Rattle.std.proofs.Common.{length-take}
 use Rattle.std.proofs.Common.{length-append}
 use Rattle.std.proofs.lemmas.Bool.{cases_order, eq-eqb, eqb-true, false_from_ne_true}
 use Rattle.std.proofs.Math.Seq.{drop-append_seam}
@@ -136,11 +137,13 @@ module _ (id : ℕ) (front back : List Edge) (others : (edge : Edge) → Contain
     dropped : drop point (front_once ++ back_once) ≡ back_once
     dropped = ap (λ (n : ℕ). drop n (front_once ++ back_once)) at_seam ∙ drop-append_seam front_once back_once
 
-    pub behind_ascends : IsSorted (edge_ord.ghosts).cmp back → IsStrictlySortedBy (edge_ord.ghosts).cmp (drop point (front_once ++ back_once))
+    pub behind_ascends : IsSorted (edge_ord.ghosts).cmp back
+        → IsStrictlySortedBy (edge_ord.ghosts).cmp (drop point (front_once ++ back_once))
     behind_ascends sorted =
         subst (IsStrictlySortedBy (edge_ord.ghosts).cmp) (sym dropped) (IsStrictlySortedBy-dedup total-law matches_eq-law back sorted)
 
-    pub behind_exact : (edge : Edge) → Contains (drop point (front_once ++ back_once)) edge ↔ (Contains (front ++ back) edge × (edge.to ≡ id))
+    pub behind_exact : (edge : Edge) → Contains (drop point (front_once ++ back_once)) edge
+        ↔ (Contains (front ++ back) edge × (edge.to ≡ id))
     behind_exact edge = (there, back_there) where
       there : Contains (drop point (front_once ++ back_once)) edge → Contains (front ++ back) edge × (edge.to ≡ id)
       there has =
@@ -200,7 +203,8 @@ module _ (id : ℕ) (old moved sorted new : List Edge) (start place : ℕ) (with
   back_are : (edge : Edge) → Contains back edge → edge.to ≡ id
   back_are edge there =
       back_behind id start moved within behind edge
-      (Contains-permutation (drop start sorted) (drop start moved) edge (IsPermutation-sym (drop start moved) (drop start sorted) moves_back) there)
+      (Contains-permutation (drop start sorted) (drop start moved) edge
+      (IsPermutation-sym (drop start moved) (drop start sorted) moves_back) there)
 
   new_is : new ≡ front_once id front back front_are back_are ++ back_once id front back front_are back_are
   new_is =
@@ -279,9 +283,11 @@ tail_is {X} start count given items part same counted within long =
     let whole : take start given ++ (part ++ rest) ≡ take start given ++ part =
     ap (λ (l : List X). take start given ++ (part ++ l)) none ∙ ap (λ (l : List X). take start given ++ l) (append-nil part) in
     let sums = length-append (take start given) part in
-    let all_long : count ≡ length (take start given ++ part) = omega (arith, sums, front_long, mid_long, first_drop, long, given_long, within) in
+    let all_long : count
+    ≡ length (take start given ++ part) = omega (arith, sums, front_long, mid_long, first_drop, long, given_long, within) in
     let at : start ≡ length (take start given) = omega (arith, front_long, given_long, within) in
     ap (λ (l : List X). drop start (take count (l ++ drop (length l) items))) whole
-    ∙ ap (drop start) (take-append-le count (take start given ++ part) (drop (length (take start given ++ part)) items) (omega (arith, all_long))
+    ∙ ap (drop start) (take-append-le count (take start given ++ part) (drop (length (take start given ++ part)) items)
+    (omega (arith, all_long))
     ∙ take_all count (take start given ++ part) (omega (arith, all_long)))
     ∙ ap (λ (n : ℕ). drop n (take start given ++ part)) at ∙ drop-append_seam (take start given) part

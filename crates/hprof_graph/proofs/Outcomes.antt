@@ -2,7 +2,8 @@
 use Rattle.std.specs.Prelude.{◌≢◌, IfOk}
 use Rattle.std.specs.Option.{option_map}
 use Rattle.std.specs.Result.{result_ok}
-use Rattle.std.proofs.Common.{◌≡◌, Bool, true, false, not, cond, min, ◌||◌, List, [], Option, Some, None, Result, Ok, Err, Bor, refl, sym, ap, subst}
+use Rattle.std.proofs.Common.{◌≡◌, Bool, true, false, not, cond, min, ◌||◌, List, [], Option, Some, None, Result, Ok, Err, Bor, refl, sym}
+use Rattle.std.proofs.Common.{ap, subst}
 use Rattle.hprof_values.specs.declared.ids.IdSize.{IdSize}
 use Rattle.hprof_items.specs.declared.header.Header.{Header}
 use Rattle.hprof_items.specs.FactValue.{FactValue}
@@ -17,7 +18,8 @@ use Rattle.hprof_heap.specs.declared.heap.Heap.{Heap}
 use Rattle.hprof_heap.specs.declared.standing.Refusal.{Refusal}
 use Rattle.hprof_heap.specs.declared.standing.Refusal.TheVariants as refusals
 use Rattle.hprof_heap.specs.declared.standing.Standing.TheVariants as standings
-use Rattle.hprof_heap.specs.Gathering.{Begins, TellsStated, Gathered, IsStated, Takes, TakesHeap, answer_of, begun_heap, gathered, has_other_size, mark_after, marked, same_size}
+use Rattle.hprof_heap.specs.Gathering.{Begins, TellsStated, Gathered, IsStated, Takes, TakesHeap, answer_of, begun_heap, gathered}
+use Rattle.hprof_heap.specs.Gathering.{has_other_size, mark_after, marked, same_size}
 use Rattle.hprof_heap.specs.Gathering.{standing_of_answer, unconflicted}
 use Rattle.hprof_heap.specs.Heap.{heap_of}
 use Rattle.hprof_heap.specs.HeapFacts.{facts_of, size_of}
@@ -193,7 +195,8 @@ begun_on derived (Some heap) (Some key) false header is =
     (λ t. IsDerivedOf (unconflicted (Some (begun_heap (Some heap) header)) (Some key) (not t)) derived) [ true ↦ tt | false ↦ tt ]
 begun_on derived (Some heap) None false header is =
     elim (same_size heap.ids header.ids) as
-    (λ t. IsDerivedOf (unconflicted (Some (cond t (record heap { millis = min heap.millis header.millis }) heap)) None (not t)) derived) [ true ↦ is | false ↦ tt ]
+    (λ t. IsDerivedOf (unconflicted (Some (cond t (record heap { millis = min heap.millis header.millis }) heap)) None (not t)) derived)
+    [ true ↦ is | false ↦ tt ]
 
 -- what a gatherer answers that has not failed
 unfailed : (g : Gathered) → g.failed ≡ false → answer_of g ≡ unconflicted g.heap g.conflict g.two_sizes
@@ -206,7 +209,8 @@ begins_on old new header derived begins is =
     let after = begun_on derived old.heap old.conflict old.two_sizes header before in
     subst (λ (o : Result HeapValue Refusal). IsDerivedOf o derived) (sym (unfailed new begins.sound))
     (subst (λ (h : Option HeapValue). IsDerivedOf (unconflicted h new.conflict new.two_sizes) derived) (sym begins.heap)
-    (subst (λ (k : Option Key). IsDerivedOf (unconflicted (Some (begun_heap old.heap header)) k new.two_sizes) derived) (sym begins.conflict)
+    (subst (λ (k : Option Key). IsDerivedOf (unconflicted (Some (begun_heap old.heap header)) k new.two_sizes) derived)
+    (sym begins.conflict)
     (subst (λ (t : Bool). IsDerivedOf (unconflicted (Some (begun_heap old.heap header)) old.conflict t) derived) (sym begins.two_sizes)
     after)))
 

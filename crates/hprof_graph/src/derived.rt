@@ -13,7 +13,8 @@ ghost use Rattle.hprof_edges.specs.declared.edge.Edge.{Edge};
 ghost use Rattle.hprof_edges.specs.Collecting.{is_edge_wanted};
 ghost use Rattle.hprof_edges.specs.Edges.{AreEdges, AreReferrers};
 ghost use Rattle.hprof_edges.specs.EdgeSet.{edges_in};
-ghost use Rattle.hprof_graph.specs.Derived.{AddsFact, CanBeLaid, CannotBeLaid, HasLaid, IsDerived, IsDeriving, IsInstanceOf, IsOther, keeps_of, stopped};
+ghost use Rattle.hprof_graph.specs.Derived.{AddsFact, CanBeLaid, CannotBeLaid, HasLaid, IsDerived, IsDeriving, IsInstanceOf, IsOther};
+ghost use Rattle.hprof_graph.specs.Derived.{keeps_of, stopped};
 ghost use Rattle.hprof_graph.specs.Indexed.{IsIndexOf};
 ghost use Rattle.hprof_graph.specs.Number.{IsNumberOf};
 

@@ -1,5 +1,6 @@
 -- How many objects of a kind facts have, counted from the front.
-use Rattle.std.proofs.Common.{◌≡◌, ℕ, ◌+◌, ◌*◌, ◌^◌, ◌<◌, ◌≤◌, Bool, true, false, cond, List, [], ◌∷◌, Some, None, length, refl, sym, ap, ◌∙◌, inl, inr, arith, length-append}
+use Rattle.std.proofs.Common.{◌≡◌, ℕ, ◌+◌, ◌*◌, ◌^◌, ◌<◌, ◌≤◌, Bool, true, false, cond, List, [], ◌∷◌, Some, None, length, refl, sym, ap}
+use Rattle.std.proofs.Common.{◌∙◌, inl, inr, arith, length-append}
 use Rattle.std.specs.List.{AllByRecursion, sum_by}
 use Rattle.std.proofs.lemmas.Bool.{cond-true}
 use Rattle.std.proofs.lemmas.List.Elements.{All-filter, All-from_recursion}
@@ -8,7 +9,8 @@ use Rattle.hprof_values.specs.declared.ids.IdSize.{IdSize}
 use Rattle.hprof_values.specs.declared.ids.IdSize.TheVariants as sizes
 use Rattle.hprof_values.specs.Ids.{width_of}
 use Rattle.hprof_values.specs.FieldGroups.{field_bytes}
-use Rattle.hprof_items.specs.FactValue.{FactValue, Name, Load, Unload, Frame, Trace, Start, End, Rooted, Class, Instance, ObjArray, PrimArray}
+use Rattle.hprof_items.specs.FactValue.{FactValue, Name, Load, Unload, Frame, Trace, Start, End, Rooted, Class, Instance, ObjArray}
+use Rattle.hprof_items.specs.FactValue.{PrimArray}
 use Rattle.hprof_items.specs.Spelling.{Fits}
 use Rattle.hprof_items.specs.SubRecord.{instance_widths, instance_numbers, prim_array_widths, prim_array_numbers}
 use Rattle.hprof_rows.specs.declared.table.Table.TheVariants as tables
@@ -86,10 +88,12 @@ counted_other ids kind fact facts none = ap (counted_list ids) (left_out kind fa
 abbrev pub IsTallyTo : IdSize → List FactValue → CountedKinds → List FactValue → Type 0
 IsTallyTo ids all tally left = (kind : Kind) → both (counted_in tally kind) (counted_of ids kind left) ≡ counted_of ids kind all
 
-pub tally_begins : (ids : IdSize) (all left : List FactValue) (tally : CountedKinds) → ((kind : Kind) → counted_in tally kind ≡ nothing) → left ≡ all
+pub tally_begins : (ids : IdSize) (all left : List FactValue) (tally : CountedKinds) → ((kind : Kind) → counted_in tally kind ≡ nothing)
+    → left ≡ all
     → IsTallyTo ids all tally left
 tally_begins ids all left tally new e kind =
-    ap (λ (c : Counted). both c (counted_of ids kind left)) (new kind) ∙ nothing_both (counted_of ids kind left) ∙ ap (counted_of ids kind) e
+    ap (λ (c : Counted). both c (counted_of ids kind left)) (new kind) ∙ nothing_both (counted_of ids kind left)
+    ∙ ap (counted_of ids kind) e
 
 pub tally_counts : (ids : IdSize) (all rest : List FactValue) (tally after : CountedKinds) (fact : FactValue) (own : Kind) (size : ℕ)
     → object_kind fact ≡ Some own → size ≡ size_of_object ids fact
@@ -112,11 +116,14 @@ tally_counts ids all rest tally after fact own size is sized counts to kind =
 
 pub tally_passes : (ids : IdSize) (all rest : List FactValue) (tally : CountedKinds) (fact : FactValue) → object_kind fact ≡ None
     → IsTallyTo ids all tally (fact ∷ rest) → IsTallyTo ids all tally rest
-tally_passes ids all rest tally fact none to kind = ap (both (counted_in tally kind)) (sym (counted_other ids kind fact rest none)) ∙ to kind
+tally_passes ids all rest tally fact none to kind = ap (both (counted_in tally kind)) (sym (counted_other ids kind fact rest none))
+    ∙ to kind
 
-pub tally_ends : (ids : IdSize) (all left : List FactValue) (tally : CountedKinds) → left ≡ [] → IsTallyTo ids all tally left → IsTally ids all tally
+pub tally_ends : (ids : IdSize) (all left : List FactValue) (tally : CountedKinds) → left ≡ [] → IsTallyTo ids all tally left
+    → IsTally ids all tally
 tally_ends ids all left tally none to kind =
-    sym (both_nothing (counted_in tally kind)) ∙ ap (λ (l : List FactValue). both (counted_in tally kind) (counted_of ids kind l)) (sym none)
+    sym (both_nothing (counted_in tally kind))
+    ∙ ap (λ (l : List FactValue). both (counted_in tally kind) (counted_of ids kind l)) (sym none)
     ∙ to kind
 
 -- ---- room
@@ -144,7 +151,8 @@ room_for_one ids all rest tally fact own size is sized room to =
 -- ---- all facts
 
 -- a fact of the table that may be of the kind
-kept_too : (kind : Kind) (fact : FactValue) (facts : List FactValue) → of_kind kind (facts_of_table tables.Objects facts) ≡ of_kind kind facts
+kept_too : (kind : Kind) (fact : FactValue) (facts : List FactValue) → of_kind kind (facts_of_table tables.Objects facts)
+    ≡ of_kind kind facts
     → of_kind kind (fact ∷ facts_of_table tables.Objects facts) ≡ of_kind kind (fact ∷ facts)
 kept_too kind fact facts e = ap (λ (l : List FactValue). cond (is_kind kind (object_kind fact)) (fact ∷ l) l) e
 
@@ -170,7 +178,8 @@ all_within ids (fact ∷ facts) fit = (size_within ids fact (fit fact (inl refl)
 pub same_of_kind : (kind : Kind) (facts : List FactValue) → of_kind kind (facts_of_table tables.Objects facts) ≡ of_kind kind facts
 same_of_kind kind [] = refl
 same_of_kind kind (Instance id trace class bytes ∷ facts) = kept_too kind (Instance id trace class bytes) facts (same_of_kind kind facts)
-same_of_kind kind (ObjArray id trace class elements ∷ facts) = kept_too kind (ObjArray id trace class elements) facts (same_of_kind kind facts)
+same_of_kind kind (ObjArray id trace class elements ∷ facts) =
+    kept_too kind (ObjArray id trace class elements) facts (same_of_kind kind facts)
 same_of_kind kind (PrimArray id trace elem bytes ∷ facts) = kept_too kind (PrimArray id trace elem bytes) facts (same_of_kind kind facts)
 same_of_kind kind (Name id text ∷ facts) = same_of_kind kind facts
 same_of_kind kind (Load serial class trace name ∷ facts) = same_of_kind kind facts

@@ -1,5 +1,6 @@
 -- The rows of what was counted are a histogram.
-use Rattle.std.proofs.Common.{◌≡◌, ℕ, ◌<◌, Bool, true, false, cond, List, [], ◌∷◌, Option, Some, None, Ok, length, get_or, refl, sym, ap, subst, ◌∙◌, inl, inr, arith, unwrap_or}
+use Rattle.std.proofs.Common.{◌≡◌, ℕ, ◌<◌, Bool, true, false, cond, List, [], ◌∷◌, Option, Some, None, Ok, length, get_or, refl, sym, ap}
+use Rattle.std.proofs.Common.{subst, ◌∙◌, inl, inr, arith, unwrap_or}
 use Rattle.std.specs.Prelude.{nat_eq}
 use Rattle.std.specs.List.{All, IsDistinct, filter}
 use Rattle.std.specs.List.Sorted.{IsPermutation, IsStrictlySortedBy}
@@ -44,7 +45,8 @@ element_listed basics.Short e = inr (inr (inr (inr (inr (inl refl)))))
 element_listed basics.Int e = inr (inr (inr (inr (inr (inr (inl refl))))))
 element_listed basics.Long e = inr (inr (inr (inr (inr (inr (inr (inl refl)))))))
 
-type_listed : (ids : IdSize) (fact : FactValue) (elem : Basic) → Fits ids fact → object_kind fact ≡ Some (Prim elem) → IsIn elem element_types
+type_listed : (ids : IdSize) (fact : FactValue) (elem : Basic) → Fits ids fact → object_kind fact ≡ Some (Prim elem)
+    → IsIn elem element_types
 type_listed ids (PrimArray id trace own bytes) elem fits e =
     let same : own ≡ elem = cc in subst (λ (b : Basic). IsIn b element_types) same (element_listed own fits.0.3)
 type_listed ids _ elem fits e = absurd cc
@@ -53,17 +55,18 @@ type_listed ids _ elem fits e = absurd cc
 pub some_counted : (kind : Kind) (facts : List FactValue) (fact : FactValue) → Has facts fact → object_kind fact ≡ Some kind
     → 0 < length (of_kind kind facts)
 some_counted kind [] fact has is = absurd has
-some_counted kind (first ∷ facts) fact has is = by_test (λ later. some_counted kind facts fact later is) (is_kind kind (object_kind first)) refl where
-  by_test : (Has facts fact → 0 < length (of_kind kind facts)) → (b : Bool) → is_kind kind (object_kind first) ≡ b
-      → 0 < length (cond b (first ∷ of_kind kind facts) (of_kind kind facts))
-  by_test later true e = omega arith
-  by_test later false e = elim has [
-    | inl same ↦
-        let own : is_kind kind (object_kind first) ≡ true =
-        ap (λ (f : FactValue). is_kind kind (object_kind f)) (sym same) ∙ ap (is_kind kind) is ∙ same_itself kind in
-        absurd (both_ways (is_kind kind (object_kind first)) e own)
-    | inr rest ↦ later rest
-  ]
+some_counted kind (first ∷ facts) fact has is =
+    by_test (λ later. some_counted kind facts fact later is) (is_kind kind (object_kind first)) refl where
+      by_test : (Has facts fact → 0 < length (of_kind kind facts)) → (b : Bool) → is_kind kind (object_kind first) ≡ b
+          → 0 < length (cond b (first ∷ of_kind kind facts) (of_kind kind facts))
+      by_test later true e = omega arith
+      by_test later false e = elim has [
+        | inl same ↦
+            let own : is_kind kind (object_kind first) ≡ true =
+            ap (λ (f : FactValue). is_kind kind (object_kind f)) (sym same) ∙ ap (is_kind kind) is ∙ same_itself kind in
+            absurd (both_ways (is_kind kind (object_kind first)) e own)
+        | inr rest ↦ later rest
+      ]
 
 -- ---- what a row says
 
@@ -76,7 +79,8 @@ module _ (tally : CountedKinds) (apart : IsDistinct nat_eq (keys_in tally.classe
   class_row_of_tally class counted kept = ap (row_of (Class class)) (sym kept)
 
   entries_kept : All (λ (entry : ℕ × Counted). kept_of tally.classes entry.0 ≡ entry.1) (rows_in tally.classes)
-  entries_kept = All-from_get_or (λ (entry : ℕ × Counted). kept_of tally.classes entry.0 ≡ entry.1) (rows_in tally.classes) (0, nothing) (λ place lt.
+  entries_kept = All-from_get_or (λ (entry : ℕ × Counted). kept_of tally.classes entry.0 ≡ entry.1) (rows_in tally.classes) (0, nothing)
+      (λ place lt.
       let entry : ℕ × Counted = get_or (rows_in tally.classes) place (0, nothing) in
       let found : value_in tally.classes entry.0 ≡ Some entry.1 =
       lookup_from_place nat_eq_equiv (rows_in tally.classes) place entry.0 entry.1 apart

@@ -34,7 +34,8 @@ abbrev pub of_these : IdSize → Kind → List FactValue → List SizedObject
 of_these ids kind facts = map (sized_of ids) (of_kind kind facts)
 
 -- what was collected, and then what is left, is what all facts have
-pub record IsCollected (ids : IdSize) (kind : Kind) (all : List FactValue) (objects : List SizedObject) (left : List FactValue) : Type 0 where
+pub record IsCollected (ids : IdSize) (kind : Kind) (all : List FactValue) (objects : List SizedObject)
+    (left : List FactValue) : Type 0 where
   pub small : AllSmall ids left
   pub is : objects ++ of_these ids kind left ≡ of_these ids kind all
 
@@ -45,7 +46,8 @@ collected_begins ids kind facts left objects fit all none = record {
   is = ap (λ (l : List SizedObject). l ++ of_these ids kind left) none ∙ ap (of_these ids kind) all;
 }
 
-pub collected_one : (ids : IdSize) (kind : Kind) (all : List FactValue) (objects after : List SizedObject) (fact : FactValue) (rest left : List FactValue)
+pub collected_one : (ids : IdSize) (kind : Kind) (all : List FactValue) (objects after : List SizedObject) (fact : FactValue)
+    (rest left : List FactValue)
     (object : SizedObject) → left ≡ fact ∷ rest → is_kind kind (object_kind fact) ≡ true → object ≡ sized_of ids fact
     → after ≡ objects ++ object ∷ [] → IsCollected ids kind all objects left → IsCollected ids kind all after rest
 collected_one ids kind all objects after fact rest left object e is sized pushed before =
@@ -59,8 +61,10 @@ collected_one ids kind all objects after fact rest left object e is sized pushed
           ∙ now.is;
     }
 
-pub collected_other : (ids : IdSize) (kind : Kind) (all : List FactValue) (objects : List SizedObject) (fact : FactValue) (rest left : List FactValue)
-    → left ≡ fact ∷ rest → is_kind kind (object_kind fact) ≡ false → IsCollected ids kind all objects left → IsCollected ids kind all objects rest
+pub collected_other : (ids : IdSize) (kind : Kind) (all : List FactValue) (objects : List SizedObject) (fact : FactValue)
+    (rest left : List FactValue)
+    → left ≡ fact ∷ rest → is_kind kind (object_kind fact) ≡ false → IsCollected ids kind all objects left
+    → IsCollected ids kind all objects rest
 collected_other ids kind all objects fact rest left e other before =
     let now : IsCollected ids kind all objects (fact ∷ rest) = subst (IsCollected ids kind all objects) e before in
     record {

@@ -10,3 +10,4 @@ pub mod HistogramRows
 pub mod SomeHistogram
 pub mod KindObjects
 pub mod ObjectOrder
+pub mod Ordered

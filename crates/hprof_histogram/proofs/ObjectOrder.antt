@@ -1,6 +1,7 @@
 -- The objects of a kind in order: each stands once, and no other list is theirs.
 use Rattle.std.specs.Prelude.{map}
-use Rattle.std.proofs.Common.{◌≡◌, ℕ, ◌+◌, Bool, true, false, cond, List, [], ◌∷◌, Some, get_or, refl, sym, ap, subst, ◌∙◌, inl, inr, arith, ◌==◌}
+use Rattle.std.proofs.Common.{◌≡◌, ℕ, ◌+◌, Bool, true, false, cond, List, [], ◌∷◌, Some, get_or, refl, sym, ap, subst, ◌∙◌, inl, inr, arith}
+use Rattle.std.proofs.Common.{◌==◌}
 use Rattle.std.specs.List.{AllByRecursion, IsDistinct}
 use Rattle.std.specs.List.Sorted.{IsPermutation, IsSorted, IsStrictlySortedBy}
 use Rattle.std.specs.Ordering.{is_lt, nat_cmp, ordering_reverse}
@@ -34,11 +35,14 @@ use Rattle.hprof_histogram.proofs.Tallies.{same_itself}
 
 module _ (ids : IdSize) (kind : Kind) where
   -- what is among these is an object of the kind
-  only_objects : (facts : List FactValue) (object : SizedObject) → IsIn object (of_these ids kind facts) → IsObjectOfKind ids facts kind object
+  only_objects : (facts : List FactValue) (object : SizedObject) → IsIn object (of_these ids kind facts)
+      → IsObjectOfKind ids facts kind object
   only_objects [] object has = absurd has
   only_objects (fact ∷ facts) object has = by_test (only_objects facts object) (is_kind kind (object_kind fact)) refl has where
-    by_test : (IsIn object (of_these ids kind facts) → IsObjectOfKind ids facts kind object) → (b : Bool) → is_kind kind (object_kind fact) ≡ b
-        → IsIn object (map (sized_of ids) (cond b (fact ∷ of_kind kind facts) (of_kind kind facts))) → IsObjectOfKind ids (fact ∷ facts) kind object
+    by_test : (IsIn object (of_these ids kind facts) → IsObjectOfKind ids facts kind object) → (b : Bool) → is_kind kind (object_kind fact)
+        ≡ b
+        → IsIn object (map (sized_of ids) (cond b (fact ∷ of_kind kind facts) (of_kind kind facts)))
+        → IsObjectOfKind ids (fact ∷ facts) kind object
     by_test later true e has = elim has [
       | inl is ↦ record { fact = fact; has = inl refl; kind_is = is_of_kind kind (object_kind fact) e; object_is = is }
       | inr rest ↦ let found = later rest in
@@ -94,7 +98,8 @@ module _ (ids : IdSize) (kind : Kind) where
   apart_first fact (next ∷ facts) is before = by_test (apart_first fact facts is before.1) (is_kind kind (object_kind next)) refl where
     by_test : AllByRecursion (λ object. same_id (sized_of ids fact) object ≡ false) (of_these ids kind facts) → (b : Bool)
         → is_kind kind (object_kind next) ≡ b
-        → AllByRecursion (λ object. same_id (sized_of ids fact) object ≡ false) (map (sized_of ids) (cond b (next ∷ of_kind kind facts) (of_kind kind facts)))
+        → AllByRecursion (λ object. same_id (sized_of ids fact) object ≡ false)
+        (map (sized_of ids) (cond b (next ∷ of_kind kind facts) (of_kind kind facts)))
     by_test rest true e = (apart_objects fact next kind is (is_of_kind kind (object_kind next) e) before.0, rest)
     by_test rest false e = rest
 
@@ -117,11 +122,13 @@ one_tied : (object other : SizedObject) → object_cmp object other ≡ Equal �
 one_tied object other e =
     let id : object.id ≡ other.id = eqb-true object.id other.id (tied_objects object other e) in
     let bytes : other.bytes ≡ object.bytes =
-    eqb-true other.bytes object.bytes (tied_numbers other.bytes object.bytes (first_tied (nat_cmp other.bytes object.bytes) (nat_cmp object.id other.id) e)) in
+    eqb-true other.bytes object.bytes
+    (tied_numbers other.bytes object.bytes (first_tied (nat_cmp other.bytes object.bytes) (nat_cmp object.id other.id) e)) in
     λ i. record { bytes = sym bytes i; id = id i }
 
 -- an object is before another one that is not before it and has another identifier
-rises : (object other : SizedObject) → is_lt (object_cmp other object) ≡ false → same_id object other ≡ false → object_cmp object other ≡ Less
+rises : (object other : SizedObject) → is_lt (object_cmp other object) ≡ false → same_id object other ≡ false → object_cmp object other
+    ≡ Less
 rises object other not_before apart = by_order (object_cmp object other) refl where
   by_order : (order : Ordering) → object_cmp object other ≡ order → order ≡ Less
   by_order Less e = refl
@@ -130,7 +137,8 @@ rises object other not_before apart = by_order (object_cmp object other) refl wh
       let back : object_cmp other object ≡ Less = object_cmp_total.antisymm other object ∙ ap ordering_reverse e in
       absurd (both_ways _ not_before (ap is_lt back))
 
-objects_ascend : (objects : List SizedObject) → IsSorted object_cmp objects → IsDistinct same_id objects → IsStrictlySortedBy object_cmp objects
+objects_ascend : (objects : List SizedObject) → IsSorted object_cmp objects → IsDistinct same_id objects
+    → IsStrictlySortedBy object_cmp objects
 unfolding IsStrictlySortedBy
 objects_ascend [] sorted apart = tt
 objects_ascend (first ∷ objects) sorted apart =
@@ -175,7 +183,8 @@ module _ (ids : IdSize) (kind : Kind) where
   list_more : (fact : FactValue) (facts : List FactValue) → is_kind kind (object_kind fact) ≡ true → Listed facts → Listed (fact ∷ facts)
   list_more fact facts is before =
       let more = join_one object_cmp object_cmp_total one_tied (sized_of ids fact) before.objects before.ascend in
-      let same : of_these ids kind (fact ∷ facts) ≡ sized_of ids fact ∷ of_these ids kind facts = ap (map (sized_of ids)) (kept_first kind fact facts is) in
+      let same : of_these ids kind (fact ∷ facts)
+      ≡ sized_of ids fact ∷ of_these ids kind facts = ap (map (sized_of ids)) (kept_first kind fact facts is) in
       record {
         objects = more.all;
         ascend = more.sorted;

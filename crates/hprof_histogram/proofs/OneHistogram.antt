@@ -1,5 +1,6 @@
 -- Facts have one histogram.
-use Rattle.std.proofs.Common.{◌≡◌, ◌<◌, Bool, true, false, cond, List, [], ◌∷◌, Option, Some, None, length, refl, sym, ap, subst, ◌∙◌, inl, inr, arith}
+use Rattle.std.proofs.Common.{◌≡◌, ◌<◌, Bool, true, false, cond, List, [], ◌∷◌, Option, Some, None, length, refl, sym, ap, subst, ◌∙◌, inl}
+use Rattle.std.proofs.Common.{inr, arith}
 use Rattle.std.specs.List.{Contains, sum_by}
 use Rattle.std.proofs.lemmas.Bool.{eqb-true}
 use Rattle.hprof_values.specs.declared.ids.IdSize.{IdSize}
@@ -49,12 +50,14 @@ some_of_kind (fact ∷ facts) kind some = at_first (some_of_kind facts kind) (is
       record { fact = found.fact; has = inr found.has; is = found.is }
 
 -- two rows that count the objects of one kind are one
-one_row : (ids : IdSize) (facts : List FactValue) (row other : Row) → CountsKind ids facts row → CountsKind ids facts other → row.kind ≡ other.kind
+one_row : (ids : IdSize) (facts : List FactValue) (row other : Row) → CountsKind ids facts row → CountsKind ids facts other → row.kind
+    ≡ other.kind
     → row ≡ other
 one_row ids facts row other counts counts_too kind =
     let count : row.count ≡ other.count =
     counts.count ∙ ap (λ (k : Kind). length (of_kind k facts)) kind ∙ sym counts_too.count in
-    let bytes : row.bytes ≡ other.bytes = counts.bytes ∙ ap (λ (k : Kind). sum_by (size_of_object ids) (of_kind k facts)) kind ∙ sym counts_too.bytes in
+    let bytes : row.bytes ≡ other.bytes = counts.bytes ∙ ap (λ (k : Kind). sum_by (size_of_object ids) (of_kind k facts)) kind
+    ∙ sym counts_too.bytes in
     λ i. record { kind = kind i; count = count i; bytes = bytes i }
 
 -- each row of the one is a row of the other

@@ -53,7 +53,8 @@ row_cmp_total =
 -- numbers of which neither is before the other are equal
 pub tied_numbers : (n m : ℕ) → nat_cmp n m ≡ Equal → (n == m) ≡ true
 tied_numbers n m e =
-    by_ranked (n < m) (n ≡ m) (m < n) (nat_cmp n m) (ranked n m (nat_cmp n m) refl) (λ less lt. cc) (λ same is. eq-eqb n m is) (λ more gt. cc)
+    by_ranked (n < m) (n ≡ m) (m < n) (nat_cmp n m) (ranked n m (nat_cmp n m) refl) (λ less lt. cc) (λ same is. eq-eqb n m is)
+    (λ more gt. cc)
 
 pub tied_kinds : (kind other : Kind) → kind_cmp kind other ≡ Equal → same_kind kind other ≡ true
 tied_kinds (Class class) (Class other) e = tied_numbers class other e

@@ -18,7 +18,8 @@ pub fn one_histogram()
 
 /// A kind has exactly one list of objects.
 pub fn one_list_of_objects()
-    ensures exists { (ids : IdSize) (facts : List FactValue) (kind : Kind) → (objects : List SizedObject) × AreObjects ids facts kind objects }
+    ensures exists { (ids : IdSize) (facts : List FactValue) (kind : Kind)
+        → (objects : List SizedObject) × AreObjects ids facts kind objects }
     ensures once { (ids : IdSize) (facts : List FactValue) (kind : Kind) (one other : List SizedObject)
         → AreObjects ids facts kind one → AreObjects ids facts kind other → one ≡ other }
 {}

@@ -1,5 +1,5 @@
 -- The order of sums.
-use Rattle.std.proofs.Common.{◌≡◌, ◌+◌, Bool, true, false, List, [], ◌∷◌, map, get_or, refl, sym, ap, ◌∙◌, arith}
+use Rattle.std.proofs.Common.{◌≡◌, ◌+◌, Bool, true, false, List, [], ◌∷◌, get_or, refl, sym, ap, ◌∙◌, arith}
 use Rattle.std.specs.Prelude.{bytes_eq}
 use Rattle.std.specs.Cmp.{IsTotalOrder}
 use Rattle.std.specs.Cmp.Lexicographic.{slice_cmp}
@@ -10,7 +10,6 @@ use Rattle.std.specs.declared.cmp.Ordering.{Ordering}
 use Rattle.std.specs.declared.cmp.Ordering.TheVariants.{Less, Equal, Greater}
 use Rattle.std.proofs.lemmas.Bool.{both_ways}
 use Rattle.std.proofs.lemmas.Cmp.{back_total, nat_cmp_total, nat_list_cmp_total, on_total, ranked, then_total}
-use Rattle.std.proofs.lemmas.List.{get_or-map, length-map}
 use Rattle.std.proofs.lemmas.Map.Keys.{apart_from_distinct, sorted_from_all_adjacent}
 use Rattle.std.proofs.lemmas.Map.Text.{is_eq-slice_cmp}
 use Rattle.std.proofs.lemmas.Slice.Eq.{bytes_eq-Decides}
@@ -77,14 +76,3 @@ sums_ascend (first ∷ sums) sorted apart =
     sorted_from_all_adjacent sum_cmp_total (first ∷ sums) first (λ k lt.
     rises (get_or (first ∷ sums) k first) (get_or (first ∷ sums) (k + 1) first) (sorted k first (omega arith) lt)
     (apart_from_distinct same_text (first ∷ sums) k (k + 1) first apart (omega arith) lt))
-
--- what is in order by a test of values is in order as values
-pub sorted_map : {X Y : Type 0} (f : X → Y) (lt : Y → Y → Bool) (xs : List X) → IsSortedBy (λ x y. lt (f x) (f y)) xs
-    → IsSortedBy lt (map f xs)
-sorted_map f lt [] sorted k d low high = absurd (omega (arith, high))
-sorted_map f lt (x ∷ xs) sorted k d low high =
-    let all = x ∷ xs in
-    let same = length-map all f in
-    let here = get_or-map f all k x d (omega (arith, high, same)) in
-    let next = get_or-map f all (k + 1) x d (omega (arith, high, same)) in
-    rw (here, next) (sorted k x low (omega (arith, high, same)))

@@ -1,5 +1,6 @@
 -- The report on an identifier other than 0.
-use Rattle.std.proofs.Common.{◌≡◌, ◌≢◌, ◌⊎◌, ◌<◌, ℕ, List, ◌++◌, Option, Some, None, append_assoc, codes, refl, sym, ap, subst, ◌∙◌, inl, inr}
+use Rattle.std.proofs.Common.{◌≡◌, ◌≢◌, ◌⊎◌, ◌<◌, ℕ, List, ◌++◌, Option, Some, None, append_assoc, codes, refl, sym, ap, subst, ◌∙◌, inl}
+use Rattle.std.proofs.Common.{inr}
 use Rattle.hprof_values.specs.declared.ids.IdSize.{IdSize}
 use Rattle.hprof_items.specs.FactValue.{FactValue}
 use Rattle.hprof_rows.specs.Conflict.{IsConsistent}
@@ -45,7 +46,8 @@ module _ (ids : IdSize) (facts : List FactValue) (found : Findings) (retained : 
   pub held_text : (dominators children : List ℕ) → AreDominators ids facts (node_at retained place) dominators
       → AreChildren ids facts (retained_in retained) (node_of retained place) children
       → IsHeldText ids facts found (retained_in retained) (node_at retained place)
-      (total_line (total_of retained) ++ (above_lines found (retained_in retained) dominators ++ child_lines found (retained_in retained) children))
+      (total_line (total_of retained) ++
+      (above_lines found (retained_in retained) dominators ++ child_lines found (retained_in retained) children))
   held_text dominators children are_dominators are_children = record {
     held = (tree.held place above within).0;
     total = total_of retained;

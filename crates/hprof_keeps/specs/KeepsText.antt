@@ -58,7 +58,8 @@ pub record IsRootsText (ids : IdSize) (facts : List FactValue) (found : Findings
   pub is : text ≡ total_line total ++ weakly_line weakly ++ child_lines found retained children
 
 -- of a node that is held: the total, what dominates it, and what is right below it
-pub record IsHeldText (ids : IdSize) (facts : List FactValue) (found : Findings) (retained : ℕ → Sum) (id : ℕ) (text : List ℕ) : Type 0 where
+pub record IsHeldText (ids : IdSize) (facts : List FactValue) (found : Findings) (retained : ℕ → Sum) (id : ℕ)
+    (text : List ℕ) : Type 0 where
   pub held : IsHeld ids facts id
   pub total : Sum
   pub is_total : IsTotal ids facts total

@@ -1,14 +1,16 @@
-//! The labels of classes, and whether a label is the one meant.
+//! The labels of classes and of arrays, and whether a label is the one meant.
 
-ghost use Rattle.std.specs.Prelude.{◌≡◌, IfOk, List, ℕ, codes, string_bytes};
+ghost use Rattle.std.specs.Prelude.{◌≡◌, ◌++◌, IfOk, List, ℕ, codes, string_bytes};
 ghost use Rattle.hprof_heap.specs.HeapFacts.{facts_of};
 ghost use Rattle.hprof_naming.specs.MeantLabel.{IsMeantBy};
+ghost use Rattle.hprof_naming.specs.TypeWord.{type_word};
 ghost use Rattle.hprof_meaning.specs.BareLabels.{IsBareLabelOf};
 ghost use Rattle.hprof_meaning.specs.Judgements.{IsJudged};
 
 use hprof_heap::{Heap, find_name, holds_of_heap};
-use hprof_naming::MeantLabel;
+use hprof_naming::{MeantLabel, type_word};
 use hprof_text::printed;
+use hprof_values::Basic;
 use std::alloc::{AllocError, Global};
 
 /// Returns the label of a class that has no name.
@@ -30,6 +32,14 @@ pub fn bare_label(alloc: Global, heap: &Heap, name: Option<u64>) -> Result<Strin
         Some(bytes) => printed(alloc, bytes),
         None => missing_label(alloc),
     }
+}
+
+/// Returns the label of arrays of a type. If memory runs out, the answer is `AllocError`.
+pub fn array_label(alloc: Global, elem: Basic) -> Result<String, AllocError>
+    ensures { IfOk result (λ text. string_bytes text ≡ type_word elem ++ codes "[]") }
+{
+    let word = type_word(elem);
+    format!(in alloc; "{word}[]")
 }
 
 /// Returns whether the label of classes with this name is the one meant. If memory runs out, the answer is `AllocError`.

@@ -9,7 +9,7 @@ mod meant;
 mod named;
 mod objects;
 
-pub use labels::bare_label;
+pub use labels::{array_label, bare_label};
 pub use meant::{class_dumps_meant, classes_meant};
 pub use named::write_classes_of_name;
 pub use objects::write_objects_of_classes;

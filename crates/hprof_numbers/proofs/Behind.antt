@@ -131,3 +131,24 @@ appends_more Came Other items then number to now from appends = record {
 
   seam : slice_index (then ++ number ∷ []) (length then) ≡ number
   seam = get_or-append_seam then number [] 0
+
+-- ---- an empty list more
+
+module _ (ends items : List ℕ) (rows : AreRows ends items) where
+  none : Appends (λ one. ⊥) items items
+  none = appends_none (λ one. ⊥) items (λ one came. came)
+
+  pub rows_and_empty : AreRows (ends ++ length items ∷ []) items
+  rows_and_empty = rows_more (λ one. ⊥) ends items items rows none
+
+  pub row_and_empty : (number one : ℕ) → IsInRow (ends ++ length items ∷ []) items number one ↔ IsInRow ends items number one
+  row_and_empty number one = (
+    λ it.
+        let low = row_low (ends ++ length items ∷ []) items number one it in
+        elim (last number (length ends) (omega (arith, low, length-append ends (length items ∷ [])))) [
+          | inl before ↦ (row_before (λ other. ⊥) ends items items rows none number one before).0 it
+          | inr is ↦ absurd ((row_last (λ other. ⊥) ends items items rows none one).0
+              (subst (λ (n : ℕ). IsInRow (ends ++ length items ∷ []) items n one) is it))
+        ],
+    λ it. (row_before (λ other. ⊥) ends items items rows none number one (row_low ends items number one it)).1 it,
+  )

@@ -4,8 +4,6 @@ pub mod Placed
 pub mod Counting
 pub mod Filling
 pub mod Starting
-pub mod Ending
-pub mod Pairing
 pub mod Path
 pub mod Arriving
 pub mod Stepping
@@ -13,6 +11,5 @@ pub mod Closing
 pub mod Behind
 pub mod Anew
 pub mod Targets
-pub mod FilledRows
 pub mod Apart
 pub mod TurnedRound

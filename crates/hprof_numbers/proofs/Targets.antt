@@ -1,101 +1,151 @@
 -- The edges of a node more are put in, by numbers.
-use Rattle.std.specs.Prelude.{◌↔◌, Contains, slice_index}
+use Rattle.std.specs.Prelude.{◌↔◌, Contains, Option, slice_index, unwrap_or}
+use Rattle.std.specs.Option.{option_or}
 use Rattle.std.proofs.Common.{◌≡◌, ◌<◌, ◌+◌, ℕ, List, [], ◌∷◌, ◌++◌, Some, None, length, inl, inr, refl, ap, sym, subst, ◌∙◌, arith}
 use Rattle.std.specs.List.Sorted.{IsStrictlyIncreasing}
 use Rattle.std.proofs.lemmas.List.{length-append}
 use Rattle.hprof_numbers.specs.Appends.{Appends}
+use Rattle.hprof_numbers.specs.Lists.{IsListed}
+use Rattle.hprof_numbers.specs.Numbers.{items_in}
 use Rattle.hprof_numbers.specs.Places.{number_in}
+use Rattle.hprof_numbers.specs.Sources.{list_of}
+use Rattle.hprof_numbers.specs.Targets.{AreNumberedEdges, IsNumberOf, number_or}
+use Rattle.hprof_numbers.specs.declared.lists.Lists.{Lists}
 use Rattle.hprof_numbers.proofs.Arriving.{last}
-use Rattle.hprof_numbers.proofs.Ascending.{has_number, number_of, one_place}
-use Rattle.hprof_numbers.proofs.Behind.{AreRows, IsInRow, appends_more, appends_none, appends_same, no_rows, row_before, row_last, row_low, rows_more}
-use Rattle.hprof_numbers.proofs.Placed.{nowhere, stands}
+use Rattle.hprof_numbers.proofs.Ascending.{has_number, number_of}
+use Rattle.hprof_numbers.proofs.Behind.{AreRows, IsInRow, appends_more, appends_same, row_before, row_last, row_low, rows_more}
+use Rattle.hprof_numbers.proofs.Placed.{has_place, stands}
+
+-- ---- the number of a target
+
+or_none : (number : Option ℕ) → option_or number None ≡ number
+or_none None = refl
+or_none (Some number) = refl
+
+or_some : (number : Option ℕ) (other : ℕ) → option_or number (Some other) ≡ Some (unwrap_or number other)
+or_some None other = refl
+or_some (Some number) other = refl
+
+-- what is found and what the other is make the number
+pub number_is : (nodes : List ℕ) (other : Option ℕ) (target : ℕ) (found number : Option ℕ) → found ≡ number_in nodes target
+    → number ≡ option_or found other → number_or nodes other target ≡ number
+number_is nodes other target found number e is = ap (λ (o : Option ℕ). option_or o other) (sym e) ∙ sym is
+
+module _ (nodes : List ℕ) where
+  -- without another number a target that has one is a node
+  pub only_nodes : (target number : ℕ) → number_or nodes None target ≡ Some number
+      → (number < length nodes) × (slice_index nodes number ≡ target)
+  only_nodes target number is = stands nodes target number (sym (or_none (number_in nodes target)) ∙ is)
+
+  pub number_of_node : IsStrictlyIncreasing nodes → (IsTarget : ℕ → Type 0) (number : ℕ)
+      → IsNumberOf nodes None IsTarget number ↔ ((number < length nodes) × IsTarget (slice_index nodes number))
+  number_of_node ascend IsTarget number = (
+    λ it. let at = only_nodes it.0 number it.2 in (at.0, subst IsTarget (sym at.1) it.1),
+    λ it. let node = slice_index nodes number in
+        (node, it.1, or_none (number_in nodes node) ∙ has_place nodes node ascend number it.0 refl),
+  )
+
+  -- what is listed is such a number
+  pub number_listed : (Leads : ℕ → ℕ → Type 0) (other : Option ℕ) (lists : Lists) → AreNumberedEdges Leads nodes other lists
+      → (from number : ℕ) → IsListed lists from number → IsNumberOf nodes other (Leads (slice_index nodes from)) number
+  number_listed Leads other lists edges from number listed =
+      let low = row_low (items_in lists.ends) (items_in lists.items) from number listed in
+      (edges.exact from number (omega (arith, low, edges.as_many))).0 listed
+
+  pub list_low : (target : ℕ) → list_of nodes target < length nodes + 1
+  list_low target = by (number_in nodes target) refl where
+    by : (number : Option ℕ) → number_in nodes target ≡ number → list_of nodes target < length nodes + 1
+    by None e = omega (arith, ap (λ (o : Option ℕ). unwrap_or o (length nodes)) e)
+    by (Some number) e = omega (arith, (stands nodes target number e).0, ap (λ (o : Option ℕ). unwrap_or o (length nodes)) e)
+
+  -- with the number behind all nodes each target has that of its list
+  module _ (other : ℕ) (behind : other ≡ length nodes) where
+    pub number_of_list : (target : ℕ) → number_or nodes (Some other) target ≡ Some (list_of nodes target)
+    number_of_list target =
+        or_some (number_in nodes target) other ∙ ap (λ (n : ℕ). Some (unwrap_or (number_in nodes target) n)) behind
+
+    pub list_of_number : (target number : ℕ) → number_or nodes (Some other) target ≡ Some number → number ≡ list_of nodes target
+    list_of_number target number is = let both = sym is ∙ number_of_list target in cc
+
+-- ---- the targets of a node
 
 -- a number is that of one of the first so many targets
-abbrev pub IsTarget : List ℕ → List ℕ → ℕ → ℕ → Type 0
-IsTarget nodes targets count one = (one < length nodes)
-    × ((place : ℕ) × (place < count) × (slice_index targets place ≡ slice_index nodes one))
+abbrev pub IsFirstNumber : List ℕ → Option ℕ → List ℕ → ℕ → ℕ → Type 0
+IsFirstNumber nodes other targets count number =
+    (place : ℕ) × (place < count) × (number_or nodes other (slice_index targets place) ≡ Some number)
 
-module _ (nodes targets : List ℕ) where
-  pub targets_none : (items : List ℕ) → Appends (IsTarget nodes targets 0) items items
-  targets_none items = appends_none _ items (λ one it. absurd (omega (arith, it.1.1)))
-
-  pub targets_all : (count : ℕ) (items then : List ℕ) → count ≡ length targets → Appends (IsTarget nodes targets count) items then
-      → Appends (λ one. (one < length nodes) × Contains targets (slice_index nodes one)) items then
+module _ (nodes : List ℕ) (other : Option ℕ) (targets : List ℕ) where
+  pub targets_all : (count : ℕ) (items then : List ℕ) → count ≡ length targets
+      → Appends (IsFirstNumber nodes other targets count) items then → Appends (IsNumberOf nodes other (Contains targets)) items then
   targets_all count items then all appends = appends_same _ _ items then
-      (λ one it. (it.0, has_number targets (slice_index nodes one) it.1.0 (omega (arith, it.1.1, all)) it.1.2))
-      (λ one it. let at = number_of targets (slice_index nodes one) it.1 in (it.0, (at.0, omega (arith, at.1, all), at.2)))
+      (λ one it. (slice_index targets it.0, has_number targets _ it.0 (omega (arith, it.1, all)) refl, it.2))
+      (λ one it.
+      let at = number_of targets it.0 it.1 in
+      (at.0, omega (arith, at.1, all), ap (number_or nodes other) at.2 ∙ it.2))
       appends
 
-  module _ (count : ℕ) (items then : List ℕ) (appends : Appends (IsTarget nodes targets count) items then) where
-    later : (one : ℕ) → IsTarget nodes targets count one → IsTarget nodes targets (count + 1) one
-    later one it = (it.0, (it.1.0, omega (arith, it.1.1), it.1.2))
+  module _ (count : ℕ) (items then : List ℕ) (appends : Appends (IsFirstNumber nodes other targets count) items then) where
+    later : (one : ℕ) → IsFirstNumber nodes other targets count one → IsFirstNumber nodes other targets (count + 1) one
+    later one it = (it.0, omega (arith, it.1), it.2)
 
-    -- a target is no node
-    pub target_out : number_in nodes (slice_index targets count) ≡ None → Appends (IsTarget nodes targets (count + 1)) items then
+    -- a target has no number
+    pub target_out : number_or nodes other (slice_index targets count) ≡ None
+        → Appends (IsFirstNumber nodes other targets (count + 1)) items then
     target_out none = appends_same _ _ items then later
-        (λ one it. (
-          it.0,
-          elim (last it.1.0 count it.1.1) [
-            | inl before ↦ (it.1.0, before, it.1.2)
-            | inr is ↦ absurd (nowhere nodes (slice_index targets count) none one it.0 (sym it.1.2 ∙ ap (slice_index targets) is))
-          ],
-        ))
-        appends
-
-    -- or it is
-    pub target_in : (number : ℕ) → IsStrictlyIncreasing nodes → number_in nodes (slice_index targets count) ≡ Some number
-        → Appends (IsTarget nodes targets (count + 1)) items (then ++ number ∷ [])
-    target_in number ascend some =
-        let is = stands nodes (slice_index targets count) number some in
-        appends_more _ (IsTarget nodes targets (count + 1)) items then number later (is.0, (count, omega arith, sym is.1))
-        (λ one it. elim (last it.1.0 count it.1.1) [
-          | inl before ↦ inl (it.0, (it.1.0, before, it.1.2))
-          | inr same ↦ inr (one_place nodes ascend one number it.0 is.0 (sym it.1.2 ∙ ap (slice_index targets) same ∙ sym is.1))
+        (λ one it. elim (last it.0 count it.1) [
+          | inl before ↦ (it.0, before, it.2)
+          | inr is ↦
+              let differ = sym (ap (λ (place : ℕ). number_or nodes other (slice_index targets place)) is ∙ none) ∙ it.2 in
+              absurd cc
         ])
         appends
 
+    -- or it has one
+    pub target_in : (number : ℕ) → number_or nodes other (slice_index targets count) ≡ Some number
+        → Appends (IsFirstNumber nodes other targets (count + 1)) items (then ++ number ∷ [])
+    target_in number some = appends_more _ (IsFirstNumber nodes other targets (count + 1)) items then number later
+        (count, omega arith, some)
+        (λ one it. elim (last it.0 count it.1) [
+          | inl before ↦ inl (it.0, before, it.2)
+          | inr is ↦
+              let same = sym it.2 ∙ ap (λ (place : ℕ). number_or nodes other (slice_index targets place)) is ∙ some in
+              inr cc
+        ])
+        appends
+
+-- ---- the edges of a node
+
 -- the nodes with numbers below a bound have their lists
-pub record HasEdges (Leads : ℕ → ℕ → Type 0) (nodes ends items : List ℕ) (done : ℕ) : Type 0 where
+pub record HasEdges (Leads : ℕ → ℕ → Type 0) (nodes : List ℕ) (other : Option ℕ) (ends items : List ℕ) (done : ℕ) : Type 0 where
   pub rows : AreRows ends items
   pub as_many : length ends ≡ done
-  pub each : (from to : ℕ) → from < done
-      → IsInRow ends items from to ↔ ((to < length nodes) × Leads (slice_index nodes from) (slice_index nodes to))
+  pub each : (from number : ℕ) → from < done
+      → IsInRow ends items from number ↔ IsNumberOf nodes other (Leads (slice_index nodes from)) number
 
-module _ (Leads : ℕ → ℕ → Type 0) (nodes : List ℕ) where
-  pub no_edges : HasEdges Leads nodes [] [] 0
-  no_edges = record { rows = no_rows; as_many = refl; each = λ from to low. absurd (omega (arith, low)) }
+module _ (Leads : ℕ → ℕ → Type 0) (nodes : List ℕ) (other : Option ℕ) (ends items then targets : List ℕ) (from : ℕ)
+    (has : HasEdges Leads nodes other ends items from) (exact : (to : ℕ) → Contains targets to ↔ Leads (slice_index nodes from) to)
+    (appends : Appends (IsNumberOf nodes other (Contains targets)) items then) where
+  abbrev ends_then : List ℕ
+  ends_then = ends ++ length then ∷ []
 
-  module _ (ends items then targets : List ℕ) (number : ℕ) (has : HasEdges Leads nodes ends items number)
-      (exact : (to : ℕ) → Contains targets to ↔ Leads (slice_index nodes number) to)
-      (appends : Appends (λ one. (one < length nodes) × Contains targets (slice_index nodes one)) items then) where
-    abbrev ends_then : List ℕ
-    ends_then = ends ++ length then ∷ []
+  now : (number : ℕ) → IsInRow ends_then then from number ↔ IsNumberOf nodes other (Leads (slice_index nodes from)) number
+  now number =
+      let is = subst (λ (n : ℕ). IsInRow ends_then then n number ↔ IsNumberOf nodes other (Contains targets) number)
+      has.as_many (row_last _ ends items then has.rows appends number) in (
+        λ it. let of = is.0 it in (of.0, (exact of.0).0 of.1, of.2),
+        λ it. is.1 (it.0, (exact it.0).1 it.1, it.2),
+      )
 
-    now : (to : ℕ) → IsInRow ends_then then number to ↔ ((to < length nodes) × Leads (slice_index nodes number) (slice_index nodes to))
-    now to =
-        let is = subst (λ (n : ℕ). IsInRow ends_then then n to ↔ ((to < length nodes) × Contains targets (slice_index nodes to)))
-        has.as_many (row_last _ ends items then has.rows appends to) in (
-          λ it. let at = is.0 it in (at.0, (exact (slice_index nodes to)).0 at.1),
-          λ it. is.1 (it.0, (exact (slice_index nodes to)).1 it.1),
-        )
-
-    pub edges_more : HasEdges Leads nodes ends_then then (number + 1)
-    edges_more = record {
-      rows = rows_more _ ends items then has.rows appends;
-      as_many = omega (arith, length-append ends (length then ∷ []), has.as_many);
-      each = λ from to low. elim (last from number low) [
-        | inl before ↦
-            let is = row_before _ ends items then has.rows appends from to (omega (arith, before, has.as_many)) in
-            (λ it. (has.each from to before).0 (is.0 it), λ it. is.1 ((has.each from to before).1 it))
-        | inr is ↦ subst (λ (n : ℕ). IsInRow ends_then then n to
-            ↔ ((to < length nodes) × Leads (slice_index nodes n) (slice_index nodes to)))
-            (sym is) (now to)
-      ];
-    }
-
-  -- all that is listed so has a number
-  pub edges_within : (ends items : List ℕ) (done : ℕ) → HasEdges Leads nodes ends items done → done ≡ length nodes
-      → (from to : ℕ) → IsInRow ends items from to → to < length ends
-  edges_within ends items done has all from to listed =
-      let low : from < done = omega (arith, row_low ends items from to listed, has.as_many) in
-      omega (arith, ((has.each from to low).0 listed).0, all, has.as_many)
+  pub edges_more : HasEdges Leads nodes other ends_then then (from + 1)
+  edges_more = record {
+    rows = rows_more _ ends items then has.rows appends;
+    as_many = omega (arith, length-append ends (length then ∷ []), has.as_many);
+    each = λ one number low. elim (last one from low) [
+      | inl before ↦
+          let is = row_before _ ends items then has.rows appends one number (omega (arith, before, has.as_many)) in
+          (λ it. (has.each one number before).0 (is.0 it), λ it. is.1 ((has.each one number before).1 it))
+      | inr is ↦ subst (λ (n : ℕ). IsInRow ends_then then n number
+          ↔ IsNumberOf nodes other (Leads (slice_index nodes n)) number)
+          (sym is) (now number)
+    ];
+  }

@@ -4,7 +4,7 @@ pub mod Numbered
 pub mod Counts
 pub mod Ends
 pub mod Lists
-pub mod Pairs
+pub mod Targets
 pub mod Sources
 pub mod Renumbered
 pub mod DepthFirst

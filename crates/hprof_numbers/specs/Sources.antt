@@ -1,10 +1,14 @@
 -- Which nodes lead to a node.
-use Rattle.std.specs.Prelude.{◌≡◌, ◌<◌, ◌≤◌, ℕ, List, length, slice_index}
+use Rattle.std.specs.Prelude.{◌≡◌, ◌<◌, ◌≤◌, ℕ, List, length, slice_index, unwrap_or}
 use Rattle.hprof_numbers.specs.Numbered.{nodes_in}
 use Rattle.hprof_numbers.specs.Numbers.{items_in}
+use Rattle.hprof_numbers.specs.Places.{number_in}
 use Rattle.hprof_numbers.specs.declared.sources.Sources.{Sources}
 use Rattle.hprof_numbers.specs.Lists.{end_in, start_in}
-use Rattle.hprof_numbers.specs.Pairs.{list_of}
+
+-- the list of a node is that of its number; identifiers that are no nodes share one
+abbrev pub list_of : List ℕ → ℕ → ℕ
+list_of nodes node = unwrap_or (number_in nodes node) (length nodes)
 
 -- the nodes, in ascending order
 abbrev pub nodes_of : Sources → List ℕ

@@ -1,10 +1,11 @@
 //! The edges of a graph, as lists of numbers.
 
-ghost use Rattle.std.specs.Prelude.{◌≡◌, ◌↔◌, ◌<◌, ◌≤◌, ℕ, Contains, IfOk, OnOk, length, slice_index};
+ghost use Rattle.std.specs.Prelude.{◌≡◌, ◌↔◌, ◌<◌, ℕ, Contains, IfOk, OnOk, length, slice_index};
 ghost use Rattle.hprof_numbers.specs.Appends.{Appends};
 ghost use Rattle.hprof_numbers.specs.Lists.{IsListed, LeadsWithin, count_in};
 ghost use Rattle.hprof_numbers.specs.Numbered.{nodes_in};
 ghost use Rattle.hprof_numbers.specs.Numbers.{bound_of, items_in};
+ghost use Rattle.hprof_numbers.specs.Targets.{AreNumberedEdges, IsNumberOf, number_or};
 
 use crate::graph::Graph;
 use crate::lists::Lists;
@@ -12,15 +13,23 @@ use crate::numbered::Numbered;
 use crate::numbers::Numbers;
 use std::alloc::{AllocError, Global};
 
-/// Appends the number of each target that is a node. If memory runs out, the answer is `AllocError` and `items` is unspecified.
-fn put_targets(items: &mut Numbers, nodes: &Numbered, targets: &[u64]) -> Result<(), AllocError>
-    requires fit { length (nodes_in nodes.now) ≤ bound_of items.old }
-    ensures items { OnOk result (Appends (λ one. (one < length (nodes_in nodes.now))
-        × Contains targets.now (slice_index (nodes_in nodes.now) one)) (items_in items.old) (items_in items.new)) }
+/// Appends the number of each target. One that is no node has the number `other`, or is left out if there is none. If memory runs out, the
+/// answer is `AllocError` and `items` is unspecified.
+// Inlined, so that `other` is known in the loop over edges.
+#[inline(always)]
+fn put_targets(
+    items: &mut Numbers,
+    nodes: &Numbered,
+    other: Option<usize>,
+    targets: &[u64],
+) -> Result<(), AllocError>
+    requires fit { (target number : ℕ) → number_or (nodes_in nodes.now) other target ≡ Some number → number < bound_of items.old }
+    ensures items { OnOk result
+        (Appends (IsNumberOf (nodes_in nodes.now) other (Contains targets.now)) (items_in items.old) (items_in items.new)) }
     ensures bound { OnOk result (bound_of items.new ≡ bound_of items.old) }
 {
     for target in targets {
-        if let Some(number) = nodes.number_of(*target) {
+        if let Some(number) = nodes.number_of(*target).or(other) {
             items.push(number)?;
         }
     }
@@ -33,8 +42,37 @@ pub fn numbers_of(alloc: Global, nodes: &Numbered, targets: &[u64]) -> Result<Nu
         ↔ ((number < length (nodes_in nodes.now)) × Contains targets.now (slice_index (nodes_in nodes.now) number))) }
 {
     let mut numbers = Numbers::empty(alloc, nodes.len());
-    put_targets(&mut numbers, nodes, targets)?;
+    put_targets(&mut numbers, nodes, None, targets)?;
     Ok(numbers)
+}
+
+/// Returns for each node of a graph, by its number, the numbers of its targets, in one pass over all edges. A target that is no node has
+/// the number `other`, or is left out if there is none. All numbers are below `most`, and there is room for so many lists. If memory runs
+/// out, the answer is `AllocError`.
+// Inlined, as `put_targets` is.
+#[inline(always)]
+pub(crate) fn numbered_edges<G: Graph>(
+    alloc: Global,
+    graph: &mut G,
+    nodes: &Numbered,
+    other: Option<usize>,
+    most: usize,
+) -> Result<Lists, AllocError>
+    requires stands { G.stands graph.old }
+    requires fit { (target number : ℕ) → number_or (nodes_in nodes.now) other target ≡ Some number → number < most }
+    ensures edges { IfOk result (AreNumberedEdges (G.leads graph.old) (nodes_in nodes.now) other) }
+    ensures stays { (node to : ℕ) → G.leads graph.new node to ↔ G.leads graph.old node to }
+    ensures stands { G.stands graph.new }
+{
+    let mut ends = Numbers::with_capacity(alloc, most, 0)?;
+    let mut items = Numbers::empty(alloc, most);
+    let mut targets = Vec::new(alloc);
+    for number in 0..nodes.len() {
+        graph.targets_of(nodes.node(number), &mut targets)?;
+        put_targets(&mut items, nodes, other, &targets)?;
+        ends.push_or_widen(alloc, items.len())?;
+    }
+    Ok(Lists { ends, items })
 }
 
 /// Returns for each node of a graph, by its number, the numbers of the nodes that it leads to, in one pass over all edges. Targets that are
@@ -52,13 +90,5 @@ pub fn edges_of<G: Graph>(
     ensures stays { (node to : ℕ) → G.leads graph.new node to ↔ G.leads graph.old node to }
     ensures stands { G.stands graph.new }
 {
-    let mut ends = Numbers::with_capacity(alloc, nodes.len(), 0)?;
-    let mut items = Numbers::empty(alloc, nodes.len());
-    let mut targets = Vec::new(alloc);
-    for number in 0..nodes.len() {
-        graph.targets_of(nodes.node(number), &mut targets)?;
-        put_targets(&mut items, nodes, &targets)?;
-        ends.push_or_widen(alloc, items.len())?;
-    }
-    Ok(Lists { ends, items })
+    numbered_edges(alloc, graph, nodes, None, nodes.len())
 }

@@ -1,10 +1,11 @@
 //! Lists of numbers.
 
-ghost use Rattle.std.specs.Prelude.{◌≡◌, ◌<◌, ◌≤◌, ℕ, length, slice_index};
+ghost use Rattle.std.specs.Prelude.{◌≡◌, ◌↔◌, ◌<◌, ◌≤◌, ◌+◌, ℕ, IfOk, length, slice_index};
 ghost use Rattle.hprof_numbers.specs.Ends.{start_at};
 ghost use Rattle.hprof_numbers.specs.Numbers.{items_in};
 
 use crate::numbers::Numbers;
+use std::alloc::{AllocError, Global};
 
 /// A list of numbers for each number from 0 on. The lists are in one vector, one after the other.
 #[derive(Drop)]
@@ -19,7 +20,17 @@ pub struct Lists {
 }
 
 impl Lists {
-    ghost use Rattle.hprof_numbers.specs.Lists.{count_in, end_in, start_in};
+    ghost use Rattle.hprof_numbers.specs.Lists.{IsListed, count_in, end_in, start_in};
+
+    /// Returns the lists with one more, empty one. If memory runs out, the answer is `AllocError`.
+    pub(crate) fn with_empty_list(self, alloc: Global) -> Result<Lists, AllocError>
+        ensures as_many { IfOk result (λ lists. count_in lists ≡ count_in self + 1) }
+        ensures same { IfOk result (λ lists. (number one : ℕ) → IsListed lists number one ↔ IsListed self number one) }
+    {
+        let Lists { mut ends, items } = self;
+        ends.push_or_widen(alloc, items.len())?;
+        Ok(Lists { ends, items })
+    }
 
     /// Returns the number of lists.
     pub fn len(&self) -> usize

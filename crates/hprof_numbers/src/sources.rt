@@ -7,7 +7,8 @@ ghost use Rattle.hprof_numbers.specs.Numbers.{items_in};
 use crate::lists::Lists;
 use crate::numbered::Numbered;
 
-/// For each node the nodes that may have an edge to it. All that have one are there. A caller checks the edges of each.
+/// For each node the nodes with an edge to it. Identifiers that are no nodes share one list, so a caller checks the edges of each of its
+/// nodes.
 #[derive(Drop)]
 pub struct Sources {
     pub(crate) nodes: Numbered,
@@ -44,8 +45,10 @@ impl Sources {
         ensures listed { (from to : ℕ) → place < end_of self.now to → number_at self.now place < length (nodes_of self.now)
             → slice_index (nodes_of self.now) (number_at self.now place) ≡ from → MatchOption result ⊥ (λ node. node ≡ from) }
         ensures stands { IfSome result (λ node. place < length (items_in self.now.lists.items)
-            × (number_at self.now place < length (nodes_of self.now)) × (node ≡ slice_index (nodes_of self.now) (number_at self.now place))) }
-        ensures none { IfNone result (place < length (items_in self.now.lists.items) → number_at self.now place < length (nodes_of self.now) → ⊥) }
+            × (number_at self.now place < length (nodes_of self.now))
+            × (node ≡ slice_index (nodes_of self.now) (number_at self.now place))) }
+        ensures none { IfNone result (place < length (items_in self.now.lists.items)
+            → number_at self.now place < length (nodes_of self.now) → ⊥) }
     {
         if self.lists.items.len() <= place {
             return None;

@@ -18,7 +18,7 @@ mod targets;
 pub use chosen_edges::{AllEdges, ChosenEdges, KeptEdges};
 pub use heap_graph::{HeapGraph, graph_of};
 pub use index::{ReferrerIndex, index_referrers};
-pub use nodes::nodes_of;
+pub use nodes::{id_of, nodes_of, push_node, sort_once};
 pub use numbered_graph::NumberedGraph;
 pub use numbering::graph_by_numbers;
 pub use reach::{Reach, reach_of, reach_without};

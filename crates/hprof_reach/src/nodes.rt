@@ -12,8 +12,8 @@ use hprof_heap::{Heap, ObjectDump, Table, table_facts, table_len, to_class_dump,
 use hprof_items::Fact;
 use std::alloc::{AllocError, Global};
 
-/// Appends an identifier, unless it is 0.
-fn push_node(nodes: &mut Vec<u64>, id: u64) -> Result<(), AllocError>
+/// Appends an identifier, unless it is 0. If memory runs out, the answer is `AllocError`.
+pub fn push_node(nodes: &mut Vec<u64>, id: u64) -> Result<(), AllocError>
     ensures { OnOk result ((node : ℕ) → Contains nodes.new.items node ↔ (Contains nodes.old.items node ⊎ ((node ≢ 0) × (id ≡ node)))) }
 {
     if id != 0 {
@@ -23,7 +23,7 @@ fn push_node(nodes: &mut Vec<u64>, id: u64) -> Result<(), AllocError>
 }
 
 /// Returns the identifier of an object dump.
-fn id_of(dump: &ObjectDump<'_>) -> u64
+pub fn id_of(dump: &ObjectDump<'_>) -> u64
     ensures { IsObject result (fact_of_object dump.now) }
 {
     match *dump {
@@ -63,7 +63,7 @@ fn push_objects(heap: &Heap, nodes: &mut Vec<u64>) -> Result<(), AllocError>
 
 /// Sorts numbers, and removes repetitions. The numbers of each table ascend, so this merges two runs. If memory runs out, the answer is
 /// `AllocError`.
-fn sort_once(nodes: &mut Vec<u64>) -> Result<(), AllocError>
+pub fn sort_once(nodes: &mut Vec<u64>) -> Result<(), AllocError>
     ensures ascend { OnOk result (IsStrictlyIncreasing nodes.new.items) }
     ensures same { OnOk result ((node : ℕ) → Contains nodes.new.items node ↔ Contains nodes.old.items node) }
 {

@@ -6,7 +6,8 @@ use Rattle.std.specs.Ordering.{nat_cmp, ordering_then}
 use Rattle.std.specs.declared.cmp.Ordering.{Ordering}
 use Rattle.std.specs.declared.cmp.Ordering.TheVariants.{Less, Equal, Greater}
 use Rattle.hprof_values.specs.declared.ids.IdSize.{IdSize}
-use Rattle.hprof_items.specs.FactValue.{FactValue, Name, Load, Unload, Frame, Trace, Start, End, Rooted, Class, Instance, ObjArray, PrimArray}
+use Rattle.hprof_items.specs.FactValue.{FactValue, Name, Load, Unload, Frame, Trace, Start, End, Rooted, Class, Instance, ObjArray}
+use Rattle.hprof_items.specs.FactValue.{PrimArray}
 use Rattle.hprof_rows.specs.declared.table.Table.TheVariants as tables
 use Rattle.hprof_rows.specs.Conflict.{IsConsistent}
 use Rattle.hprof_rows.specs.Order.{IsBefore, IsCanonicalOrder}
@@ -109,7 +110,8 @@ stands_elsewhere (PrimArray id trace elem bytes) e = refl
 pub dumps_of_table : (facts : List FactValue) → dumps_in (facts_of_table tables.Classes facts) ≡ dumps_in facts
 dumps_of_table [] = refl
 dumps_of_table (fact ∷ facts) = by_place (dumps_of_table facts) (stands_in (number_of_table tables.Classes) fact) refl where
-  by_place : dumps_in (facts_of_table tables.Classes facts) ≡ dumps_in facts → (b : Bool) → stands_in (number_of_table tables.Classes) fact ≡ b
+  by_place : dumps_in (facts_of_table tables.Classes facts) ≡ dumps_in facts → (b : Bool) → stands_in (number_of_table tables.Classes) fact
+      ≡ b
       → dumps_in (cond b (fact ∷ facts_of_table tables.Classes facts) (facts_of_table tables.Classes facts)) ≡ dumps_in (fact ∷ facts)
   by_place rest true e = ap (cons_option (class_in fact)) rest
   by_place rest false e = rest ∙ sym (ap (λ (found : Option ClassValue). cons_option found (dumps_in facts)) (stands_elsewhere fact e))
@@ -157,7 +159,8 @@ dumps_without fact left rest e none =
     ap dumps_in e ∙ ap (λ (found : Option ClassValue). cons_option found (dumps_in rest)) (no_class fact none)
 
 -- where no facts are left no bytes are
-pub none_left : (naming : Naming) (ids : IdSize) (facts left : List FactValue) → left ≡ [] → length (classes_text naming ids facts (dumps_in left)) ≡ 0
+pub none_left : (naming : Naming) (ids : IdSize) (facts left : List FactValue) → left ≡ []
+    → length (classes_text naming ids facts (dumps_in left)) ≡ 0
 none_left naming ids facts left none = ap (λ (l : List FactValue). length (classes_text naming ids facts (dumps_in l))) none
 
 -- the lines of all dumps are the report

@@ -1,6 +1,7 @@
 -- The field at a place of a layout, found class by class.
 use Rattle.std.specs.Prelude.{◌≢◌}
-use Rattle.std.proofs.Common.{◌≡◌, ◌-◌, ◌<◌, ◌≤◌, ℕ, zero, suc, List, [], ◌∷◌, ◌++◌, length, map, Option, Some, None, refl, sym, ap, subst, ◌∙◌, arith}
+use Rattle.std.proofs.Common.{◌≡◌, ◌-◌, ◌<◌, ◌≤◌, ℕ, zero, suc, List, [], ◌∷◌, ◌++◌, length, map, Option, Some, None, refl, sym, ap, subst}
+use Rattle.std.proofs.Common.{◌∙◌, arith}
 use Rattle.std.specs.List.{AllByRecursion, slice_get}
 use Rattle.std.specs.Option.{option_map}
 use Rattle.std.proofs.lemmas.List.{length-map}
@@ -21,7 +22,8 @@ use Rattle.hprof_reports.proofs.Places.{behind_front, within_front}
 
 -- ---- classes that were passed over
 
-pub all_passed : (facts : List FactValue) (passed : List ℕ) (at next : ℕ) → AllByRecursion (λ (class : ℕ). HasSameLayout facts class at) passed
+pub all_passed : (facts : List FactValue) (passed : List ℕ) (at next : ℕ)
+    → AllByRecursion (λ (class : ℕ). HasSameLayout facts class at) passed
     → HasSameLayout facts at next → AllByRecursion (λ (class : ℕ). HasSameLayout facts class next) (passed ++ at ∷ [])
 all_passed facts [] at next all same = (same, tt)
 all_passed facts (class ∷ passed) at next all same =
@@ -47,7 +49,8 @@ own_slot dump place entry there =
 
 -- ---- what is still to be found
 
--- the field at the place of the layout of the class is the one at this place of the layout of that class, from which at most so many classes
+-- the field at the place of the layout of the class is the one at this place of the layout of that class, from which at most so many
+-- classes
 -- are left
 pub record IsStillAt (facts : List FactValue) (class place at before left : ℕ) : Type 0 where
   pub found : (slots : List Slot) (slot : Slot) → IsKnown facts class slots → slice_get slots place ≡ Some slot
@@ -90,7 +93,8 @@ module _ (facts : List FactValue) (class place at before left : ℕ) (still : Is
   not_at_end none slots slot known there = let some = (some_left slots slot known there).1 in omega (arith, some, none)
 
   -- it has a dump
-  pub not_missing : HasNoDump facts at → (slots : List Slot) (slot : Slot) → IsKnown facts class slots → slice_get slots place ≡ Some slot → ⊥
+  pub not_missing : HasNoDump facts at → (slots : List Slot) (slot : Slot) → IsKnown facts class slots → slice_get slots place ≡ Some slot
+      → ⊥
   not_missing none slots slot known there =
       let it = still.found slots slot known there in
       has_dump facts at left it.0 (some_left slots slot known there).0 none it.1
@@ -98,9 +102,11 @@ module _ (facts : List FactValue) (class place at before left : ℕ) (still : Is
   module _ (dump : ClassValue) (only : (other : ClassValue) → HasDump facts other → other.id ≡ at → dump ≡ other) where
     -- the field is one of its own
     pub found_here : (field : Field) → Some field ≡ option_map field_of (slice_get dump.fields before)
-        → (slots : List Slot) (slot : Slot) → IsKnown facts class slots → slice_get slots place ≡ Some slot → Some field.name ≡ Some slot.name
+        → (slots : List Slot) (slot : Slot) → IsKnown facts class slots → slice_get slots place ≡ Some slot → Some field.name
+        ≡ Some slot.name
     found_here field is slots slot known there = go (slice_get dump.fields before) refl is where
-      go : (entry : Option Entry) → slice_get dump.fields before ≡ entry → Some field ≡ option_map field_of entry → Some field.name ≡ Some slot.name
+      go : (entry : Option Entry) → slice_get dump.fields before ≡ entry → Some field ≡ option_map field_of entry → Some field.name
+          ≡ Some slot.name
       go None e none = absurd cc
       go (Some entry) e same =
           let it = still.found slots slot known there in

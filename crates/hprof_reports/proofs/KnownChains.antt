@@ -24,7 +24,8 @@ module _ (facts : List FactValue) (class classes : ℕ) where
       → (passed + length rest ≤ classes) ⊎ IsCyclic facts class
   chain_fits at passed [] walking chain = inl (let few = walking.few in omega arith)
   chain_fits at passed (dump ∷ rest) walking chain = elim (leb_tells classes passed) [
-    | inl full ↦ inr (walked_round facts class at passed classes walking dump chain.0 chain.2 chain.1 (let few = walking.few in omega arith))
+    | inl full ↦ inr (walked_round facts class at passed classes walking dump chain.0 chain.2 chain.1
+        (let few = walking.few in omega arith))
     | inr more ↦
         elim (chain_fits dump.parent (passed + 1) rest
         (walked_more facts class at passed classes walking dump chain.0 chain.2 chain.1 (omega arith)) chain.3) [
@@ -78,7 +79,8 @@ module _ (facts : List FactValue) (class count : ℕ) (slots : List Slot) where
         }
 
   -- a layout that has a slot is of a class, and some class is left
-  pub some_class : (slot : Slot) (others : List Slot) → slots ≡ slot ∷ others → IsKnownWithin facts class slots count → (class ≢ 0) × (0 < count)
+  pub some_class : (slot : Slot) (others : List Slot) → slots ≡ slot ∷ others → IsKnownWithin facts class slots count → (class ≢ 0)
+      × (0 < count)
   some_class slot others there known = go known.dumps known.chain known.slots_are known.few where
     go : (dumps : List ClassValue) → IsChain facts class dumps 0 → slots ≡ slots_of dumps → length dumps ≤ count → (class ≢ 0) × (0 < count)
     go [] chain are few = let none : slot ∷ others ≡ [] = sym there ∙ are in absurd cc

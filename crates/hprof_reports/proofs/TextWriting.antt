@@ -42,7 +42,8 @@ module _ {A : Type 0} (r : Result A WriteStop) where
       rw e (WritesFront-then old new new a b first (0, omega arith, Appends-nil new))
 
 -- the first text was written, and then the next as far as it went
-pub text_then : {A : Type 0} (r : Result A WriteStop) (old mid new : Option (List ℕ)) (a b : List ℕ) → Appends old mid a → WritesText mid new r b
+pub text_then : {A : Type 0} (r : Result A WriteStop) (old mid new : Option (List ℕ)) (a b : List ℕ) → Appends old mid a
+    → WritesText mid new r b
     → WritesText old new r (a ++ b)
 text_then (Ok done) old mid new a b first second = Appends-trans old mid new a b first second
 text_then (Err stop) old mid new a b first second = WritesFront-then old mid new a b first second
@@ -75,7 +76,8 @@ pub digits_split : (bytes front rest : List ℕ) → bytes ≡ front ++ rest →
 digits_split bytes front rest e = ap encode_lower e ∙ encode_with-append lower_digits front rest
 
 -- the line of contents that are there
-pub contents_are : (bytes : List ℕ) → (length bytes == 0) ≡ false → contents_text bytes ≡ codes "bytes " ++ (encode_lower bytes ++ codes "\n")
+pub contents_are : (bytes : List ℕ) → (length bytes == 0) ≡ false → contents_text bytes
+    ≡ codes "bytes " ++ (encode_lower bytes ++ codes "\n")
 contents_are [] some = absurd cc
 contents_are (byte ∷ bytes) some = refl
 
@@ -99,7 +101,8 @@ text_ends written well IsText before after (Err (stops.Refused refusal)) text is
 pub report_ends : {W : Type 0} (written : W → Option (List ℕ)) (well : W → Health) (IsText : IdSize → List FactValue → List ℕ → Type 0)
     (heap : Heap) (before after : W) (r : Result (Unit {0}) WriteStop)
     → (text : List ℕ) × IsText (size_of heap) (facts_of heap) text × WritesText (written before) (written after) r text
-    → LeavesTarget r (well after) → EndsWriting written well (IsText (heap_of heap).ids (heap_of heap).facts) (λ refusal. ⊥) ⊤ before after r
+    → LeavesTarget r (well after)
+    → EndsWriting written well (IsText (heap_of heap).ids (heap_of heap).facts) (λ refusal. ⊥) ⊤ before after r
 unfolding facts_of size_of
 report_ends written well IsText heap before after r wrote health =
     text_ends written well (IsText (heap_of heap).ids (heap_of heap).facts) before after r wrote.0 wrote.1 wrote.2 health

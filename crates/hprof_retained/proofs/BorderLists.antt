@@ -1,6 +1,7 @@
 -- The nodes on both sides of the border, as they are collected.
 use Rattle.std.specs.Prelude.{◌↔◌, ◌≢◌, Contains}
-use Rattle.std.proofs.Common.{◌≡◌, ◌⊎◌, ◌==◌, ◌∙◌, ℕ, Bool, true, false, not, Some, List, [], ◌++◌, get_or, length, refl, sym, ap, subst, inl, inr, arith, eq-eqb, eqb-true, ne_eqb}
+use Rattle.std.proofs.Common.{◌≡◌, ◌⊎◌, ◌==◌, ◌∙◌, ℕ, Bool, true, false, not, Some, List, [], ◌++◌, get_or, length, refl, sym, ap, subst}
+use Rattle.std.proofs.Common.{inl, inr, arith, eq-eqb, eqb-true, ne_eqb}
 use Rattle.std.proofs.lemmas.List.Elements.{Contains-append_cases, Contains-append_left, Contains-append_right, Contains-get_or}
 use Rattle.std.proofs.lemmas.List.Folds.{list_any_at, list_any_none}
 use Rattle.hprof_items.specs.FactValue.{FactValue, Instance}

@@ -14,6 +14,7 @@ use crate::retained::Retained;
 use hprof_edges::LeftOut;
 use hprof_heap::{Heap, ObjectDump, Table, table_facts, to_class_dump, to_object_dump};
 use hprof_items::Fact;
+use hprof_reach::{id_of, push_node, sort_once};
 use std::alloc::{AllocError, Global};
 
 /// Returns whether a class has weak fields.
@@ -21,27 +22,6 @@ fn has_weak(weak: &LeftOut, class: u64) -> bool
     ensures { result ≡ has_class (fields_in weak.now) class }
 {
     !weak.of(class).is_empty()
-}
-
-/// Returns the identifier of an object dump.
-fn id_of(dump: &ObjectDump<'_>) -> u64
-    ensures { IsObject result (fact_of_object dump.now) }
-{
-    match *dump {
-        ObjectDump::Instance { id, .. } => id,
-        ObjectDump::ObjArray { id, .. } => id,
-        ObjectDump::PrimArray { id, .. } => id,
-    }
-}
-
-/// Appends an identifier, unless it is 0.
-fn push_node(nodes: &mut Vec<u64>, id: u64) -> Result<(), AllocError>
-    ensures { OnOk result ((node : ℕ) → Contains nodes.new.items node ↔ (Contains nodes.old.items node ⊎ ((node ≢ 0) × (id ≡ node)))) }
-{
-    if id != 0 {
-        nodes.push(id)?;
-    }
-    Ok(())
 }
 
 /// Appends an identifier, unless it is 0 or has a place in the tree.
@@ -66,16 +46,6 @@ fn push_classes(heap: &Heap, retained: &Retained, others: &mut Vec<u64>) -> Resu
             push_other(retained, others, dump.id)?;
         }
     }
-    Ok(())
-}
-
-/// Sorts numbers, and removes repetitions. If memory runs out, the answer is `AllocError`.
-fn sort_once(nodes: &mut Vec<u64>) -> Result<(), AllocError>
-    ensures ascend { OnOk result (IsStrictlyIncreasing nodes.new.items) }
-    ensures same { OnOk result ((node : ℕ) → Contains nodes.new.items node ↔ Contains nodes.old.items node) }
-{
-    nodes.sort()?;
-    nodes.dedup();
     Ok(())
 }
 

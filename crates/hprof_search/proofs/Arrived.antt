@@ -1,5 +1,6 @@
 -- A number is found.
-use Rattle.std.proofs.Common.{◌≡◌, ◌⊎◌, ◌<◌, ◌+◌, ℕ, Bool, true, false, not, cond, List, [], ◌∷◌, ◌++◌, Contains, length, slice_index, slice_set, get_or, count_by, inl, inr, refl, sym, ap, subst, ◌∙◌, arith, add-zero, append-nil, length-append}
+use Rattle.std.proofs.Common.{◌≡◌, ◌⊎◌, ◌<◌, ◌+◌, ℕ, Bool, true, false, not, cond, List, [], ◌∷◌, ◌++◌, Contains, length, slice_index}
+use Rattle.std.proofs.Common.{slice_set, get_or, count_by, inl, inr, refl, sym, ap, subst, ◌∙◌, arith, add-zero, append-nil, length-append}
 use Rattle.std.proofs.Math.ListN.{length-set}
 use Rattle.std.proofs.lemmas.List.{get_or-set_same, get_or-set_other}
 use Rattle.std.proofs.lemmas.List.Elements.{Contains-push, Contains-push_cases, Contains-append_left}

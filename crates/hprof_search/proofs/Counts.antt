@@ -1,5 +1,6 @@
 -- The numbers of a level, and how many are left.
-use Rattle.std.proofs.Common.{◌≡◌, ◌↔◌, ◌<◌, ◌≤◌, ◌+◌, ◌==◌, ℕ, true, false, not, List, [], ◌∷◌, Contains, count_by, get_or, length, replicate, inl, inr, refl, ap, subst, arith, eq-eqb}
+use Rattle.std.proofs.Common.{◌≡◌, ◌↔◌, ◌<◌, ◌≤◌, ◌+◌, ◌==◌, ℕ, true, false, not, List, [], ◌∷◌, Contains, count_by, get_or, length}
+use Rattle.std.proofs.Common.{replicate, inl, inr, refl, ap, subst, arith, eq-eqb}
 use Rattle.std.proofs.lemmas.List.{get_or-replicate, get_or_past, length-replicate}
 use Rattle.std.proofs.lemmas.List.Sums.{count_by-le-length}
 use Rattle.hprof_search.specs.Finds.{Finds, Follows, is_found}

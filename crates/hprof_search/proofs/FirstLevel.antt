@@ -8,7 +8,8 @@ use Rattle.hprof_search.proofs.Levels.{StartsIn, StepsIn, IsSearched}
 
 module _ (Leads : ℕ → ℕ → Type 0) (nodes starts : List ℕ) (old new : Finds) (none : (number : ℕ) → is_found old number ≡ false)
     (many : length old.found ≡ length nodes) (follows : Follows (LeadsTo nodes None starts) old new) where
-  pub start_distance : (number : ℕ) → is_found new number ≡ true → IsDistance (StartsIn nodes starts) (StepsIn Leads nodes) (slice_index nodes number) 0
+  pub start_distance : (number : ℕ) → is_found new number ≡ true
+      → IsDistance (StartsIn nodes starts) (StepsIn Leads nodes) (slice_index nodes number) 0
   start_distance number found =
       let is = follows.came number (none number) found in
       let more = follows.as_many in
@@ -23,7 +24,8 @@ module _ (Leads : ℕ → ℕ → Type 0) (nodes starts : List ℕ) (old new : F
   complete number zero below close reaches = follows.all number number (omega arith) (refl, reaches.1)
   complete number (suc count) below close reaches = absurd (omega arith)
 
-  pub searched_first : (level : List ℕ) → ((number : ℕ) → Contains level number ↔ ((is_found old number ≡ false) × (is_found new number ≡ true)))
+  pub searched_first : (level : List ℕ)
+      → ((number : ℕ) → Contains level number ↔ ((is_found old number ≡ false) × (is_found new number ≡ true)))
       → IsSearched Leads nodes starts new level 0
   searched_first level same = record {
     as_many = follows.as_many ∙ many;

@@ -1,5 +1,6 @@
 -- What is found where steps are followed, and then more steps.
-use Rattle.std.proofs.Common.{◌≡◌, ◌⊎◌, ◌↔◌, ◌<◌, ◌≤◌, ◌++◌, ℕ, Bool, true, false, List, [], Contains, length, slice_index, inl, inr, refl, sym, ap, subst, ◌∙◌, arith, append_assoc, append-nil}
+use Rattle.std.proofs.Common.{◌≡◌, ◌⊎◌, ◌↔◌, ◌<◌, ◌≤◌, ◌++◌, ℕ, Bool, true, false, List, [], Contains, length, slice_index, inl, inr, refl}
+use Rattle.std.proofs.Common.{sym, ap, subst, ◌∙◌, arith, append_assoc, append-nil}
 use Rattle.std.proofs.lemmas.List.{get_or_past}
 use Rattle.hprof_numbers.proofs.Places.{splits}
 use Rattle.hprof_search.specs.Finds.{Finds, Follows, IsLeastLed, is_found}
@@ -21,7 +22,10 @@ follows_none Led finds none = record {
   stays = λ number found. (found, refl);
   came = λ number not_found found. absurd (cc);
   all = λ from number below led. absurd (none from number led);
-  next = λ number. (λ has. inl has, λ either. elim either [ inl has ↦ has | inr both ↦ let no = both.0 in let yes = both.1 in absurd (cc) ]);
+  next = λ number. (
+    λ has. inl has,
+    λ either. elim either [ inl has ↦ has | inr both ↦ let no = both.0 in let yes = both.1 in absurd (cc) ],
+  );
   order = ([], sym (append-nil finds.order), sym (append-nil finds.next));
   counted = refl;
 }
@@ -36,7 +40,11 @@ follows_same Led Same old new same follows =
       came = λ number not_found found.
           let below = found_within new number found in
           let is = follows.came number not_found found in
-          record { led = (same _ number (omega arith)).0 is.led; least = λ other led. is.least other ((same other number (omega arith)).1 led) };
+          record {
+            led = (same _ number (omega arith)).0 is.led;
+            least =
+                λ other led. is.least other ((same other number (omega arith)).1 led);
+          };
       all = λ from number below led. follows.all from number below ((same from number below).1 led);
       next = follows.next;
       order = follows.order;
@@ -51,7 +59,8 @@ module _ (First Then : ℕ → ℕ → Type 0) (old middle new : Finds) (first :
   stays_too : (number : ℕ) → is_found old number ≡ true → is_found new number ≡ true
   stays_too number found = (second.stays number (first.stays number found).0).0
 
-  came_too : (number : ℕ) → is_found old number ≡ false → is_found new number ≡ true → IsLeastLed Both (slice_index new.before number) number
+  came_too : (number : ℕ) → is_found old number ≡ false → is_found new number ≡ true
+      → IsLeastLed Both (slice_index new.before number) number
   came_too number not_found found = elim (true_or_false (is_found middle number)) [
     | inl was ↦
         let is = first.came number not_found was in
@@ -74,7 +83,8 @@ module _ (First Then : ℕ → ℕ → Type 0) (old middle new : Finds) (first :
         }
   ]
 
-  next_to : (number : ℕ) → Contains new.next number → Contains old.next number ⊎ ((is_found old number ≡ false) × (is_found new number ≡ true))
+  next_to : (number : ℕ) → Contains new.next number → Contains old.next number
+      ⊎ ((is_found old number ≡ false) × (is_found new number ≡ true))
   next_to number has = elim ((second.next number).0 has) [
     | inl earlier ↦ elim ((first.next number).0 earlier) [
       | inl was ↦ inl was
@@ -86,7 +96,8 @@ module _ (First Then : ℕ → ℕ → Type 0) (old middle new : Finds) (first :
     ]
   ]
 
-  next_from : (number : ℕ) → Contains old.next number ⊎ ((is_found old number ≡ false) × (is_found new number ≡ true)) → Contains new.next number
+  next_from : (number : ℕ) → Contains old.next number ⊎ ((is_found old number ≡ false) × (is_found new number ≡ true))
+      → Contains new.next number
   next_from number either = elim either [
     | inl was ↦ (second.next number).1 (inl ((first.next number).1 (inl was)))
     | inr came ↦ elim (true_or_false (is_found middle number)) [

@@ -1,5 +1,6 @@
 -- A path, from its start on.
-use Rattle.std.proofs.Common.{◌≡◌, ℕ, zero, suc, ◌+◌, ◌-◌, ◌<◌, ◌≤◌, List, [], ◌∷◌, ◌++◌, length, reverse, slice_index, inl, inr, refl, sym, ap, subst, subst₂, ◌∙◌, arith, length-append, Some, None}
+use Rattle.std.proofs.Common.{◌≡◌, ℕ, zero, suc, ◌+◌, ◌-◌, ◌<◌, ◌≤◌, List, [], ◌∷◌, ◌++◌, length, reverse, slice_index, inl, inr, refl, sym}
+use Rattle.std.proofs.Common.{ap, subst, subst₂, ◌∙◌, arith, length-append, Some, None}
 use Rattle.std.proofs.lemmas.Bool.{cases_order}
 use Rattle.std.proofs.lemmas.List.{reverse-reverse, reverse-append}
 use Rattle.std.proofs.Math.ListN.{get_or-append}
@@ -30,11 +31,13 @@ module _ (Starts : ℕ → Type 0) (Steps : ℕ → ℕ → Type 0) where
         ends = last;
         least = λ place below. elim (cases_order place count) [
           | inl here ↦
-              let P : ℕ → Type 0 = λ k. IsLeastBefore Starts Steps k (slice_index (nodes ++ node ∷ []) k) (slice_index (nodes ++ node ∷ []) (suc k)) in
+              let P : ℕ → Type 0 =
+              λ k. IsLeastBefore Starts Steps k (slice_index (nodes ++ node ∷ []) k) (slice_index (nodes ++ node ∷ []) (suc k)) in
               subst P (sym here) (subst₂ (IsLeastBefore Starts Steps count) (sym (same count (omega arith) ∙ is.ends)) (sym last) least)
           | inr apart ↦
               let short : place < count = elim apart [ inl lt ↦ lt | inr gt ↦ absurd (omega arith) ] in
-              subst₂ (IsLeastBefore Starts Steps place) (sym (same place (omega arith))) (sym (same (suc place) (omega arith))) (is.least place short)
+              subst₂ (IsLeastBefore Starts Steps place) (sym (same place (omega arith))) (sym (same (suc place) (omega arith)))
+              (is.least place short)
         ];
       }
 
@@ -108,7 +111,8 @@ module _ (Starts : ℕ → Type 0) (Steps : ℕ → ℕ → Type 0) where
       let is = path_forth node nodes path in
       let long = is.long in
       let next : suc place ≡ place + 1 = omega arith in
-      subst (λ (k : ℕ). IsLeastBefore Starts Steps place (slice_index nodes place) (slice_index nodes k)) next (is.least place (omega arith))
+      subst (λ (k : ℕ). IsLeastBefore Starts Steps place (slice_index nodes place) (slice_index nodes k)) next
+      (is.least place (omega arith))
 
   -- where there is no distance there is no walk
   pub no_walk : (node : ℕ) (nodes : List ℕ) → HasDistance Starts Steps node None → IsWalk Starts Steps nodes node → ⊥
@@ -140,7 +144,8 @@ module _ (Starts : ℕ → Type 0) (Steps : ℕ → ℕ → Type 0) where
         ends = ap (slice_index (nodes ++ node ∷ [])) end ∙ last;
       }
 
-  walk_of : (count node : ℕ) → Reaches Starts Steps count node → (nodes : List ℕ) × IsWalk Starts Steps nodes node × (length nodes ≡ count + 1)
+  walk_of : (count node : ℕ) → Reaches Starts Steps count node → (nodes : List ℕ) × IsWalk Starts Steps nodes node
+      × (length nodes ≡ count + 1)
   walk_of zero node reaches = (
     node ∷ [],
     record { some = omega arith; starts = reaches; steps = λ place below. absurd (omega arith); ends = refl },

@@ -1,5 +1,6 @@
 -- What was found by a search up to a level, by numbers.
-use Rattle.std.proofs.Common.{◌≡◌, ◌⊎◌, ◌↔◌, ◌<◌, ◌≤◌, ℕ, zero, suc, Bool, true, false, List, Contains, length, slice_index, inl, inr, refl, sym, subst, subst₂, ◌∙◌, arith}
+use Rattle.std.proofs.Common.{◌≡◌, ◌⊎◌, ◌↔◌, ◌<◌, ◌≤◌, ℕ, zero, suc, Bool, true, false, List, Contains, length, slice_index, inl, inr, refl}
+use Rattle.std.proofs.Common.{sym, subst, subst₂, ◌∙◌, arith}
 use Rattle.std.specs.List.Sorted.{IsStrictlyIncreasing}
 use Rattle.hprof_search.specs.Finds.{Finds, Follows, LeadsOn, is_found}
 use Rattle.hprof_search.specs.Walks.{Reaches, IsDistance, IsLeastBefore}
@@ -64,7 +65,8 @@ module _ (Leads : ℕ → ℕ → Type 0) (nodes starts : List ℕ) where
   pub searched_still : (old new : Finds) (last : List ℕ) (level : ℕ) → new.found ≡ old.found → new.before ≡ old.before
       → IsSearched old last level → IsSearched new last level
   searched_still old new last level found before searched =
-      subst₂ (λ (fs : List Bool) (bs : List ℕ). IsSearched (record { found = fs; before = bs; order = new.order; next = new.next }) last level)
+      subst₂ (λ (fs : List Bool) (bs : List ℕ). IsSearched
+      (record { found = fs; before = bs; order = new.order; next = new.next }) last level)
       (sym found) (sym before) (searched_with old new.order new.next last level searched)
 
   -- what is reached is a node
@@ -81,7 +83,8 @@ module _ (Leads : ℕ → ℕ → Type 0) (nodes starts : List ℕ) where
         let many = searched.as_many in
         let within = found_within finds number found in
         elim (splits near.count level) [
-          | inl less ↦ inl (searched.complete to (suc near.count) below (omega arith) (slice_index nodes number, near.distance.reaches, step))
+          | inl less ↦ inl (searched.complete to (suc near.count) below (omega arith)
+              (slice_index nodes number, near.distance.reaches, step))
           | inr more ↦
               let close = near.near in
               let same : near.count ≡ level = omega arith in
@@ -134,7 +137,8 @@ module _ (Leads : ℕ → ℕ → Type 0) (nodes starts : List ℕ) where
             steps = (is.led.1, has_number nodes (slice_index nodes number) number (omega arith) refl);
             least = λ other distance steps.
                 let there = number_of nodes other (reached_is_node level other distance.reaches) in
-                let in_last = searched.last_all there.0 there.1 (subst (λ (n : ℕ). IsDistance (StartsIn nodes starts) (StepsIn Leads nodes) n level)
+                let in_last = searched.last_all there.0 there.1
+                (subst (λ (n : ℕ). IsDistance (StartsIn nodes starts) (StepsIn Leads nodes) n level)
                 (sym there.2) distance) in
                 let leads = subst (λ (n : ℕ). Leads n (slice_index nodes number)) (sym there.2) steps.0 in
                 let less = is.least there.0 (in_last, leads) in
@@ -180,7 +184,8 @@ module _ (Leads : ℕ → ℕ → Type 0) (nodes starts : List ℕ) where
         ]
 
     -- the next level is what came
-    pub searched_more : (next : List ℕ) → ((number : ℕ) → Contains next number ↔ ((is_found old number ≡ false) × (is_found new number ≡ true)))
+    pub searched_more : (next : List ℕ)
+        → ((number : ℕ) → Contains next number ↔ ((is_found old number ≡ false) × (is_found new number ≡ true)))
         → IsSearched new next (suc level)
     searched_more next same = record {
       as_many = follows.as_many ∙ searched.as_many;
@@ -195,7 +200,8 @@ module _ (Leads : ℕ → ℕ → Type 0) (nodes starts : List ℕ) where
       last_all = λ number below distance. (same number).1 (elim (true_or_false (is_found old number)) [
         | inl was ↦
             let near = searched.near number was in
-            let one = same_distance (StartsIn nodes starts) (StepsIn Leads nodes) (slice_index nodes number) near.count (suc level) near.distance distance in
+            let one = same_distance (StartsIn nodes starts) (StepsIn Leads nodes) (slice_index nodes number) near.count
+            (suc level) near.distance distance in
             let close = near.near in
             absurd (omega arith)
         | inr not ↦ (not, complete_more number (suc level) below (omega arith) distance.reaches)

@@ -10,19 +10,22 @@ module _ (Starts : ℕ → Type 0) (Steps : ℕ → ℕ → Type 0) where
       let less = too.least one is.reaches in
       omega arith
 
-  pub one_distance : (node : ℕ) (one other : Option ℕ) → HasDistance Starts Steps node one → HasDistance Starts Steps node other → one ≡ other
+  pub one_distance : (node : ℕ) (one other : Option ℕ) → HasDistance Starts Steps node one → HasDistance Starts Steps node other → one
+      ≡ other
   one_distance node None None is too = refl
   one_distance node None (Some other) is too = absurd (is other too.reaches)
   one_distance node (Some one) None is too = absurd (too one is.reaches)
   one_distance node (Some one) (Some other) is too = ap Some (same_distance node one other is too)
 
-  same_before : (count node one other : ℕ) → IsLeastBefore Starts Steps count one node → IsLeastBefore Starts Steps count other node → one ≡ other
+  same_before : (count node one other : ℕ) → IsLeastBefore Starts Steps count one node → IsLeastBefore Starts Steps count other node → one
+      ≡ other
   same_before count node one other is too =
       let more = is.least other too.distance too.steps in
       let less = too.least one is.distance is.steps in
       omega arith
 
-  same_way : (count node : ℕ) (one other : List ℕ) → IsWayBack Starts Steps count node one → IsWayBack Starts Steps count node other → one ≡ other
+  same_way : (count node : ℕ) (one other : List ℕ) → IsWayBack Starts Steps count node one → IsWayBack Starts Steps count node other → one
+      ≡ other
   same_way zero node one other is too = is.1 ∙ sym too.1
   same_way (suc count) node one other is too =
       let before = same_before count node is.1.0 too.1.0 is.1.3 too.1.3 in
@@ -39,7 +42,8 @@ module _ (Starts : ℕ → Type 0) (Steps : ℕ → ℕ → Type 0) where
   one_path node None (Some other) is too = absurd (is too.0 (way_distance too.0 node (reverse other) too.1).reaches)
   one_path node (Some one) None is too = absurd (too is.0 (way_distance is.0 node (reverse one) is.1).reaches)
   one_path node (Some one) (Some other) is too =
-      let same = same_distance node is.0 too.0 (way_distance is.0 node (reverse one) is.1) (way_distance too.0 node (reverse other) too.1) in
+      let same = same_distance node is.0 too.0 (way_distance is.0 node (reverse one) is.1)
+      (way_distance too.0 node (reverse other) too.1) in
       let way = subst (λ (n : ℕ). IsWayBack Starts Steps n node (reverse one)) same is.1 in
       let back = same_way too.0 node (reverse one) (reverse other) way too.1 in
       ap Some (sym (reverse-reverse one) ∙ ap (reverse {A = ℕ}) back ∙ reverse-reverse other)

@@ -1,5 +1,6 @@
 -- The order in which numbers are found: by their distances.
-use Rattle.std.proofs.Common.{◌≡◌, ◌↔◌, ◌<◌, ◌≤◌, ◌-◌, ◌++◌, ℕ, suc, Bool, true, false, List, [], Contains, None, get_or, length, length-append, map, nat_eq, slice_index, inl, inr, refl, sym, ap, subst, ◌∙◌, arith}
+use Rattle.std.proofs.Common.{◌≡◌, ◌↔◌, ◌<◌, ◌≤◌, ◌-◌, ◌++◌, ℕ, suc, Bool, true, false, List, [], Contains, None, get_or, length}
+use Rattle.std.proofs.Common.{length-append, map, nat_eq, slice_index, inl, inr, refl, sym, ap, subst, ◌∙◌, arith}
 use Rattle.std.specs.List.{IsDistinct}
 use Rattle.std.specs.List.Sorted.{IsStrictlyIncreasing}
 use Rattle.std.proofs.lemmas.Bool.Decides.{Decides-eqb}
@@ -50,12 +51,14 @@ module _ (Leads : ℕ → ℕ → Type 0) (nodes starts : List ℕ) where
       → ((number : ℕ) → Contains came number → Distance number count) → IsByDistance (old ++ came)
   put_behind old came count by_distance of_old of_came place other near far before below at_place at_other =
       elim (splits other (length old)) [
-        | inl early ↦ by_distance place other near far before early (from_old place near (omega arith) at_place) (from_old other far early at_other)
+        | inl early ↦ by_distance place other near far before early (from_old place near (omega arith) at_place)
+            (from_old other far early at_other)
         | inr late ↦
             let last = from_came other far late below at_other in
             elim (splits place (length old)) [
               | inl early ↦
-                  let close = of_old (slice_index old place) near (Contains-get_or old place 0 early) (from_old place near early at_place) in
+                  let close = of_old (slice_index old place) near (Contains-get_or old place 0 early)
+                  (from_old place near early at_place) in
                   omega arith
               | inr here ↦ let same = from_came place near here (omega arith) at_place in omega arith
             ]
@@ -69,7 +72,8 @@ module _ (Leads : ℕ → ℕ → Type 0) (nodes starts : List ℕ) where
           let long = length-append old came in
           let here = of_came (slice_index came (at - length old)) (Contains-get_or came (at - length old) 0 (omega arith)) in
           let is = subst (λ (n : ℕ). Distance n far) (get_or-append_right old came at 0 late) distance in
-          same_distance (StartsIn nodes starts) (StepsIn Leads nodes) (slice_index nodes (slice_index came (at - length old))) far count is here
+          same_distance (StartsIn nodes starts) (StepsIn Leads nodes)
+          (slice_index nodes (slice_index came (at - length old))) far count is here
 
   -- the first level
   pub first_in_order : (old new : Finds) → ((number : ℕ) → is_found old number ≡ false) → length old.found ≡ length nodes
@@ -95,7 +99,8 @@ module _ (Leads : ℕ → ℕ → Type 0) (nodes starts : List ℕ) where
       subst IsByDistance (sym order.1) (put_behind old.order order.0 (suc level) by_distance
       (λ number near has distance.
       let at = searched.near number ((in_order old.found old.order ordered number).0 has) in
-      let same = same_distance (StartsIn nodes starts) (StepsIn Leads nodes) (slice_index nodes number) near at.count distance at.distance in
+      let same = same_distance (StartsIn nodes starts) (StepsIn Leads nodes)
+      (slice_index nodes number) near at.count distance at.distance in
       let close = at.near in
       omega arith)
       (λ number has. elim ((follows.next number).0 (subst (λ (ns : List ℕ). Contains ns number) (sym came) has)) [
@@ -150,5 +155,6 @@ module _ (Leads : ℕ → ℕ → Type 0) (nodes starts : List ℕ) where
         let there = found_all Leads nodes starts finds level searched is.0 node is.1.reaches in
         let has = (in_order finds.found order ordered there.0).1 there.3 in
         let place = number_of order there.0 has in
-        let within : place.0 < length (map (slice_index nodes) order) = let less = place.1 in omega (arith, length-map order (slice_index nodes)) in
+        let within : place.0 < length (map (slice_index nodes) order) = let less =
+        place.1 in omega (arith, length-map order (slice_index nodes)) in
         has_number (map (slice_index nodes) order) node place.0 within (at place.0 0 place.1 ∙ ap (slice_index nodes) place.2 ∙ there.2)

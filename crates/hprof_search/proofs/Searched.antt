@@ -27,7 +27,8 @@ module _ (Leads : ℕ → ℕ → Type 0) (starts : List ℕ) (search : Search)
   before : (number count : ℕ) → Contains search.order.keys number → Distance (node_at search number) count → FoundFrom number count
   before number count has distance =
       let near = searched.near number ((in_order search.found.items search.order.keys search.whole.ordered number).0 has) in
-      let same = same_distance (StartsIn search.nodes.items starts) (StepsIn Leads search.nodes.items) (node_at search number) near.count count
+      let same = same_distance (StartsIn search.nodes.items starts) (StepsIn Leads search.nodes.items)
+      (node_at search number) near.count count
       near.distance distance in
       subst (FoundFrom number) same (found_from number near.count near.from)
 

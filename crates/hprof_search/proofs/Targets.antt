@@ -1,5 +1,6 @@
 -- Targets are followed, one after another, and so are the numbers of a level.
-use Rattle.std.proofs.Common.{◌≡◌, ◌⊎◌, ◌↔◌, ◌<◌, ◌+◌, ℕ, List, [], ◌∷◌, ◌++◌, Contains, Option, Some, None, length, slice_index, take, length-take, get_or-take, unwrap_or, inl, inr, sym, ap, subst, ◌∙◌, arith}
+use Rattle.std.proofs.Common.{◌≡◌, ◌⊎◌, ◌↔◌, ◌<◌, ◌+◌, ℕ, List, [], ◌∷◌, ◌++◌, Contains, Option, Some, None, length, slice_index, take}
+use Rattle.std.proofs.Common.{length-take, get_or-take, unwrap_or, inl, inr, sym, ap, subst, ◌∙◌, arith}
 use Rattle.std.specs.List.Sorted.{IsStrictlyIncreasing, IsNonDecreasing}
 use Rattle.std.proofs.lemmas.List.{take_more}
 use Rattle.std.proofs.lemmas.List.Elements.{Contains-push, Contains-push_cases, Contains-append_left}
@@ -97,7 +98,8 @@ led_more Leads nodes level targets index number old middle new below is ascend l
         | inl early ↦ (is_taken level index below number one is (inl early.0), early.1)
         | inr late ↦ (
           is_taken level index below number one is (inr (sym late.0)),
-          subst (λ (n : ℕ). Leads (slice_index nodes n) (slice_index nodes other)) (sym late.0) ((leads (slice_index nodes other)).0 late.1),
+          subst (λ (n : ℕ). Leads (slice_index nodes n) (slice_index nodes other)) (sym late.0)
+              ((leads (slice_index nodes other)).0 late.1),
         )
       ],
       λ led. elim (was_taken level index below number one is led.0) [

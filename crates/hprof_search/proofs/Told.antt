@@ -1,5 +1,6 @@
 -- What a search tells of a node is its distance and its path.
-use Rattle.std.proofs.Common.{◌≡◌, ◌<◌, ◌≤◌, ◌-◌, ℕ, zero, suc, Bool, true, false, List, [], ◌∷◌, Option, Some, None, Contains, option_and_then, length, map, reverse, slice_index, get_or, inl, inr, refl, sym, ap, subst, ◌∙◌, arith}
+use Rattle.std.proofs.Common.{◌≡◌, ◌<◌, ◌≤◌, ◌-◌, ℕ, zero, suc, Bool, true, false, List, [], ◌∷◌, Option, Some, None, Contains}
+use Rattle.std.proofs.Common.{option_and_then, length, map, reverse, slice_index, get_or, inl, inr, refl, sym, ap, subst, ◌∙◌, arith}
 use Rattle.std.specs.Bool.{then_some}
 use Rattle.std.specs.Prelude.{◌↔◌, IsTrue, is_some}
 use Rattle.std.specs.Option.{option_map}
@@ -36,18 +37,21 @@ module _ (search : Search) where
       → (number < length search.nodes.items) × (slice_index search.nodes.items number ≡ node) × (is_found (kept_finds search) number ≡ true)
   unfolding found_in
   found_stands node number some = by (number_in search.nodes.items node) refl some where
-    found_at : (at : ℕ) (b : Bool) → get_or search.found.items at false ≡ b → then_some b at ≡ Some number → (at ≡ number) × (get_or search.found.items at false ≡ true)
+    found_at : (at : ℕ) (b : Bool) → get_or search.found.items at false ≡ b → then_some b at ≡ Some number → (at ≡ number)
+        × (get_or search.found.items at false ≡ true)
     found_at at true is same = (cc, is)
     found_at at false is same = absurd (cc)
 
     by : (place : Option ℕ) → number_in search.nodes.items node ≡ place
         → option_and_then (λ at. then_some (get_or search.found.items at false) at) place ≡ Some number
-        → (number < length search.nodes.items) × (slice_index search.nodes.items number ≡ node) × (is_found (kept_finds search) number ≡ true)
+        → (number < length search.nodes.items) × (slice_index search.nodes.items number ≡ node)
+        × (is_found (kept_finds search) number ≡ true)
     by None is same = absurd (cc)
     by (Some at) is same =
         let there = stands search.nodes.items node at is in
         let found = found_at at (get_or search.found.items at false) refl same in
-        let P : ℕ → Type 0 = λ n. (n < length search.nodes.items) × (slice_index search.nodes.items n ≡ node) × (is_found (kept_finds search) n ≡ true) in
+        let P : ℕ → Type 0 = λ n. (n < length search.nodes.items) × (slice_index search.nodes.items n ≡ node)
+        × (is_found (kept_finds search) n ≡ true) in
         subst P found.0 (there.0, there.1, found.1)
 
   not_found : (node number : ℕ) → found_in search node ≡ None → number < length search.nodes.items
@@ -65,7 +69,8 @@ module _ (search : Search) where
         absurd (cc)
 
   -- a number in the order is that of a node
-  is_number : (number : ℕ) → Contains search.order.keys number → (number < length search.nodes.items) × (is_found (kept_finds search) number ≡ true)
+  is_number : (number : ℕ) → Contains search.order.keys number → (number < length search.nodes.items)
+      × (is_found (kept_finds search) number ≡ true)
   is_number number has =
       let found = (in_order search.found.items search.order.keys search.whole.ordered number).0 has in
       let within = found_within (kept_finds search) number found in
@@ -73,7 +78,8 @@ module _ (search : Search) where
       (omega arith, found)
 
   -- a node that was found has a number in the order
-  number_found : (node : ℕ) → Contains (nodes_found search) node → (number : ℕ) × Contains search.order.keys number × (node_at search number ≡ node)
+  number_found : (node : ℕ) → Contains (nodes_found search) node → (number : ℕ) × Contains search.order.keys number
+      × (node_at search number ≡ node)
   number_found node has =
       let there = number_of (nodes_found search) node has in
       let long = length-map search.order.keys (node_at search) in
@@ -138,13 +144,15 @@ module _ (Starts : ℕ → Type 0) (Steps : ℕ → ℕ → Type 0) (search : Se
       (below, omega arith)
 
   -- the way back is as long as the distance, and goes by the least node before each
-  goes_back : (count most number : ℕ) → count ≤ most → Contains search.order.keys number → IsDistance Starts Steps (node_at search number) count
+  goes_back : (count most number : ℕ) → count ≤ most → Contains search.order.keys number
+      → IsDistance Starts Steps (node_at search number) count
       → (length (way_back (items_in search.before) most number) ≡ suc count)
       × IsWayBack Starts Steps count (node_at search number) (map (node_at search) (way_back (items_in search.before) most number))
   goes_back zero most number close has distance =
       let within = number_before number has in
       let from = is.before number zero has distance in
-      let same = one_place search.nodes.items search.whole.ascend (slice_index (items_in search.before) number) number within.1 within.0 from in
+      let same = one_place search.nodes.items search.whole.ascend
+      (slice_index (items_in search.before) number) number within.1 within.0 from in
       let way = way_on (items_in search.before) most number
       ∙ ap (λ (ns : List ℕ). number ∷ ns) (left_none (items_in search.before) most number same) in
       (ap (length {A = ℕ}) way, (distance, ap (map (node_at search)) way))
@@ -193,8 +201,11 @@ module _ (Starts : ℕ → Type 0) (Steps : ℕ → ℕ → Type 0) (search : Se
       let distance = of.1.1 in
       let way = goes_back of.1.0 search.levels number (is.levels (node_at search number) of.1.0 distance) of.0 distance in
       let nodes = map (node_at search) (way_in search number) in
-      let Way : ℕ → List ℕ → Type 0 = IsWayBack Starts Steps of.1.0 in
-      (of.1.0, subst (Way node) (sym (reverse-reverse nodes)) (subst (λ (n : ℕ). Way n nodes) (found_stands search node number some).1 way.1))
+      let Way : ℕ → List ℕ → Type 0 = IsWayBack Starts Steps of.1.0 in (
+        of.1.0,
+        subst (Way node) (sym (reverse-reverse nodes))
+            (subst (λ (n : ℕ). Way n nodes) (found_stands search node number some).1 way.1),
+      )
 
   pub tells_distance : (node : ℕ) → HasDistance Starts Steps node (distance_in search node)
   unfolding distance_in

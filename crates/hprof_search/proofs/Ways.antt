@@ -1,5 +1,6 @@
 -- The way back from a number that was found.
-use Rattle.std.proofs.Common.{◌≡◌, ◌<◌, ◌==◌, ℕ, zero, suc, Bool, true, cond, List, [], ◌∷◌, ◌++◌, length, map, slice_index, inl, inr, refl, sym, ap, subst, ◌∙◌, arith, append_assoc, append-nil, eq-eqb, ne_eqb}
+use Rattle.std.proofs.Common.{◌≡◌, ◌<◌, ◌==◌, ℕ, zero, suc, Bool, true, cond, List, [], ◌∷◌, ◌++◌, length, map, slice_index, inl, inr, refl}
+use Rattle.std.proofs.Common.{sym, ap, subst, ◌∙◌, arith, append_assoc, append-nil, eq-eqb, ne_eqb}
 use Rattle.hprof_search.specs.Finds.{Finds, is_found}
 use Rattle.hprof_search.specs.WayBack.{way_back}
 use Rattle.hprof_search.specs.Walks.{Reaches}
@@ -56,7 +57,8 @@ module _ (nodes before : List ℕ) where
   -- going back to one number more
   pub went_on : (left rest number next node : ℕ) (way more whole : List ℕ) → left ≡ suc rest → next ≡ slice_index before number
       → (slice_index before number ≡ number → ⊥) → node ≡ slice_index nodes next → more ≡ way ++ node ∷ []
-      → way ++ map (slice_index nodes) (way_left before left number) ≡ whole → more ++ map (slice_index nodes) (way_left before rest next) ≡ whole
+      → way ++ map (slice_index nodes) (way_left before left number) ≡ whole → more ++ map (slice_index nodes) (way_left before rest next)
+      ≡ whole
   went_on left rest number next node way more whole count back other is pushed was =
       ap (λ (ns : List ℕ). ns ++ at (way_left before rest next)) pushed
       ∙ append_assoc way (node ∷ []) (at (way_left before rest next))
@@ -78,7 +80,8 @@ module _ (nodes before : List ℕ) where
   went_all left number way whole none was =
       sym (append-nil way) ∙ ap (λ (n : ℕ). way ++ at (way_left before n number)) (sym none) ∙ was
 
-module _ (Leads : ℕ → ℕ → Type 0) (nodes starts : List ℕ) (finds : Finds) (level : ℕ) (searched : IsSearched Leads nodes starts finds [] level) where
+module _ (Leads : ℕ → ℕ → Type 0) (nodes starts : List ℕ) (finds : Finds) (level : ℕ)
+    (searched : IsSearched Leads nodes starts finds [] level) where
   -- what is reached was found
   pub found_all : (count node : ℕ) → Reaches (StartsIn nodes starts) (StepsIn Leads nodes) count node
       → (number : ℕ) × (number < length nodes) × (slice_index nodes number ≡ node) × (is_found finds number ≡ true)

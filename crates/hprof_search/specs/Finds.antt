@@ -1,5 +1,6 @@
 -- What is found where steps are followed, by numbers.
-use Rattle.std.specs.Prelude.{◌≡◌, ◌<◌, ◌≤◌, ◌+◌, ◌++◌, ◌↔◌, ◌⊎◌, ℕ, Bool, true, false, not, List, Option, Contains, drop, length, count_by, get_or, slice_index, unwrap_or}
+use Rattle.std.specs.Prelude.{◌≡◌, ◌<◌, ◌≤◌, ◌+◌, ◌++◌, ◌↔◌, ◌⊎◌, ℕ, Bool, true, false, not, List, Option, Contains, drop, length, count_by}
+use Rattle.std.specs.Prelude.{get_or, slice_index, unwrap_or}
 use Rattle.hprof_search.specs.declared.trail.Trail.{Trail}
 use Rattle.hprof_numbers.specs.Numbers.{items_in}
 

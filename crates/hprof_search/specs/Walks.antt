@@ -1,5 +1,6 @@
 -- Walks from starts along steps, from node to node.
-use Rattle.std.specs.Prelude.{◌≡◌, ◌+◌, ◌-◌, ◌<◌, ◌≤◌, ◌↔◌, ◌≢◌, ℕ, zero, suc, List, [], ◌∷◌, Option, Some, None, AllPairs, Contains, length, reverse, slice_index}
+use Rattle.std.specs.Prelude.{◌≡◌, ◌+◌, ◌-◌, ◌<◌, ◌≤◌, ◌↔◌, ◌≢◌, ℕ, zero, suc, List, [], ◌∷◌, Option, Some, None, AllPairs, Contains}
+use Rattle.std.specs.Prelude.{length, reverse, slice_index}
 
 module _ (Starts : ℕ → Type 0) (Steps : ℕ → ℕ → Type 0) where
   -- so many steps from a start lead there

@@ -32,3 +32,4 @@ pub mod FedRuns
 pub mod Sources
 pub mod Rooms
 pub mod Tallies
+pub mod Resuming

@@ -11,5 +11,6 @@ pub mod Offset
 pub mod Rest
 pub mod Walking
 pub mod Reader
+pub mod PartPlaces
 pub mod Feeding
 pub mod Tally

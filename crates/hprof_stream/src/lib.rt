@@ -6,6 +6,7 @@ mod item;
 pub mod laws;
 mod limits;
 mod part_fault;
+mod part_place;
 mod part_reader;
 mod progress;
 mod reading;
@@ -16,6 +17,7 @@ mod tally;
 
 pub use limits::Limits;
 pub use part_fault::PartFault;
+pub use part_place::PartPlace;
 pub use part_reader::PartReader;
 pub use reading::read_part;
 pub use sink::{Sink, SinkFault};

@@ -1,6 +1,6 @@
 //! Reading a part from pieces.
 
-ghost use Rattle.std.specs.Prelude.{◌≡◌, ℕ, ◌+◌, ◌≤◌, List, [], length, Option, Some, true, false, OnOk, OnErr};
+ghost use Rattle.std.specs.Prelude.{◌≡◌, ℕ, ◌+◌, ◌≤◌, ◌++◌, List, [], length, Option, Some, None, true, false, OnOk, OnErr, IfSome, IsSome};
 ghost use Rattle.hprof_items.specs.declared.header.Header.{Header};
 ghost use Rattle.hprof_values.specs.declared.ids.IdSize.{IdSize};
 ghost use Rattle.hprof_items.specs.FactValue.{FactValue};
@@ -10,6 +10,7 @@ ghost use Rattle.hprof_stream.specs.Rest.{IsSound, rest_len};
 use crate::held::{keep, read_on};
 use crate::limits::Limits;
 use crate::part_fault::PartFault;
+use crate::part_place::PartPlace;
 use crate::progress::Progress;
 use crate::rest::Rest;
 use crate::sink::Sink;
@@ -31,6 +32,7 @@ pub struct PartReader {
 impl PartReader {
     ghost use Rattle.hprof_stream.specs.Reader.{HasRead, HasNoRoom, header_of, has_failed, IsReady, IsUnfinished, longest_held};
     ghost use Rattle.hprof_stream.specs.Reader.{Feeds, Finishes};
+    ghost use Rattle.hprof_stream.specs.PartPlaces.{IsPlaceBehind, header_at};
     ghost use Rattle.hprof_stream.specs.Rest.{NeedsGrowth};
     ghost use Rattle.hprof_stream.specs.declared.limits.Limits.{Limits};
 
@@ -45,6 +47,37 @@ impl PartReader {
             rest: Rest::new(alloc),
             failed: false,
         }
+    }
+
+    /// Returns a reader of a part from a place on. The bytes that it is fed are those behind the place. Allocates nothing.
+    pub fn resume(alloc: Global, place: PartPlace) -> Self
+        ensures read { (limits : Limits) (bytes : List ℕ) (facts : List FactValue) → IsPlaceBehind limits bytes facts place
+            → HasRead limits bytes facts result }
+        ensures header { header_of result ≡ header_at place }
+        ensures well { has_failed result ≡ false }
+        ensures no_memory { HasNoRoom result }
+    {
+        PartReader {
+            progress: place.progress,
+            rest: Rest::new(alloc),
+            failed: false,
+        }
+    }
+
+    /// Returns the place behind the last whole item, or `None` after a fault.
+    pub fn place(&self) -> Option<PartPlace>
+        ensures some { has_failed self.now ≡ false → IsSome result }
+        ensures failed { has_failed self.now ≡ true → result ≡ None }
+        ensures behind { IfSome result (λ place. (limits : Limits) (bytes : List ℕ) (facts : List FactValue)
+            → HasRead limits bytes facts self.now
+            → (front rest : List ℕ) × (bytes ≡ front ++ rest) × IsPlaceBehind limits front facts place) }
+    {
+        if self.failed {
+            return None;
+        }
+        Some(PartPlace {
+            progress: self.progress,
+        })
     }
 
     /// Reads the next piece, and hands the header and the facts of all complete items to the sink, in order.

@@ -1,6 +1,7 @@
 -- The lines of a chain, from the texts that stand in them.
 use Rattle.std.specs.Prelude.{map, take, drop, if◌then◌else◌}
-use Rattle.std.proofs.Common.{◌≡◌, ◌<◌, ◌≤◌, ◌-◌, ◌+◌, ◌++◌, ◌∙◌, ◌∷◌, [], ℕ, Bool, List, append_assoc, append-nil, ap, get_or, codes, length, sym, arith}
+use Rattle.std.proofs.Common.{◌≡◌, ◌<◌, ◌≤◌, ◌-◌, ◌+◌, ◌++◌, ◌∙◌, ◌∷◌, [], ℕ, Bool, List, append_assoc, append-nil, ap, get_or, codes}
+use Rattle.std.proofs.Common.{length, sym, arith}
 use Rattle.std.specs.Fmt.{decimal}
 use Rattle.std.proofs.lemmas.Bool.{le-ltb, lt-ltb}
 use Rattle.std.proofs.lemmas.List.{length-drop, length-map}

@@ -1,5 +1,6 @@
 -- The pieces of a part by the numbers of their labels, place by place.
-use Rattle.std.proofs.Common.{◌≡◌, ◌<◌, ◌≤◌, ◌+◌, ◌∙◌, ℕ, Bool, List, Some, length, replicate, refl, sym, ap, subst, subst₂, inl, inr, arith, slice_index, slice_set, get_or-set_other, get_or-set_same}
+use Rattle.std.proofs.Common.{◌≡◌, ◌<◌, ◌≤◌, ◌+◌, ◌∙◌, ℕ, Bool, List, Some, length, replicate, refl, sym, ap, subst, subst₂, inl, inr}
+use Rattle.std.proofs.Common.{arith, slice_index, slice_set, get_or-set_other, get_or-set_same}
 use Rattle.std.proofs.lemmas.Bool.{cases_eq}
 use Rattle.std.proofs.lemmas.List.{get_or-replicate, length-replicate}
 use Rattle.std.proofs.Math.ListN.{length-set}

@@ -1,5 +1,6 @@
 -- If facts agree, it is decided what is a part, and each part has pieces.
-use Rattle.std.proofs.Common.{◌≡◌, ◌≢◌, ◌≤◌, ◌+◌, ◌-◌, ◌*◌, ℕ, zero, suc, List, [], ◌∷◌, Option, Some, None, length, refl, sym, ap, subst, inl, inr, arith}
+use Rattle.std.proofs.Common.{◌≡◌, ◌≢◌, ◌≤◌, ◌+◌, ◌-◌, ◌*◌, ℕ, zero, suc, List, [], ◌∷◌, Option, Some, None, length, refl, sym, ap, subst}
+use Rattle.std.proofs.Common.{inl, inr, arith}
 use Rattle.std.specs.List.{sum_by}
 use Rattle.std.proofs.lemmas.Bool.{cases_eq}
 use Rattle.std.proofs.lemmas.List.Sums.{sum_by-cons}
@@ -18,7 +19,8 @@ use Rattle.hprof_suspects.specs.Groups.{Above, HasHead, HaveOneLabel, IsBelow, I
 use Rattle.hprof_suspects.specs.Parts.{AddUp, HasPieces, IsLarge, IsOnlyLarge, IsPart, IsSingled, Large, Roots, bytes_of}
 use Rattle.hprof_suspects.proofs.AddedUp.{one_above}
 use Rattle.hprof_suspects.proofs.Decisions.{alike_decided, alone_decided, le_decided}
-use Rattle.hprof_suspects.proofs.NodeGroups.{IsWalk, below_head, each_other, either, head_below, head_over, heads_decided, over_head, shorter, transitive, walk_of}
+use Rattle.hprof_suspects.proofs.NodeGroups.{IsWalk, below_head, each_other, either, head_below, head_over, heads_decided, over_head}
+use Rattle.hprof_suspects.proofs.NodeGroups.{shorter, transitive, walk_of}
 
 same_or_not : (one other : Option ℕ) → Decided (one ≡ other)
 same_or_not None None = inl refl

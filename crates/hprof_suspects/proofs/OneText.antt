@@ -1,7 +1,8 @@
 -- Facts that agree have one report.
 use Rattle.std.specs.Prelude.{nat_lt, take, drop, if◌then◌else◌}
 use Rattle.std.specs.List.{flat_map}
-use Rattle.std.proofs.Common.{◌≡◌, ◌-◌, ◌++◌, ◌∙◌, ℕ, zero, suc, List, [], ◌∷◌, Option, Some, None, codes, length, refl, sym, ap, subst, inl, inr}
+use Rattle.std.proofs.Common.{◌≡◌, ◌-◌, ◌++◌, ◌∙◌, ℕ, zero, suc, List, [], ◌∷◌, Option, Some, None, codes, length, refl, sym, ap, subst}
+use Rattle.std.proofs.Common.{inl, inr}
 use Rattle.std.specs.Fmt.{decimal}
 use Rattle.std.specs.Cmp.{IsTotalOrder}
 use Rattle.std.proofs.lemmas.Cmp.{back_total, nat_cmp_total, on_total, then_total}
@@ -22,7 +23,8 @@ use Rattle.hprof_keeps.specs.KeepsText.{above_lines, retained_line, sum_words, t
 use Rattle.hprof_keeps.specs.Order.{AreRetained}
 use Rattle.hprof_keeps.proofs.OneKeeps.{one_dominators}
 use Rattle.hprof_suspects.specs.Parts.{PieceSum}
-use Rattle.hprof_suspects.specs.SuspectsText.{ArePieceSums, AreSuspects, AreTexts, IsChain, IsPartText, IsSuspectsPart, IsSuspectsText, NoMore, OneMore, Suspect, chain_lines, id_of, piece_line, suspect_cmp, suspect_line}
+use Rattle.hprof_suspects.specs.SuspectsText.{ArePieceSums, AreSuspects, AreTexts, IsChain, IsPartText, IsSuspectsPart, IsSuspectsText}
+use Rattle.hprof_suspects.specs.SuspectsText.{NoMore, OneMore, Suspect, chain_lines, id_of, piece_line, suspect_cmp, suspect_line}
 use Rattle.hprof_suspects.proofs.OtherSums.{piece_sum_too, same_sum, suspect_too}
 use Rattle.hprof_suspects.proofs.NodePieces.{pieces_total}
 

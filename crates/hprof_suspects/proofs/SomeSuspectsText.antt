@@ -22,7 +22,8 @@ use Rattle.hprof_keeps.specs.Order.{AreDominators, AreRetained}
 use Rattle.hprof_keeps.proofs.LargestFirst.{are_sums, sums}
 use Rattle.hprof_keeps.proofs.SomeKeeps.{keeps_exists, weakly_exists}
 use Rattle.hprof_suspects.specs.Parts.{IsPart}
-use Rattle.hprof_suspects.specs.SuspectsText.{AreTexts, IsChain, IsPartText, IsSuspectsPart, IsSuspectsText, NoMore, OneMore, Suspect, chain_lines, piece_line, suspect_line}
+use Rattle.hprof_suspects.specs.SuspectsText.{AreTexts, IsChain, IsPartText, IsSuspectsPart, IsSuspectsText, NoMore, OneMore, Suspect}
+use Rattle.hprof_suspects.specs.SuspectsText.{chain_lines, piece_line, suspect_line}
 use Rattle.hprof_suspects.proofs.NodeGroups.{walk_of}
 use Rattle.hprof_suspects.proofs.NodeParts.{part_held}
 use Rattle.hprof_suspects.proofs.NodePieces.{part_sums}

@@ -66,7 +66,8 @@ module _ {X : Type 0} (start : App) (shape : X → Shape) where
   -- one command more
   pub command_more : (some : List X) (i : ℕ) (d : X) → i < length some
       → with_subcommand (program_of (take i some)) (shape (get_or some i d)) ≡ program_of (take (i + 1) some)
-  command_more some i d within = ap₂ (λ (leaf : Bool) (subs : List Shape). record { top = record start.top { is_leaf = leaf }; subs = subs })
+  command_more some i d within =
+      ap₂ (λ (leaf : Bool) (subs : List Shape). record { top = record start.top { is_leaf = leaf }; subs = subs })
       (not_empty some i within) (sym (map_more shape some i d within))
 
 -- ---- what clap found

@@ -23,7 +23,8 @@ use Rattle.hprof_tool.specs.declared.program.refused.Refused.TheVariants as refu
 use Rattle.hprof_tool.specs.Folder.{Answered, AreOpened}
 use Rattle.hprof_tool.specs.Program.{IsOfOpening, IsReportRefusal, usual_limits}
 use Rattle.hprof_devices.specs.declared.health.ReadFault.{ReadFault}
-use Rattle.hprof_tool.specs.Conversing.{CannotReadOn, AnswersAll, LeavesAnswers, OfFront, OverFiles, OverReaders, SaysOfReaders, refused_asking}
+use Rattle.hprof_tool.specs.Conversing.{CannotReadOn, AnswersAll, LeavesAnswers, OfFront, OverFiles, OverReaders, SaysOfReaders}
+use Rattle.hprof_tool.specs.Conversing.{refused_asking}
 use Rattle.hprof_tool.proofs.Files.{of_reporting}
 use Rattle.hprof_tool.proofs.Making.{no_parts_told, none_added}
 
@@ -238,8 +239,10 @@ module _ {O : Type 0} (contents : O → Option (List ℕ)) (old : O) (From To : 
   leaves_over refusals.Create new leaves = leaves
 
 -- the same questions, which another source gives
-module _ {P W I Q O : Type 0} (answered : Answered P W) (tells : P → Option (List ℕ)) (left : I → Option (List ℕ)) (asked : Q → Option (List ℕ))
-    (contents : O → Option (List ℕ)) (names : List (Bor (List ℕ))) (input : I) (source : Q) (old : O) (same : asked source ≡ left input) where
+module _ {P W I Q O : Type 0} (answered : Answered P W) (tells : P → Option (List ℕ)) (left : I → Option (List ℕ))
+    (asked : Q → Option (List ℕ))
+    (contents : O → Option (List ℕ)) (names : List (Bor (List ℕ))) (input : I) (source : Q) (old : O)
+    (same : asked source ≡ left input) where
   pub same_questions : (Holds : (Question → List ℕ → Type 0) → List ℕ → Type 0)
       → OverFiles answered tells asked contents names source old Holds → OverFiles answered tells left contents names input old Holds
   same_questions Holds over = record {

@@ -63,7 +63,8 @@ module _ {R : Type 0} (left : R → Option (List ℕ)) (health : R → Health) (
     refusal tool.OutOfMemory m parts told = tt
 
   -- the same of what a stream tells
-  pub refused_by : (IsText : List PartSummary → HeapValue → List ℕ → Type 0) (Refuses : ProductRefusal → HeapValue → Type 0) (TakesRoom : ℕ → Type 0)
+  pub refused_by : (IsText : List PartSummary → HeapValue → List ℕ → Type 0) (Refuses : ProductRefusal → HeapValue → Type 0)
+      (TakesRoom : ℕ → Type 0)
       (TakesMemory : Type 0)
       (held holds : Option (List ℕ)) (end : Health) (fault : ToolFault)
       → Makes {W = Option (List ℕ) × Health} left health pulls (λ s. s.0) (λ s. s.1) usual_limits

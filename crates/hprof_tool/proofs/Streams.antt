@@ -49,7 +49,8 @@ kept_at_opening contents IsFront answered names refusals.Questions old is = absu
 kept_at_opening contents IsFront answered names refusals.OutOfMemory old is = ([], inl (none_added (contents old)))
 
 module _ {R W : Type 0} (left : R → Option (List ℕ)) (health : R → Health) (pulls : R → ℕ) (old new : List R)
-    (IsText : List PartSummary → HeapValue → List ℕ → Type 0) (Refuses : ProductRefusal → HeapValue → Type 0) (TakesRoom : ℕ → Type 0) (TakesMemory : Type 0)
+    (IsText : List PartSummary → HeapValue → List ℕ → Type 0) (Refuses : ProductRefusal → HeapValue → Type 0) (TakesRoom : ℕ → Type 0)
+    (TakesMemory : Type 0)
     (contents : W → Option (List ℕ)) (before : W) where
   -- how it stopped
   abbrev pub Stops : Refused → Option W → Type 0

@@ -70,7 +70,8 @@ module _ {O : Type 0} (contents : O → Option (List ℕ)) (old : O) (Over : ((Q
 
   -- the answers to the lines that had ended were written, when the questions could not be read on; none of them ends the dialogue
   abbrev pub AnswersEnded : (holds : Option (List ℕ)) → Type 0
-  AnswersEnded holds = Over (λ IsAnswer questions. OfFront questions (λ front rest. AnswersLines IsAnswer AreOpenLines front (contents old) holds))
+  AnswersEnded holds =
+      Over (λ IsAnswer questions. OfFront questions (λ front rest. AnswersLines IsAnswer AreOpenLines front (contents old) holds))
 
   -- the answers to the lines that were taken were written, to the last of them a front
   abbrev pub AnswersFirst : (holds : Option (List ℕ)) → Type 0

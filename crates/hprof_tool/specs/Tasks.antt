@@ -80,9 +80,11 @@ module _ {P W I O : Type 0} (answered : Answered P W) (tells : P → Option (Lis
   RefusesTask (tasks.Write product out parts) input old why new =
       IsFilesRefusal (new_file_making product) answered tells health pulls parts.items out.name.now why × (new ≡ Some old) × (file ≡ None)
   RefusesTask (tasks.Salvage out parts) input old why new =
-      (after : O) × (new ≡ Some after) × RefusesSalvage answered tells health pulls holds parts.items out.name.now contents file old after why
+      (after : O) × (new ≡ Some after)
+      × RefusesSalvage answered tells health pulls holds parts.items out.name.now contents file old after why
   RefusesTask (tasks.Report word text parts) input old why new = (report : Report) × AsksReport word text.now report
       × RefusesReport (report_making report) answered tells health pulls contents parts.items old why new
-  RefusesTask (tasks.Compare older newer) input old why new = RefusesDiff answered tells older.now newer.now contents old health pulls why new
+  RefusesTask (tasks.Compare older newer) input old why new =
+      RefusesDiff answered tells older.now newer.now contents old health pulls why new
   RefusesTask (tasks.Ask parts) input old why new =
       RefusesQuestions answered tells left contents parts.items input old health pulls why new × HasFailed asked_health asked_pulls why

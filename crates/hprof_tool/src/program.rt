@@ -298,7 +298,8 @@ fn perform<F: Folder, I: Source + Drop, O: Write + Drop, E: Write, P: Write + Dr
     requires folder { MayDo (F.answered files.now) task }
     requires input { I.health input ≡ Well }
     ensures done { result.0.status ≡ Status.Done → (after : O) × (result.0.output ≡ Some after) × DoesTask (F.answered files.now)
-        F.Part.left F.Part.health F.Part.pulls F.Out.contents I.left I.health I.pulls O.contents result.0.file task.entry input output after }
+        F.Part.left F.Part.health F.Part.pulls F.Out.contents I.left I.health I.pulls O.contents result.0.file task.entry input output
+        after }
     ensures refused { result.0.status ≡ Status.Refused → (why : Refused) × RefusesTask (F.answered files.now)
         F.Part.left F.Part.health F.Part.pulls F.Out.contents I.left I.health I.pulls O.contents result.0.file task.entry input output why
         result.0.output
@@ -362,7 +363,8 @@ fn perform<F: Folder, I: Source + Drop, O: Write + Drop, E: Write, P: Write + Dr
     }
 }
 
-/// Does what a task asks for, with a progress meter on the terminal, if there is one. The meter's line goes before anything else is written.
+/// Does what a task asks for, with a progress meter on the terminal, if there is one. The meter's line goes before anything else is
+/// written.
 fn perform_metered<S: Files + Clock, I: Read + Drop, O: Write + Drop, E: Write, P: Write + Drop>(
     alloc: Global,
     system: &S,

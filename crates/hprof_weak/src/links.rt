@@ -1,6 +1,6 @@
 //! The referents of layouts, as lists that share their ends: a class has its own before those of its superclass.
 
-ghost use Rattle.std.specs.Prelude.{◌≡◌, ◌++◌, List, Option, Some, IfOk, option_map, slice_get};
+ghost use Rattle.std.specs.Prelude.{◌≡◌, ◌≤◌, ◌+◌, ◌++◌, List, Option, Some, IfOk, OnOk, length, option_map, slice_get};
 ghost use Rattle.hprof_items.specs.FactValue.{FactValue};
 ghost use Rattle.hprof_layouts.specs.declared.slot.Slot.{Slot};
 ghost use Rattle.hprof_edges.specs.declared.field_place.FieldPlace.{FieldPlace};
@@ -78,8 +78,10 @@ impl Links {
         room: u64,
         fields: &mut Vec<FieldPlace>,
     ) -> Result<bool, AllocError>
-        ensures { IfOk result (λ all. (facts : List FactValue) (slots : List Slot) → Leads facts (nexts_in self.now) (Some first) slots
+        ensures pushes { IfOk result (λ all. (facts : List FactValue) (slots : List Slot)
+            → Leads facts (nexts_in self.now) (Some first) slots
             → PushesReferents facts class slots room all fields.old.items fields.new.items) }
+        ensures few { OnOk result (length fields.new.items ≤ length fields.old.items + room) }
     {
         let mut place = first.before;
         let mut number = first.number;

@@ -1,6 +1,6 @@
 //! The weak fields of the classes of instances.
 
-ghost use Rattle.std.specs.Prelude.{IfOk, IfSome, IsSome, OnOk, List};
+ghost use Rattle.std.specs.Prelude.{◌≡◌, ◌≤◌, ◌+◌, ◌↔◌, ℕ, IfOk, IfSome, IsSome, IsTrue, OnOk, List, None, length};
 ghost use Rattle.hprof_items.specs.FactValue.{FactValue};
 ghost use Rattle.hprof_rows.specs.Conflict.{IsConsistent};
 ghost use Rattle.hprof_heap.specs.HeapFacts.{facts_of, size_of};
@@ -22,7 +22,10 @@ impl WeakClasses {
         room: u64,
         fields: &mut Vec<FieldPlace>,
     ) -> Result<bool, AllocError>
-        ensures { OnOk result ((facts : List FactValue) → PutsWeak facts class room self.old self.new fields.old.items fields.new.items) }
+        ensures puts { OnOk result ((facts : List FactValue)
+            → PutsWeak facts class room self.old self.new fields.old.items fields.new.items) }
+        ensures all { IfOk result (λ all. IsTrue all ↔ (first_of self.new class ≡ None)) }
+        ensures few { OnOk result (length fields.new.items ≤ length fields.old.items + room) }
     {
         let Some(first) = self.firsts.get(&class).copied() else {
             return Ok(true);
@@ -42,11 +45,13 @@ impl WeakClasses {
         Some(*class)
     }
 
-    /// Appends the weak fields of the least classes, one class after another, as long as there is room for `most` fields in all. The classes
+    /// Appends the weak fields of the least classes, one class after another, as long as there is room for `most` fields in all. The
+    /// classes
     /// whose weak fields all are there are removed.
     fn put_few(&mut self, most: u64, fields: &mut Vec<FieldPlace>) -> Result<(), AllocError>
-        ensures { OnOk result ((facts : List FactValue) → IsConsistent facts → ArePut facts self.old fields.old.items
+        ensures put { OnOk result ((facts : List FactValue) → IsConsistent facts → ArePut facts self.old fields.old.items
             → ArePut facts self.new fields.new.items) }
+        ensures few { OnOk result ((count : ℕ) → length fields.old.items ≤ count → most ≤ count → length fields.new.items ≤ count) }
     {
         for _ in 0..self.firsts.len() {
             let Some(class) = self.least() else {

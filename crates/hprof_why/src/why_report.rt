@@ -83,7 +83,8 @@ fn write_reached<W: Target>(
 /// is made, and kept there, if it is wanted and not there yet.
 ///
 /// The report has the shortest path by strong references, or if there is none `only by weak references` and the shortest path by all; or
-/// that no root leads to the identifier, or that it has no dump. If the writer fails or memory runs out, the bytes written are the beginning
+/// that no root leads to the identifier, or that it has no dump. If the writer fails or memory runs out, the bytes written are the
+/// beginning
 /// of the report.
 pub fn write_why<W: Target>(
     alloc: Global,

@@ -185,7 +185,8 @@ impl CommandWord {
 
     /// Returns the command of a word, or `None` if the word is none of the table.
     pub(crate) fn of(word: &str) -> Option<CommandWord>
-        ensures { MatchOption result ((command : CommandWord) → word.now ≢ command_word command) (λ command. word.now ≡ command_word command) }
+        ensures { MatchOption result ((command : CommandWord) → word.now ≢ command_word command)
+            (λ command. word.now ≡ command_word command) }
     {
         for command in &COMMANDS {
             if command.row().word == word {

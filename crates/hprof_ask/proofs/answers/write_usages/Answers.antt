@@ -16,7 +16,8 @@ returns-in_err-write_usage-clause-bytes g c =
 pub loop-word-preserved : goal.loop-word-preserved
 loop-word-preserved g c = record {
   wrote = slice_more usage_line (g.W.Target.written c.args.target.now) (g.W.Target.written c.loop-word.target)
-      (g.W.Target.written c.write_usage.new.target) all_words c.loop-word.word-index (Heap Check) c.loop-word-test.true c.loop-word.invariant.wrote
+      (g.W.Target.written c.write_usage.new.target) all_words c.loop-word.word-index
+      (Heap Check) c.loop-word-test.true c.loop-word.invariant.wrote
       c.in_ok-write_usage.ensures.bytes;
   well = c.in_ok-write_usage.ensures.health;
 }

@@ -31,9 +31,11 @@ returns-in-Ok-write_refs g c =
     let edges = c.referrers.result.now in
     let r : Result (Unit {0}) WriteStop = Ok c.in-Ok-write_refs.field-0 in
     ended g.R.Source.left g.R.Source.health g.R.Source.pulls c.args.limits c.args.readers.now c.read_heap.new.readers
-    g.W.Target.written g.W.Target.health (IsReportText report) (λ refusal other. RefusesReport other.facts report refusal) (TakesRoom report) ⊤ c.args.target.now c.write_refs.new.target
+    g.W.Target.written g.W.Target.health (IsReportText report) (λ refusal other. RefusesReport other.facts report refusal)
+    (TakesRoom report) ⊤ c.args.target.now c.write_refs.new.target
     heap e.told.summaries e.ok (summaries_held g.R.Source.left _ c.args.readers.now _ e.told) e.reads r
-    (text_ends g.W.Target.written g.W.Target.health (IsReportText report e.told.summaries heap) (RefusesReport heap.facts report) ⊤ c.args.target.now c.write_refs.new.target
+    (text_ends g.W.Target.written g.W.Target.health (IsReportText report e.told.summaries heap)
+    (RefusesReport heap.facts report) ⊤ c.args.target.now c.write_refs.new.target
     r (text_of_lines (map edge_line edges))
     (record {
       edges = edges;
@@ -49,13 +51,16 @@ returns g c =
     let heap = indexed_heap c.in-Ok.found in
     let edges = c.referrers.result.now in
     let r : Result (Unit {0}) WriteStop = Err c.in-Err-write_refs.stop in
-    subst (λ (fault : ToolFault). Makes g.R.Source.left g.R.Source.health g.R.Source.pulls g.W.Target.written g.W.Target.health c.args.limits
+    subst (λ (fault : ToolFault). Makes g.R.Source.left g.R.Source.health g.R.Source.pulls g.W.Target.written g.W.Target.health
+    c.args.limits
     (report_making report) c.args.readers.now c.read_heap.new.readers c.args.target.now c.write_refs.new.target (Some fault))
     (sym c.from.ensures)
     (ended g.R.Source.left g.R.Source.health g.R.Source.pulls c.args.limits c.args.readers.now c.read_heap.new.readers
-    g.W.Target.written g.W.Target.health (IsReportText report) (λ refusal other. RefusesReport other.facts report refusal) (TakesRoom report) ⊤ c.args.target.now c.write_refs.new.target
+    g.W.Target.written g.W.Target.health (IsReportText report) (λ refusal other. RefusesReport other.facts report refusal)
+    (TakesRoom report) ⊤ c.args.target.now c.write_refs.new.target
     heap e.told.summaries e.ok (summaries_held g.R.Source.left _ c.args.readers.now _ e.told) e.reads r
-    (text_ends g.W.Target.written g.W.Target.health (IsReportText report e.told.summaries heap) (RefusesReport heap.facts report) ⊤ c.args.target.now c.write_refs.new.target
+    (text_ends g.W.Target.written g.W.Target.health (IsReportText report e.told.summaries heap)
+    (RefusesReport heap.facts report) ⊤ c.args.target.now c.write_refs.new.target
     r (text_of_lines (map edge_line edges))
     (record {
       edges = edges;

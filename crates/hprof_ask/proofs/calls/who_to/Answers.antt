@@ -35,10 +35,13 @@ returns-in-Ok-write_who_once g c =
     let heap = indexed_heap c.in-Ok.found in
     let r : Result (Unit {0}) WriteStop = Ok c.in-Ok-write_who_once.field-0 in
     ended g.R.Source.left g.R.Source.health g.R.Source.pulls c.args.limits c.args.readers.now c.read_heap.new.readers
-    g.W.Target.written g.W.Target.health (IsReportText report) (λ refusal other. RefusesReport other.facts report refusal) (TakesRoom report) ⊤ c.args.target.now c.write_who_once.new.target
+    g.W.Target.written g.W.Target.health (IsReportText report) (λ refusal other. RefusesReport other.facts report refusal)
+    (TakesRoom report) ⊤ c.args.target.now c.write_who_once.new.target
     heap e.told.summaries e.ok (summaries_held g.R.Source.left _ c.args.readers.now _ e.told) e.reads r
-    (text_ends g.W.Target.written g.W.Target.health (IsReportText report e.told.summaries heap) (RefusesReport heap.facts report) ⊤ c.args.target.now c.write_who_once.new.target
-    r c.in-Ok-write_who_once.ensures.bytes.0 c.in-Ok-write_who_once.ensures.bytes.1 c.in-Ok-write_who_once.ensures.bytes.2 c.in-Ok-write_who_once.ensures.health (λ _. tt))
+    (text_ends g.W.Target.written g.W.Target.health (IsReportText report e.told.summaries heap)
+    (RefusesReport heap.facts report) ⊤ c.args.target.now c.write_who_once.new.target
+    r c.in-Ok-write_who_once.ensures.bytes.0 c.in-Ok-write_who_once.ensures.bytes.1 c.in-Ok-write_who_once.ensures.bytes.2
+    c.in-Ok-write_who_once.ensures.health (λ _. tt))
 
 pub returns : goal.returns
 unfolding facts_of size_of
@@ -47,11 +50,15 @@ returns g c =
     let report = reports.Node nodes.Who (that.Identifier c.args.id) in
     let heap = indexed_heap c.in-Ok.found in
     let r : Result (Unit {0}) WriteStop = Err c.in-Err-write_who_once.stop in
-    subst (λ (fault : ToolFault). Makes g.R.Source.left g.R.Source.health g.R.Source.pulls g.W.Target.written g.W.Target.health c.args.limits
+    subst (λ (fault : ToolFault). Makes g.R.Source.left g.R.Source.health g.R.Source.pulls g.W.Target.written g.W.Target.health
+    c.args.limits
     (report_making report) c.args.readers.now c.read_heap.new.readers c.args.target.now c.write_who_once.new.target (Some fault))
     (sym c.from.ensures)
     (ended g.R.Source.left g.R.Source.health g.R.Source.pulls c.args.limits c.args.readers.now c.read_heap.new.readers
-    g.W.Target.written g.W.Target.health (IsReportText report) (λ refusal other. RefusesReport other.facts report refusal) (TakesRoom report) ⊤ c.args.target.now c.write_who_once.new.target
+    g.W.Target.written g.W.Target.health (IsReportText report) (λ refusal other. RefusesReport other.facts report refusal)
+    (TakesRoom report) ⊤ c.args.target.now c.write_who_once.new.target
     heap e.told.summaries e.ok (summaries_held g.R.Source.left _ c.args.readers.now _ e.told) e.reads r
-    (text_ends g.W.Target.written g.W.Target.health (IsReportText report e.told.summaries heap) (RefusesReport heap.facts report) ⊤ c.args.target.now c.write_who_once.new.target
-    r c.in-Err-write_who_once.ensures.bytes.0 c.in-Err-write_who_once.ensures.bytes.1 c.in-Err-write_who_once.ensures.bytes.2 c.in-Err-write_who_once.ensures.health (λ _. tt)))
+    (text_ends g.W.Target.written g.W.Target.health (IsReportText report e.told.summaries heap)
+    (RefusesReport heap.facts report) ⊤ c.args.target.now c.write_who_once.new.target
+    r c.in-Err-write_who_once.ensures.bytes.0 c.in-Err-write_who_once.ensures.bytes.1 c.in-Err-write_who_once.ensures.bytes.2
+    c.in-Err-write_who_once.ensures.health (λ _. tt)))

@@ -19,5 +19,6 @@ returns-in_default-with_capacity-clause-dialogue g c =
     let none = so_far_none IA g.Q.Asker.left g.Q.Asker.health g.Q.Asker.pulls g.W.Target.written g.W.Target.health
     c.args.questions.now c.args.target.now [] refl in
     ends_flushing IA g.Q.Asker.left g.Q.Asker.health g.Q.Asker.pulls g.W.Target.written g.W.Target.health c.args.questions.now
-    c.args.target.now c.args.questions.now c.args.target.now [] none c.pass_on-in_default-with_capacity.new.target c.pass_on-in_default-with_capacity.result c.pass_on-in_default-with_capacity.ensures.bytes
+    c.args.target.now c.args.questions.now c.args.target.now [] none c.pass_on-in_default-with_capacity.new.target
+    c.pass_on-in_default-with_capacity.result c.pass_on-in_default-with_capacity.ensures.bytes
     c.requires.asking c.pass_on-in_default-with_capacity.ensures.health

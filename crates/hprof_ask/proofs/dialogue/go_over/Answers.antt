@@ -1,4 +1,5 @@
-use Rattle.std.proofs.Common.{◌≡◌, ℕ, ◌+◌, ◌<◌, ◌++◌, ◌∷◌, [], List, length, take, drop, get_or, refl, sym, ap, subst, ◌∙◌, inr, append_assoc, add-one, arith, Ok}
+use Rattle.std.proofs.Common.{◌≡◌, ℕ, ◌+◌, ◌<◌, ◌++◌, ◌∷◌, [], List, length, take, drop, get_or, refl, sym, ap, subst, ◌∙◌, inr}
+use Rattle.std.proofs.Common.{append_assoc, add-one, arith, Ok}
 use Rattle.std.proofs.lemmas.Result.{err_from_is_err_and}
 use Rattle.std.proofs.lemmas.List.{take_more, take-append-drop}
 use Rattle.std.proofs.Math.Seq.{drop-cons}
@@ -50,11 +51,13 @@ returns-in-Ended-clause-bytes g c = λ bytes start heard.
     let place = c.loop-byte.byte-index in
     let new = g.W.Target.written c.take_question.new.target in
     let old = g.W.Target.written c.loop-byte.target in
-    let ended : TakesQuestion IA c.ended_question-question.result old new (Ok Ended) = rw c.in-Ended.is at c.in_ok-take_question.ensures.takes in
+    let ended : TakesQuestion IA c.ended_question-question.result old new (Ok Ended) =
+    rw c.in-Ended.is at c.in_ok-take_question.ensures.takes in
     subst (λ (l : List ℕ). AnswersLines IA AreLinesToQuit l start new)
     (split_at bytes piece place 10 c.loop-byte-test.true c.if-byte-eq10.true)
     (heard_quit IA (bytes ++ take place piece) start old c.loop-byte.line.items (c.loop-byte.invariant.heard bytes start heard)
-    c.ended_question-question.result (λ before line is is_line. c.ended_question-question.ensures before line (c.deref.ensures.value ∙ is) is_line)
+    c.ended_question-question.result
+    (λ before line is is_line. c.ended_question-question.ensures before line (c.deref.ensures.value ∙ is) is_line)
     (drop (place + 1) piece) new ended)
 
 -- a line was taken, and did not
@@ -72,7 +75,8 @@ loop-byte-preserved g c =
       | then-byte-eq10+in_ok-take_question+in_default w ↦ record {
         heard = λ bytes start is.
             let taken : TakesQuestion IA w.ended_question-question.result old (g.W.Target.written w.take_question.new.target) (Ok Open) =
-            subst (λ (course : Course). TakesQuestion IA w.ended_question-question.result old (g.W.Target.written w.take_question.new.target)
+            subst (λ (course : Course). TakesQuestion IA w.ended_question-question.result old
+            (g.W.Target.written w.take_question.new.target)
             (Ok course)) (is_open w.in_ok-take_question.field-0 w.in_default.not-Ended) w.in_ok-take_question.ensures.takes in
             subst (λ (l : List ℕ). Heard IA l start (g.W.Target.written c.if-byte-eq10.target) c.if-byte-eq10.line.items)
             (more_at bytes piece place 10 c.loop-byte-test.true w.if-byte-eq10.true)

@@ -9,7 +9,8 @@ use Rattle.hprof_ask.proofs.laws.answers_over_parts_are_one_text.Goals as goal
 pub returns-clause-some : goal.returns-clause-some
 returns-clause-some c = λ lines parts ids millis facts.
     made_some (λ summaries heap text. AreAnswers (IsHeapAnswer summaries heap.ids heap.facts) lines text)
-    (λ summaries heap agree. some_answers (IsHeapAnswer summaries heap.ids heap.facts) (some_answer heap.ids heap.facts agree summaries) lines)
+    (λ summaries heap agree. some_answers (IsHeapAnswer summaries heap.ids heap.facts)
+    (some_answer heap.ids heap.facts agree summaries) lines)
     parts (record { ids = ids; millis = millis; facts = facts })
 
 pub returns-clause-one : goal.returns-clause-one

@@ -1,4 +1,5 @@
-use Rattle.std.proofs.Common.{◌≡◌, ◌<◌, ◌∙◌, ◌+◌, ℕ, Global, Vec, ap, length, rules, replicate, sym, subst, subst₂, arith, slice_index, slice_set}
+use Rattle.std.proofs.Common.{◌≡◌, ◌<◌, ◌∙◌, ◌+◌, ℕ, Global, Vec, ap, length, rules, replicate, sym, subst, subst₂, arith, slice_index}
+use Rattle.std.proofs.Common.{slice_set}
 use Rattle.std.proofs.lemmas.Grind.{get_or_default_zero}
 use Rattle.hprof_heap.specs.HeapFacts.{facts_of, size_of}
 use Rattle.hprof_numbers.specs.Numbered.{nodes_in}

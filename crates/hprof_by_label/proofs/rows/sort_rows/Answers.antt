@@ -5,7 +5,8 @@ use Rattle.std.proofs.lemmas.Map.Keys.{IsDistinct-IsPermutation}
 use Rattle.hprof_by_label.specs.LabelRows.{RowValue, row_cmp}
 use Rattle.hprof_by_label.specs.RowValues.{row_value, same_label}
 use Rattle.hprof_by_label.specs.declared.row.Row.{Row}
-use Rattle.hprof_by_label.proofs.RowOrder.{row_cmp_total, rows_ascend, same_label_flips, sorted_map}
+use Rattle.hprof_histogram.proofs.Ordered.{sorted_map}
+use Rattle.hprof_by_label.proofs.RowOrder.{row_cmp_total, rows_ascend, same_label_flips}
 use Rattle.hprof_by_label.proofs.rows.sort_rows.Goals as goal
 
 pub returns-clause-ascend : goal.returns-clause-ascend

@@ -5,7 +5,8 @@ use Rattle.std.proofs.lemmas.Map.Keys.{IsDistinct-IsPermutation}
 use Rattle.hprof_diff.specs.declared.change.Change.{Change}
 use Rattle.hprof_diff.specs.Changes.{change_value}
 use Rattle.hprof_diff.specs.Difference.{ChangeValue, change_cmp}
-use Rattle.hprof_diff.specs.ChangeOrder.{change_cmp_total, changes_ascend, same_label, same_label_flips, sorted_map}
+use Rattle.hprof_histogram.proofs.Ordered.{sorted_map}
+use Rattle.hprof_diff.specs.ChangeOrder.{change_cmp_total, changes_ascend, same_label, same_label_flips}
 use Rattle.hprof_diff.proofs.comparing.sort_changes.Goals as goal
 
 pub returns-clause-ascend : goal.returns-clause-ascend

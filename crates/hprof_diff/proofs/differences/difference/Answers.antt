@@ -15,7 +15,8 @@ sort_changes-requires c =
     let new = c.args.new.now in
     let same = gathered old new (map change_value c.push_old.new.changes.items) (map change_value c.push_new.new.changes.items)
     (c.in_ok-push_old.ensures.changes
-    ∙ ap (λ (l : List Change). map change_value l ++ changes_among (totals_in old) (totals_in new) (labels_in old)) c.new-changes.ensures.items)
+    ∙ ap (λ (l : List Change). map change_value l ++ changes_among (totals_in old) (totals_in new) (labels_in old))
+    c.new-changes.ensures.items)
     c.in_ok-push_new.ensures.changes in
     subst (IsDistinct same_label) (sym same)
     (among_apart (totals_in old) (totals_in new) (both_labels old new)
@@ -28,7 +29,8 @@ returns c =
     let after = map change_value c.sort_changes.new.changes.items in
     let same = gathered old new (map change_value c.push_old.new.changes.items) (map change_value c.push_new.new.changes.items)
     (c.in_ok-push_old.ensures.changes
-    ∙ ap (λ (l : List Change). map change_value l ++ changes_among (totals_in old) (totals_in new) (labels_in old)) c.new-changes.ensures.items)
+    ∙ ap (λ (l : List Change). map change_value l ++ changes_among (totals_in old) (totals_in new) (labels_in old))
+    c.new-changes.ensures.items)
     c.in_ok-push_new.ensures.changes in
     among_is_difference (totals_in old) (totals_in new) (both_labels old new) after
     (subst (λ (before : List ChangeValue). IsPermutation before after) same c.sort_changes.ensures.same) c.sort_changes.ensures.ascend

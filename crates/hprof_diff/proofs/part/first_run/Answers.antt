@@ -14,7 +14,8 @@ loop-part-preserved c =
     let sum = c.loop-part.sum in
     let made : Counted → Part = λ counted. record { source = sum.source; counted = counted } in
     record {
-      run = run_more (c.args.first ∷ c.args.parts.now) c.loop-part.rest.now c.in-Some.after.now sum c.in-Some.part.now (made c.with-sum.result)
+      run = run_more (c.args.first ∷ c.args.parts.now) c.loop-part.rest.now c.in-Some.after.now sum c.in-Some.part.now
+          (made c.with-sum.result)
           c.in-Some.ensures.cases.0 c.if-not-is_same.ensures (ap made c.with-sum.ensures) c.loop-part.invariant.run;
       shorter = omega (arith, ap length c.in-Some.ensures.cases.0, c.loop-part.invariant.shorter);
     }

@@ -12,7 +12,8 @@ pub returns-in_err-set_line-clause-bytes : goal.returns-in_err-set_line-clause-b
 returns-in_err-set_line-clause-bytes g c =
     let p = err_from_is_err_and c.from_residual.result c.from_residual.ensures.1 in
     pushed_stops c.from_residual.result p.0 p.1 (g.W.Target.written c.args.target.now) (g.W.Target.written c.loop-change.target)
-    (changes_text (map change_value c.args.changes.now)) (changes_text (map change_value (drop c.loop-change.change-index c.args.changes.now)))
+    (changes_text (map change_value c.args.changes.now))
+    (changes_text (map change_value (drop c.loop-change.change-index c.args.changes.now)))
     c.loop-change.invariant.pushed
 
 pub returns-in_err-write_str-clause-bytes : goal.returns-in_err-write_str-clause-bytes
@@ -36,7 +37,8 @@ loop-change-preserved g c =
     let line = change_line (change_value (get_or all place no_change)) in
     record {
       pushed = Pushed-more (g.W.Target.written c.args.target.now) (g.W.Target.written c.loop-change.target)
-          (g.W.Target.written c.write_str.new.target) (changes_text (map change_value all)) (changes_text (map change_value (drop place all)))
+          (g.W.Target.written c.write_str.new.target) (changes_text (map change_value all))
+          (changes_text (map change_value (drop place all)))
           line (changes_text (map change_value (drop (place + 1) all))) c.loop-change.invariant.pushed
           (next_change all place c.loop-change-test.true)
           (subst (Appends (g.W.Target.written c.loop-change.target) (g.W.Target.written c.write_str.new.target))

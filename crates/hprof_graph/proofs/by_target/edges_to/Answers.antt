@@ -23,7 +23,8 @@ returns-clause-ascend c = λ sorted.
     subst (IsStrictlySortedBy (edge_ord.ghosts).cmp) (sym run_is)
     (run_ascends edges sorted id start count c.partition_point-start.ensures.bound
     (subst (λ (l : List Edge). count ≤ length l) back c.partition_point-count.ensures.bound) first
-    (subst (λ (l : List Edge). IsPartitionPoint (λ (edge : Edge). nat_le edge.to id ≡ true) (λ (edge : Edge). nat_le edge.to id ≡ false) l count)
+    (subst (λ (l : List Edge). IsPartitionPoint (λ (edge : Edge). nat_le edge.to id ≡ true)
+    (λ (edge : Edge). nat_le edge.to id ≡ false) l count)
     back last))
 
 pub returns-clause-exact : goal.returns-clause-exact
@@ -42,5 +43,6 @@ returns-clause-exact c = λ sorted edge.
     subst (λ (l : List Edge). Contains l edge ↔ (Contains edges edge × (edge.to ≡ id))) (sym run_is)
     (run_exact edges sorted id start count c.partition_point-start.ensures.bound
     (subst (λ (l : List Edge). count ≤ length l) back c.partition_point-count.ensures.bound) first
-    (subst (λ (l : List Edge). IsPartitionPoint (λ (edge : Edge). nat_le edge.to id ≡ true) (λ (edge : Edge). nat_le edge.to id ≡ false) l count)
+    (subst (λ (l : List Edge). IsPartitionPoint (λ (edge : Edge). nat_le edge.to id ≡ true)
+    (λ (edge : Edge). nat_le edge.to id ≡ false) l count)
     back last) edge)

@@ -18,7 +18,8 @@ count-requires c =
     c.in-Some.size (sym c.in-Some.ensures.kind)
     (c.in-Some.ensures.size ∙ ap (λ size. size_of_object size fact) c.id_size-ids.ensures.value)
     (room_of_all ids facts (length (facts_of_table tables.Objects facts)) c.id_size-ids.ensures.fit refl c.holds_of_heap.ensures.few)
-    (subst (IsTallyTo ids (facts_of_table tables.Objects facts) c.loop-facts.tally) (c.next_into.ensures.some c.loop-facts-test.true) c.loop-facts.invariant)
+    (subst (IsTallyTo ids (facts_of_table tables.Objects facts) c.loop-facts.tally)
+    (c.next_into.ensures.some c.loop-facts-test.true) c.loop-facts.invariant)
 
 pub loop-facts-preserved-in-Continue-1 : goal.loop-facts-preserved-in-Continue-1
 loop-facts-preserved-in-Continue-1 c =

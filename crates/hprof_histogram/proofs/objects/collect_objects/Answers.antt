@@ -25,18 +25,22 @@ object_of_kind-requires c =
 pub loop-facts-preserved-in-Continue-1 : goal.loop-facts-preserved-in-Continue-1
 loop-facts-preserved-in-Continue-1 c =
     let fact = value_of c.next_into.new.fact in
-    collected_one (size_of c.args.heap.now) c.args.kind (facts_of_table tables.Objects (facts_of c.args.heap.now)) c.loop-facts.objects.items
+    collected_one (size_of c.args.heap.now) c.args.kind
+    (facts_of_table tables.Objects (facts_of c.args.heap.now)) c.loop-facts.objects.items
     c.push.new.self.items fact (facts_left c.next_into.new.self) (facts_left c.loop-facts.facts) c.in-Some.object
     (c.next_into.ensures.some c.loop-facts-test.true) c.in-Some.ensures.0
-    (c.in-Some.ensures.1 ∙ ap (λ (ids : IdSize). sized_of ids fact) c.id_size-ids.ensures.value) c.in_ok-push.ensures.items c.loop-facts.invariant
+    (c.in-Some.ensures.1 ∙ ap (λ (ids : IdSize). sized_of ids fact) c.id_size-ids.ensures.value) c.in_ok-push.ensures.items
+    c.loop-facts.invariant
 
 pub loop-facts-preserved : goal.loop-facts-preserved
 loop-facts-preserved c =
-    collected_other (size_of c.args.heap.now) c.args.kind (facts_of_table tables.Objects (facts_of c.args.heap.now)) c.loop-facts.objects.items
+    collected_other (size_of c.args.heap.now) c.args.kind
+    (facts_of_table tables.Objects (facts_of c.args.heap.now)) c.loop-facts.objects.items
     (value_of c.next_into.new.fact) (facts_left c.next_into.new.self) (facts_left c.loop-facts.facts)
     (c.next_into.ensures.some c.loop-facts-test.true) c.in_default.ensures c.loop-facts.invariant
 
 pub returns : goal.returns
 returns c =
-    collected_all (size_of c.args.heap.now) c.args.kind (facts_of c.args.heap.now) (facts_left c.loop-facts.facts) c.loop-facts.objects.items
+    collected_all (size_of c.args.heap.now) c.args.kind (facts_of c.args.heap.now)
+    (facts_left c.loop-facts.facts) c.loop-facts.objects.items
     (c.next_into.ensures.none c.loop-facts-test.false).0 c.loop-facts.invariant

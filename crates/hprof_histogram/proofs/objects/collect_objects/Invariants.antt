@@ -7,7 +7,8 @@ use Rattle.hprof_histogram.proofs.KindObjects.{IsCollected}
 use Rattle.hprof_histogram.proofs.objects.collect_objects.Given as goal
 
 abbrev pub invariant-loop-facts : goal.invariant-loop-facts
-invariant-loop-facts l = IsCollected (size_of l.heap) l.kind (facts_of_table tables.Objects (facts_of l.heap)) l.objects.items (facts_left l.facts)
+invariant-loop-facts l =
+    IsCollected (size_of l.heap) l.kind (facts_of_table tables.Objects (facts_of l.heap)) l.objects.items (facts_left l.facts)
 
 abbrev pub decreases-loop-facts : goal.decreases-loop-facts
 decreases-loop-facts l = length (facts_left l.facts)

@@ -5,7 +5,8 @@ use Rattle.std.proofs.lemmas.Map.Keys.{IsDistinct-IsPermutation}
 use Rattle.hprof_holders.specs.declared.sums.Sum.{Sum}
 use Rattle.hprof_holders.specs.SumCounts.{sum_value}
 use Rattle.hprof_holders.specs.Sums.{SumValue, sum_cmp}
-use Rattle.hprof_holders.proofs.SumOrder.{same_text, same_text_flips, sorted_map, sum_cmp_total, sums_ascend}
+use Rattle.hprof_histogram.proofs.Ordered.{sorted_map}
+use Rattle.hprof_holders.proofs.SumOrder.{same_text, same_text_flips, sum_cmp_total, sums_ascend}
 use Rattle.hprof_holders.proofs.sums.sort_sums.Goals as goal
 
 pub returns-clause-ascend : goal.returns-clause-ascend

@@ -23,7 +23,8 @@ returns-in_err-write_line-clause-bytes g c = λ found is.
     let r = c.from_residual in
     let p = err_from_is_err_and r.result r.ensures.1 in (
       total ++ left,
-      held_text ids facts found retained tree c.args.place c.requires.some c.requires.within dominators.0 children.0 dominators.1 children.1,
+      held_text ids facts found retained tree c.args.place c.requires.some c.requires.within dominators.0 children.0 dominators.1
+          children.1,
       text_stops r.result (g.W.Target.written c.args.target.now) (g.W.Target.written c.write_line.new.target) p.0 total left p.1
           (c.in_err-write_line.ensures.bytes total c.total_line.ensures),
     )
@@ -45,7 +46,8 @@ returns-in_err-write_dominators-clause-bytes g c = λ found is.
     let mid = g.W.Target.written c.write_line.new.target in
     let new = g.W.Target.written c.write_dominators.new.target in (
       total ++ (above ++ below),
-      held_text ids facts found retained tree c.args.place c.requires.some c.requires.within dominators.0 children.0 dominators.1 children.1,
+      held_text ids facts found retained tree c.args.place c.requires.some c.requires.within dominators.0 children.0 dominators.1
+          children.1,
       text_then r.result old mid new total (above ++ below) (c.in_ok-write_line.ensures.bytes total c.total_line.ensures)
           (text_stops r.result mid new p.0 above below p.1 dominators.2),
     )
@@ -67,7 +69,8 @@ returns-clause-bytes g c = λ found is.
     let after = g.W.Target.written c.write_dominators.new.target in
     let new = g.W.Target.written c.write_children.new.target in (
       total ++ (above ++ below),
-      held_text ids facts found retained tree c.args.place c.requires.some c.requires.within dominators.0 children.0 dominators.1 children.1,
+      held_text ids facts found retained tree c.args.place c.requires.some c.requires.within dominators.0 children.0 dominators.1
+          children.1,
       text_then r old mid new total (above ++ below) (c.in_ok-write_line.ensures.bytes total c.total_line.ensures)
           (text_then r mid after new above below dominators.2 children.2),
     )

@@ -28,7 +28,9 @@ returns c =
     ≡ front ++ (decimal c.bytes-bytes.result ++ (codes " " ++ (decimal c.objects-objects.result ++ (codes " " ++ (node ++ codes "\n"))))))
     (λ text. string_bytes text ≡ front ++ retained_line found (retained_in retained) (node_at retained place)) c.format.result
     (λ text e. e
-    ∙ (λ i. front ++ (decimal (c.bytes-bytes.ensures i) ++ (codes " " ++ (decimal (c.objects-objects.ensures i) ++ (codes " " ++ (node ++ codes "\n"))))))
+    ∙ (λ i. front ++ (decimal (c.bytes-bytes.ensures i) ++
+    (codes " " ++ (decimal (c.objects-objects.ensures i) ++ (codes " " ++ (node ++ codes "\n"))))))
     ∙ node_parts found (retained_in retained) (node_at retained place) front node sum
     (c.in_ok-node.ensures found is ∙ ap (node_text found) c.node.ensures)
-    (sum_there (size_of c.args.heap.now) (facts_of c.args.heap.now) retained c.requires.retained place c.requires.some c.requires.within)) made
+    (sum_there (size_of c.args.heap.now) (facts_of c.args.heap.now) retained c.requires.retained place c.requires.some c.requires.within))
+    made

@@ -16,8 +16,12 @@ returns-in_err-places-clause-bytes g c = λ found is.
     let some = children_exist (size_of c.args.heap.now) (facts_of c.args.heap.now) retained c.requires.retained c.args.parent
     c.requires.within in
     let r = c.from_residual in
-    let p = err_from_is_err_and r.result r.ensures.1 in
-    (some.0, some.1, text_unwritten r.result (g.W.Target.written c.args.target.now) p.0 (child_lines found (retained_in retained) some.0) p.1)
+    let p = err_from_is_err_and r.result r.ensures.1 in (
+      some.0,
+      some.1,
+      text_unwritten r.result (g.W.Target.written c.args.target.now) p.0
+          (child_lines found (retained_in retained) some.0) p.1,
+    )
 
 pub returns-clause-bytes : goal.returns-clause-bytes
 returns-clause-bytes g c = λ found is. (

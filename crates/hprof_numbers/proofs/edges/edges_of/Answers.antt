@@ -1,36 +1,32 @@
-use Rattle.std.specs.Prelude.{◌↔◌, Contains, slice_index}
-use Rattle.std.proofs.Common.{ℕ, subst, arith}
+use Rattle.std.specs.Prelude.{slice_index}
+use Rattle.std.proofs.Common.{None, arith}
+use Rattle.std.proofs.lemmas.Result.{IfOk-weaker}
 use Rattle.hprof_numbers.specs.Numbered.{nodes_in}
-use Rattle.hprof_numbers.specs.Numbers.{items_in}
-use Rattle.hprof_numbers.proofs.Targets.{edges_more, edges_within}
+use Rattle.hprof_numbers.proofs.Targets.{number_listed, number_of_node, only_nodes}
 use Rattle.hprof_numbers.proofs.edges.edges_of.Goals as goal
 
-pub loop-number-preserved : goal.loop-number-preserved
-loop-number-preserved g c =
-    let i = c.loop-number.invariant in
-    let nodes = nodes_in c.args.nodes.now in
-    let number = c.loop-number.number in
-    let targets = c.targets_of.new.targets.items in
-    let Leads = g.G.Graph.leads c.args.graph.now in
-    let exact : (to : ℕ) → Contains targets to ↔ Leads (slice_index nodes number) to = λ to.
-    let told = subst (λ (node : ℕ). Contains targets to ↔ g.G.Graph.leads c.loop-number.graph node to) c.node.ensures
-    (c.in_ok-targets_of.ensures.ok to) in
-    let still = i.stays (slice_index nodes number) to in
-    (λ has. still.0 (told.0 has), λ leads. told.1 (still.1 leads)) in
-    record {
-      edges = rw (c.in_ok-push_or_widen.ensures, c.len-in-loop-number.ensures)
-          (edges_more Leads nodes (items_in c.loop-number.ends) (items_in c.loop-number.items)
-          (items_in c.put_targets.new.items) targets number
-          i.edges exact (rw c.deref.ensures.value at c.in_ok-put_targets.ensures.items));
-      stays = λ node to.
-          let one = c.targets_of.ensures.stays node to in
-          let other = i.stays node to in (λ leads. other.0 (one.0 leads), λ leads. one.1 (other.1 leads));
-      stands = c.targets_of.ensures.stands;
-      bound = omega (arith, i.bound, c.in_ok-put_targets.ensures.bound);
-    }
+pub numbered_edges-requires-clause-fit : goal.numbered_edges-requires-clause-fit
+numbered_edges-requires-clause-fit g c = λ target number is.
+    omega (arith, (only_nodes (nodes_in c.args.nodes.now) target number is).0, c.len.ensures)
+
+pub returns-clause-as_many : goal.returns-clause-as_many
+returns-clause-as_many g c = IfOk-weaker c.numbered_edges.result _ _ (λ lists edges. edges.as_many) c.numbered_edges.ensures.edges
 
 pub returns-clause-leads : goal.returns-clause-leads
 returns-clause-leads g c =
-    edges_within (g.G.Graph.leads c.args.graph.now) (nodes_in c.args.nodes.now) (items_in c.loop-number.ends) (items_in c.loop-number.items)
-    c.loop-number.number c.loop-number.invariant.edges
-    (omega (arith, c.loop-number-test.false, c.loop-number.auto.number-end, c.len-number-end.ensures))
+    IfOk-weaker c.numbered_edges.result _ _
+    (λ lists edges. λ from to listed.
+    let nodes = nodes_in c.args.nodes.now in
+    let of = number_listed nodes (g.G.Graph.leads c.args.graph.now) None lists edges from to listed in
+    omega (arith, (only_nodes nodes of.0 to of.2).0, edges.as_many))
+    c.numbered_edges.ensures.edges
+
+pub returns-clause-exact : goal.returns-clause-exact
+returns-clause-exact g c =
+    IfOk-weaker c.numbered_edges.result _ _
+    (λ lists edges. λ from to low within.
+    let nodes = nodes_in c.args.nodes.now in
+    let listed = edges.exact from to low in
+    let is = number_of_node nodes c.args.nodes.now.ascend (g.G.Graph.leads c.args.graph.now (slice_index nodes from)) to in
+    (λ it. (is.0 (listed.0 it)).1, λ leads. listed.1 (is.1 (within, leads))))
+    c.numbered_edges.ensures.edges

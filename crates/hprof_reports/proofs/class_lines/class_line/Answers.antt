@@ -8,6 +8,7 @@ use Rattle.hprof_reports.proofs.class_lines.class_line.Goals as goal
 pub returns : goal.returns
 returns c = λ naming is.
     let dump = class_value c.args.dump.now in
-    let end = c.deref-2.ensures ∙ c.in_ok-end.ensures ∙ ap (line_from_signers dump) (c.deref.ensures ∙ c.in_ok-label.ensures.named naming is) in
+    let end = c.deref-2.ensures ∙ c.in_ok-end.ensures
+    ∙ ap (line_from_signers dump) (c.deref.ensures ∙ c.in_ok-label.ensures.named naming is) in
     subst (λ (end : List ℕ). IfOk c.line_to_loader.result (λ line. string_bytes line ≡ line_to_loader dump end)) end
     c.line_to_loader.ensures

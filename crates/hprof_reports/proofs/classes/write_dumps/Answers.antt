@@ -22,7 +22,8 @@ loop-fact-init g c = record {
       let ids = size_of c.args.heap.now in
       let facts = facts_of c.args.heap.now in
       let written = g.W.Target.written c.args.target.now in
-      let same = ap (λ (rows : Facts). facts_left rows) c.into_iter-fact-iterator.ensures.into_iter_gives ∙ c.table_facts-fact-items.ensures.all in
+      let same = ap (λ (rows : Facts). facts_left rows) c.into_iter-fact-iterator.ensures.into_iter_gives
+      ∙ c.table_facts-fact-items.ensures.all in
       subst (λ left. Pushed written written (classes_text naming ids facts (dumps_in (facts_of_table tables.Classes facts)))
       (classes_text naming ids facts (dumps_in left))) (sym same)
       (Pushed-none written (classes_text naming ids facts (dumps_in (facts_of_table tables.Classes facts))));
@@ -36,11 +37,13 @@ loop-fact-preserved-in-Continue-1 g c = record {
       let facts = facts_of c.args.heap.now in
       let dump = class_value c.in-Some-to_class_dump.dump in
       let line = class_line naming ids facts dump in
-      Pushed-more (g.W.Target.written c.args.target.now) (g.W.Target.written c.loop-fact.target) (g.W.Target.written c.write_line.new.target)
+      Pushed-more (g.W.Target.written c.args.target.now) (g.W.Target.written c.loop-fact.target)
+      (g.W.Target.written c.write_line.new.target)
       (classes_text naming ids facts (dumps_in (facts_of_table tables.Classes facts)))
       (classes_text naming ids facts (dumps_in (facts_left c.loop-fact.fact-iterator))) line
       (classes_text naming ids facts (dumps_in (facts_left c.next.new.self))) (c.loop-fact.invariant.pushed naming is)
-      (ap (classes_text naming ids facts) (dumps_with (value_of c.in-Some.fact) (facts_left c.loop-fact.fact-iterator) (facts_left c.next.new.self) dump
+      (ap (classes_text naming ids facts)
+      (dumps_with (value_of c.in-Some.fact) (facts_left c.loop-fact.fact-iterator) (facts_left c.next.new.self) dump
       c.in-Some.ensures.steps.0 c.in-Some-to_class_dump.ensures.found))
       (c.in_ok-write_line.ensures.bytes line (c.class_line.ensures naming is));
   well = c.in_ok-write_line.ensures.health;
@@ -54,13 +57,15 @@ returns-in_err-write_line-clause-bytes g c = λ naming is.
     let line = class_line naming ids facts dump in
     let r = c.from_residual.result in
     let p = err_from_is_err_and r c.from_residual.ensures.1 in
-    subst (λ dumps. WritesText (g.W.Target.written c.args.target.now) (g.W.Target.written c.write_line.new.target) r (classes_text naming ids facts dumps))
+    subst (λ dumps. WritesText (g.W.Target.written c.args.target.now) (g.W.Target.written c.write_line.new.target) r
+    (classes_text naming ids facts dumps))
     (dumps_of_table facts)
     (pushed_stops_within r p.0 p.1 (g.W.Target.written c.args.target.now) (g.W.Target.written c.loop-fact.target)
     (classes_text naming ids facts (dumps_in (facts_of_table tables.Classes facts)))
     (classes_text naming ids facts (dumps_in (facts_left c.loop-fact.fact-iterator))) (c.loop-fact.invariant.pushed naming is)
     (g.W.Target.written c.write_line.new.target) line (classes_text naming ids facts (dumps_in (facts_left c.next.new.self)))
-    (ap (classes_text naming ids facts) (dumps_with (value_of c.in-Some.fact) (facts_left c.loop-fact.fact-iterator) (facts_left c.next.new.self) dump
+    (ap (classes_text naming ids facts)
+    (dumps_with (value_of c.in-Some.fact) (facts_left c.loop-fact.fact-iterator) (facts_left c.next.new.self) dump
     c.in-Some.ensures.steps.0 c.in-Some-to_class_dump.ensures.found))
     (c.in_err-write_line.ensures.bytes line (c.class_line.ensures naming is)))
 
@@ -81,7 +86,8 @@ pub returns-clause-bytes : goal.returns-clause-bytes
 returns-clause-bytes g c = λ naming is.
     let ids = size_of c.args.heap.now in
     let facts = facts_of c.args.heap.now in
-    subst (λ dumps. Appends (g.W.Target.written c.args.target.now) (g.W.Target.written c.loop-fact.target) (classes_text naming ids facts dumps))
+    subst (λ dumps. Appends (g.W.Target.written c.args.target.now) (g.W.Target.written c.loop-fact.target)
+    (classes_text naming ids facts dumps))
     (dumps_of_table facts)
     (Pushed-all (g.W.Target.written c.args.target.now) (g.W.Target.written c.loop-fact.target)
     (classes_text naming ids facts (dumps_in (facts_of_table tables.Classes facts)))

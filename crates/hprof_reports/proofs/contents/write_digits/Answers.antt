@@ -12,9 +12,11 @@ returns-in_err-write_piece-clause-bytes g c =
     let p = err_from_is_err_and c.from_residual.result c.from_residual.ensures.1 in
     let piece = c.split_at.result.0.now in
     let after = c.split_at.result.1.now in
-    Pushed-stops (g.W.Target.written c.args.target.now) (g.W.Target.written c.loop-rest.target) (g.W.Target.written c.write_piece.new.target)
+    Pushed-stops (g.W.Target.written c.args.target.now) (g.W.Target.written c.loop-rest.target)
+    (g.W.Target.written c.write_piece.new.target)
     c.from_residual.result p.0 (encode_lower c.args.bytes.now) (encode_lower c.loop-rest.rest.now) (encode_lower piece) (encode_lower after)
-    p.1 c.loop-rest.invariant.pushed (digits_split c.loop-rest.rest.now piece after c.split_at.ensures.by_index.0) c.in_err-write_piece.ensures.bytes
+    p.1 c.loop-rest.invariant.pushed
+    (digits_split c.loop-rest.rest.now piece after c.split_at.ensures.by_index.0) c.in_err-write_piece.ensures.bytes
 
 pub loop-rest-preserved : goal.loop-rest-preserved
 loop-rest-preserved g c =

@@ -14,6 +14,7 @@ returns-in_ok-label-in-Class c = λ naming is.
     let row = c.args.row.now in
     let same = one_label facts c.holds_of_heap.ensures.agree class (string_bytes c.in_ok-label-in-Class.label) (naming.label class)
     (c.name_of.result, c.name_of.ensures facts c.requires, c.in_ok-label-in-Class.ensures) (is.labels class) in
-    subst (λ (kind : Kind). IfOk c.class_row_line.result (λ line. string_bytes line ≡ kind_line naming row.bytes row.count kind)) (sym c.in-Class.is)
+    subst (λ (kind : Kind). IfOk c.class_row_line.result (λ line. string_bytes line ≡ kind_line naming row.bytes row.count kind))
+    (sym c.in-Class.is)
     (subst (λ (label : List ℕ). IfOk c.class_row_line.result (λ line. string_bytes line ≡ class_row_line row.bytes row.count class label))
     (c.deref.ensures ∙ same) c.class_row_line.ensures)

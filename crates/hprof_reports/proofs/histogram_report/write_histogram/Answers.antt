@@ -23,7 +23,8 @@ returns-clause-bytes g c =
         are_rows = c.in_ok-rows.ensures;
         is = refl;
       },
-      subst (λ (some : List Row). WritesText (g.W.Target.written c.args.target.now) (g.W.Target.written c.write_rows.new.target) c.write_rows.result
+      subst (λ (some : List Row). WritesText (g.W.Target.written c.args.target.now)
+          (g.W.Target.written c.write_rows.new.target) c.write_rows.result
           (rows_text naming.0 some)) c.deref.ensures.value (c.write_rows.ensures.bytes naming.0 naming.1),
     )
 
@@ -35,7 +36,15 @@ returns-in_err-rows-clause-bytes g c =
     let rows = at_least_one (size_of c.args.heap.now) facts in
     let p = err_from_is_err_and c.from_residual.result c.from_residual.ensures.1 in (
       rows_text naming.0 rows.0,
-      record { agree = c.holds_of_heap.ensures.agree; naming = naming.0; is_naming = naming.1; rows = rows.0; are_rows = rows.1; is = refl },
+      record {
+        agree = c.holds_of_heap.ensures.agree;
+        naming = naming.0;
+        is_naming = naming.1;
+        rows = rows.0;
+        are_rows = rows.1;
+        is =
+            refl;
+      },
       text_unwritten c.from_residual.result (g.W.Target.written c.args.target.now) p.0 (rows_text naming.0 rows.0) p.1,
     )
 
@@ -47,6 +56,14 @@ returns-in_err-names-clause-bytes g c =
     let r = c.from_residual-in_err-names.result in
     let p = err_from_is_err_and r c.from_residual-in_err-names.ensures.1 in (
       rows_text naming.0 rows.0,
-      record { agree = c.holds_of_heap.ensures.agree; naming = naming.0; is_naming = naming.1; rows = rows.0; are_rows = rows.1; is = refl },
+      record {
+        agree = c.holds_of_heap.ensures.agree;
+        naming = naming.0;
+        is_naming = naming.1;
+        rows = rows.0;
+        are_rows = rows.1;
+        is =
+            refl;
+      },
       text_unwritten r (g.W.Target.written c.args.target.now) p.0 (rows_text naming.0 rows.0) p.1,
     )

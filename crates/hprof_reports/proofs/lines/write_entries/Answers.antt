@@ -29,7 +29,8 @@ loop-place-preserved g c = record {
   pushed = λ naming is.
       let line_at = g.L.Item.Entry.line_at naming (size_of c.args.heap.now) in
       let line = line_at c.loop-place.place c.in-Some.entry in
-      Pushed-more (g.W.Target.written c.args.target.now) (g.W.Target.written c.loop-place.target) (g.W.Target.written c.write_line.new.target)
+      Pushed-more (g.W.Target.written c.args.target.now) (g.W.Target.written c.loop-place.target)
+      (g.W.Target.written c.write_line.new.target)
       (text_of_lines (each_line line_at 0 (g.L.Entries.left c.args.entries)))
       (text_of_lines (each_line line_at c.loop-place.place (g.L.Entries.left c.loop-place.entries))) line
       (text_of_lines (each_line line_at (c.loop-place.place + 1) (g.L.Entries.left c.next_entry.new.self)))

@@ -14,7 +14,8 @@ returns-in_err-write_line-clause-bytes g c = λ naming is.
     let dump = class_value c.args.dump.now in
     let ids = size_of c.args.heap.now in
     let p = err_from_is_err_and c.from_residual.result c.from_residual.ensures.1 in
-    text_stops c.from_residual.result (g.W.Target.written c.args.target.now) (g.W.Target.written c.write_line.new.target) p.0 (class_line naming dump)
+    text_stops c.from_residual.result (g.W.Target.written c.args.target.now) (g.W.Target.written c.write_line.new.target) p.0
+    (class_line naming dump)
     (constants_text ids dump ++ (statics_text naming ids dump ++ own_fields_text naming dump)) p.1
     (c.in_err-write_line.ensures.bytes (class_line naming dump) (c.class_line.ensures naming is))
 
@@ -27,7 +28,8 @@ returns-in_err-write_entries-clause-bytes g c = λ naming is.
     let new = g.W.Target.written c.write_entries.new.target in
     let r = c.from_residual-in_err-write_entries.result in
     let p = err_from_is_err_and r c.from_residual-in_err-write_entries.ensures.1 in
-    text_then r old named new (class_line naming dump) (constants_text ids dump ++ (statics_text naming ids dump ++ own_fields_text naming dump))
+    text_then r old named new (class_line naming dump)
+    (constants_text ids dump ++ (statics_text naming ids dump ++ own_fields_text naming dump))
     (c.in_ok-write_line.ensures.bytes (class_line naming dump) (c.class_line.ensures naming is))
     (text_stops r named new p.0 (constants_text ids dump) (statics_text naming ids dump ++ own_fields_text naming dump) p.1
     (c.in_err-write_entries.ensures.bytes naming (map constant_of dump.constants) is (ap (map constant_of) c.iter.ensures.all)))
@@ -42,7 +44,8 @@ returns-in_err-write_entries-2-clause-bytes g c = λ naming is.
     let new = g.W.Target.written c.write_entries-2.new.target in
     let r = c.from_residual-in_err-write_entries-2.result in
     let p = err_from_is_err_and r c.from_residual-in_err-write_entries-2.ensures.1 in
-    text_then r old named new (class_line naming dump) (constants_text ids dump ++ (statics_text naming ids dump ++ own_fields_text naming dump))
+    text_then r old named new (class_line naming dump)
+    (constants_text ids dump ++ (statics_text naming ids dump ++ own_fields_text naming dump))
     (c.in_ok-write_line.ensures.bytes (class_line naming dump) (c.class_line.ensures naming is))
     (text_then r named constant new (constants_text ids dump) (statics_text naming ids dump ++ own_fields_text naming dump)
     (c.in_ok-write_entries.ensures.bytes naming (map constant_of dump.constants) is (ap (map constant_of) c.iter.ensures.all))
@@ -59,7 +62,8 @@ returns-clause-bytes g c = λ naming is.
     let fixed = g.W.Target.written c.write_entries-2.new.target in
     let new = g.W.Target.written c.write_entries-3.new.target in
     let r = c.write_entries-3.result in
-    text_then r old named new (class_line naming dump) (constants_text ids dump ++ (statics_text naming ids dump ++ own_fields_text naming dump))
+    text_then r old named new (class_line naming dump)
+    (constants_text ids dump ++ (statics_text naming ids dump ++ own_fields_text naming dump))
     (c.in_ok-write_line.ensures.bytes (class_line naming dump) (c.class_line.ensures naming is))
     (text_then r named constant new (constants_text ids dump) (statics_text naming ids dump ++ own_fields_text naming dump)
     (c.in_ok-write_entries.ensures.bytes naming (map constant_of dump.constants) is (ap (map constant_of) c.iter.ensures.all))

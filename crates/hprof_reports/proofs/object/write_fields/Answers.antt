@@ -37,7 +37,8 @@ returns-in_default g c = record {
       let facts = facts_of c.args.heap.now in
       let why = c.in_ok-why.why in
       let same = fields_once ids facts c.args.object shown (fields_value why) c.holds_of_heap.ensures.agree are c.in_ok-why.ensures in
-      subst (λ (fields : FieldsValue). WritesText (g.W.Target.written c.args.target.now) (g.W.Target.written c.write_line.new.target) c.write_line.result (fields_text naming ids fields)) (sym same)
+      subst (λ (fields : FieldsValue). WritesText (g.W.Target.written c.args.target.now)
+      (g.W.Target.written c.write_line.new.target) c.write_line.result (fields_text naming ids fields)) (sym same)
       (rw (no_values naming ids why c.in_default.not-Values)
       (c.write_line.ensures.bytes (why_no_fields (fields_value why)) c.no_fields_line.ensures));
   health = c.write_line.ensures.health;

@@ -10,5 +10,6 @@ returns c = λ naming is.
     subst (λ (label : List ℕ). IfOk c.counted_line.result
     (λ line. string_bytes line ≡ counted_line c.args.id c.args.class (length (identifiers_of c.args.elements.now)) label))
     (c.deref.ensures ∙ c.in_ok-label.ensures.named naming is)
-    (subst (λ (len : ℕ). IfOk c.counted_line.result (λ line. string_bytes line ≡ counted_line c.args.id c.args.class len c.deref.result.now))
+    (subst (λ (len : ℕ). IfOk c.counted_line.result
+    (λ line. string_bytes line ≡ counted_line c.args.id c.args.class len c.deref.result.now))
     c.len.ensures c.counted_line.ensures)

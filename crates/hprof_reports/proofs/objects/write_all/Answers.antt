@@ -27,7 +27,8 @@ pub loop-object-preserved : goal.loop-object-preserved
 loop-object-preserved g c =
     let line = object_line c.in-Some.object.now in
     record {
-      pushed = Pushed-more (g.W.Target.written c.args.target.now) (g.W.Target.written c.loop-object.target) (g.W.Target.written c.write_str.new.target)
+      pushed = Pushed-more (g.W.Target.written c.args.target.now) (g.W.Target.written c.loop-object.target)
+          (g.W.Target.written c.write_str.new.target)
           (objects_text c.args.objects.now) (objects_text c.loop-object.rest.now) line (objects_text c.in-Some.after.now)
           c.loop-object.invariant.pushed (ap objects_text c.in-Some.ensures.cases.0)
           (appended_is (g.W.Target.written c.loop-object.target) (g.W.Target.written c.write_str.new.target) c.deref.result.now line

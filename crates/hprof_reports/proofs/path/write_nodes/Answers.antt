@@ -11,7 +11,8 @@ returns-in_err-write_line-clause-bytes g c =
     let node = c.in-Some.node.now in
     let after = c.in-Some.after.now in
     pushed_stops_within c.from_residual.result p.0 p.1 (g.W.Target.written c.args.target.now) (g.W.Target.written c.loop-node.target)
-    (nodes_text c.args.nodes.now) (nodes_text c.loop-node.rest.now) c.loop-node.invariant.pushed (g.W.Target.written c.write_line.new.target)
+    (nodes_text c.args.nodes.now) (nodes_text c.loop-node.rest.now) c.loop-node.invariant.pushed
+    (g.W.Target.written c.write_line.new.target)
     (node_line node) (nodes_text after) (ap nodes_text c.in-Some.ensures.cases.0)
     (c.in_err-write_line.ensures.bytes (node_line node) c.node_line.ensures)
 
@@ -20,7 +21,8 @@ loop-node-preserved g c = record {
   pushed =
       let node = c.in-Some.node.now in
       let after = c.in-Some.after.now in
-      Pushed-more (g.W.Target.written c.args.target.now) (g.W.Target.written c.loop-node.target) (g.W.Target.written c.write_line.new.target)
+      Pushed-more (g.W.Target.written c.args.target.now) (g.W.Target.written c.loop-node.target)
+      (g.W.Target.written c.write_line.new.target)
       (nodes_text c.args.nodes.now) (nodes_text c.loop-node.rest.now) (node_line node) (nodes_text after) c.loop-node.invariant.pushed
       (ap nodes_text c.in-Some.ensures.cases.0) (c.in_ok-write_line.ensures.bytes (node_line node) c.node_line.ensures);
   well = c.in_ok-write_line.ensures.health;

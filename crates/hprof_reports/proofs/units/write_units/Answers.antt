@@ -12,7 +12,8 @@ returns-in_err-push_unit-clause-bytes g c =
     let p = err_from_is_err_and c.from_residual.result c.from_residual.ensures.1 in
     let coding = c.args.units.coding in
     pushed_stops c.from_residual.result p.0 p.1 (g.W.Target.written c.args.target.now) (g.W.Target.written c.loop-unit.target)
-    (printed_units (units_of coding c.args.units.bytes.now)) (c.loop-unit.text.items ++ printed_units (units_of coding c.loop-unit.rest.now))
+    (printed_units (units_of coding c.args.units.bytes.now))
+    (c.loop-unit.text.items ++ printed_units (units_of coding c.loop-unit.rest.now))
     c.loop-unit.invariant.pushed
 
 pub returns-in_err-pass_on-clause-bytes : goal.returns-in_err-pass_on-clause-bytes
@@ -21,7 +22,8 @@ returns-in_err-pass_on-clause-bytes g c =
     let p = err_from_is_err_and r c.from_residual-in_err-pass_on.ensures.1 in
     let coding = c.args.units.coding in
     pushed_stops_within r p.0 p.1 (g.W.Target.written c.args.target.now) (g.W.Target.written c.loop-unit.target)
-    (printed_units (units_of coding c.args.units.bytes.now)) (c.loop-unit.text.items ++ printed_units (units_of coding c.loop-unit.rest.now))
+    (printed_units (units_of coding c.args.units.bytes.now))
+    (c.loop-unit.text.items ++ printed_units (units_of coding c.loop-unit.rest.now))
     c.loop-unit.invariant.pushed (g.W.Target.written c.pass_on.new.target) c.push_unit.new.text.items
     (printed_units (units_of coding c.in-Some.after.now))
     (kept_more c.loop-unit.text.items c.push_unit.new.text.items c.in-Some.unit (units_of coding c.loop-unit.rest.now)
@@ -35,7 +37,8 @@ loop-unit-preserved-in_ok-pass_on g c =
     record {
       pushed = subst (λ text. Pushed (g.W.Target.written c.args.target.now) (g.W.Target.written c.pass_on.new.target) all (text ++ after))
           (sym c.pass_on.ensures.empty)
-          (Pushed-more (g.W.Target.written c.args.target.now) (g.W.Target.written c.loop-unit.target) (g.W.Target.written c.pass_on.new.target)
+          (Pushed-more (g.W.Target.written c.args.target.now) (g.W.Target.written c.loop-unit.target)
+          (g.W.Target.written c.pass_on.new.target)
           all (c.loop-unit.text.items ++ printed_units (units_of coding c.loop-unit.rest.now)) c.push_unit.new.text.items after
           c.loop-unit.invariant.pushed
           (kept_more c.loop-unit.text.items c.push_unit.new.text.items c.in-Some.unit (units_of coding c.loop-unit.rest.now)

@@ -13,5 +13,6 @@ invariant-loop-number l = record {
   small : All (λ size. size < 2 ^ 64) l.sizes.items;
   top : slice_index l.sizes.items 0 ≡ 0;
   sizes : (number : ℕ) → number < l.number → 0 < place_of l.tree number
-      → IsSizeOf (size_of l.heap) (facts_of l.heap) (slice_index (nodes_in l.nodes) number) (slice_index l.sizes.items (place_of l.tree number));
+      → IsSizeOf (size_of l.heap) (facts_of l.heap) (slice_index (nodes_in l.nodes) number)
+      (slice_index l.sizes.items (place_of l.tree number));
 }

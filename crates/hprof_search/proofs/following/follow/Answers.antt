@@ -20,7 +20,8 @@ loop-target-preserved c =
       | in-Some+in_ok-arrive w ↦
           let number = w.in-Some.number in
           let some : number_in nodes target ≡ Some number = sym c.number_of.ensures ∙ w.in-Some.is in
-          let arrives = subst (λ (one : ℕ). Follows (Arrives one number) middle (finds_of w.arrive.new.self)) w.unwrap_or.ensures w.in_ok-arrive.ensures in
+          let arrives = subst (λ (one : ℕ). Follows (Arrives one number) middle (finds_of w.arrive.new.self)) w.unwrap_or.ensures
+          w.in_ok-arrive.ensures in
           subst P (sym w.trail-is) (to_number nodes from targets index target c.loop-target-test.true refl old middle c.requires.as_many
           c.loop-target.invariant c.args.numbered.now.ascend number (finds_of w.arrive.new.self) some arrives)
       | in_default w ↦

@@ -18,10 +18,15 @@ loop-number-preserved g c =
     let is : node ≡ slice_index nodes number = c.node.ensures in
     let leads = subst (λ (n : ℕ). (to : ℕ) → Contains targets to ↔ Leads n to) is
     (λ to. (λ has. (was.stays node to).0 ((given to).0 has), λ leads. (given to).1 ((was.stays node to).1 leads))) in
-    let more = subst (λ (ts : List ℕ). Follows (LeadsTo nodes (Some number) ts) (finds_of c.loop-number.trail) (finds_of c.follow.new.trail))
+    let more = subst (λ (ts : List ℕ). Follows (LeadsTo nodes (Some number) ts) (finds_of c.loop-number.trail)
+    (finds_of c.follow.new.trail))
     c.deref.ensures.value c.in_ok-follow.ensures in record {
       follows = led_more Leads nodes level targets index number (finds_of c.args.trail.now) (finds_of c.loop-number.trail)
           (finds_of c.follow.new.trail) c.loop-number-test.true refl c.requires.ascend leads was.follows more;
-      stays = λ node to. (λ leads. (was.stays node to).0 ((stays node to).0 leads), λ leads. (stays node to).1 ((was.stays node to).1 leads));
+      stays = λ node to. (
+        λ leads. (was.stays node to).0 ((stays node to).0 leads),
+        λ leads. (stays node to).1
+            ((was.stays node to).1 leads),
+      );
       stands = c.in_ok-targets_of.ensures.stands;
     }

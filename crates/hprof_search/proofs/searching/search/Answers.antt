@@ -1,4 +1,5 @@
-use Rattle.std.proofs.Common.{◌≡◌, ◌<◌, ◌+◌, ◌∙◌, ℕ, suc, Bool, false, not, List, [], None, count_by, drop, get_or, length, refl, ap, sym, subst, arith, eqb-true, vec_len}
+use Rattle.std.proofs.Common.{◌≡◌, ◌<◌, ◌+◌, ◌∙◌, ℕ, suc, Bool, false, not, List, [], None, count_by, drop, get_or, length, refl, ap, sym}
+use Rattle.std.proofs.Common.{subst, arith, eqb-true, vec_len}
 use Rattle.std.proofs.Math.ListN.{drop_of_length-le}
 use Rattle.std.proofs.lemmas.List.{length-replicate}
 use Rattle.std.proofs.lemmas.List.Elements.{Contains-get_or}
@@ -23,7 +24,8 @@ loop-graph-init g c =
     let empty : (number : ℕ) → is_found old number ≡ false =
     λ number. ap (λ (fs : List Bool). get_or fs number false) c.in_ok-trail.ensures.found ∙ none_found c.len.result number in
     let many : length old.found ≡ length nodes = ap (length {A = Bool}) c.in_ok-trail.ensures.found ∙ length-replicate c.len.result false
-    ∙ (let e = c.len.ensures in let same : length nodes ≡ length c.args.nodes.items = ap (length {A = ℕ}) c.in_ok-numbered.ensures in omega arith) in
+    ∙ (let e = c.len.ensures in let same : length nodes
+    ≡ length c.args.nodes.items = ap (length {A = ℕ}) c.in_ok-numbered.ensures in omega arith) in
     let follows = c.in_ok-follow.ensures in
     let no_next : old.next ≡ [] = ap (drop c.in_ok-trail.trail.next) c.in_ok-trail.ensures.order ∙ drop_of_length-le [] (omega arith) in
     let came = came_next (LeadsTo nodes None starts) old middle follows no_next level c.in_ok-take_next.ensures.same in
@@ -70,7 +72,8 @@ loop-graph-preserved g c =
     let follows = follows_same (LeadsOn (g.G.Graph.leads c.loop-graph.graph) nodes last) (LeadsOn Leads nodes last) old middle
     (λ from to below. (λ on. (on.0, (was.stays _ _).0 on.1), λ on. (on.0, (was.stays _ _).1 on.1))) led in
     let came = came_next (LeadsOn Leads nodes last) old middle follows was.none level taken.same in
-    let more = searched_more Leads nodes starts c.in_ok-numbered.numbered.ascend old middle last c.loop-graph.levels was.searched follows level came in
+    let more = searched_more Leads nodes starts c.in_ok-numbered.numbered.ascend old middle last c.loop-graph.levels was.searched follows
+    level came in
     let found : new.found ≡ middle.found = rw taken.found in
     let before : new.before ≡ middle.before = rw taken.before in
     let order : new.order ≡ middle.order = rw taken.order in
@@ -79,15 +82,22 @@ loop-graph-preserved g c =
     let few = was.few in
     let one : suc c.loop-graph.levels ≡ c.loop-graph.levels + 1 = omega arith in
     let some : 0 < length last =
-    some_there last (vec_len c.loop-graph.level) (omega (arith, c.loop-graph.level.ok.0)) (sym c.is_empty.ensures ∙ c.loop-graph-test.true) in record {
-      searched = subst (IsSearched Leads nodes starts new level) one (searched_still Leads nodes starts middle new level (suc c.loop-graph.levels) found before more);
+    some_there last (vec_len c.loop-graph.level) (omega (arith, c.loop-graph.level.ok.0))
+    (sym c.is_empty.ensures ∙ c.loop-graph-test.true) in record {
+      searched = subst (IsSearched Leads nodes starts new level) one
+          (searched_still Leads nodes starts middle new level (suc c.loop-graph.levels) found before more);
       ascend = taken.ascend;
       none = taken.none;
       order = subst (IsByDistance Leads nodes starts) (sym order) (more_in_order Leads nodes starts
-          c.in_ok-numbered.numbered.ascend old middle last c.loop-graph.levels was.searched follows c.loop-graph.trail.ordered was.none was.order);
+          c.in_ok-numbered.numbered.ascend old middle last c.loop-graph.levels was.searched follows c.loop-graph.trail.ordered was.none
+          was.order);
       once = taken.once;
       few = omega arith;
-      stays = λ node to. (λ leads. (was.stays node to).0 ((stays node to).0 leads), λ leads. (stays node to).1 ((was.stays node to).1 leads));
+      stays = λ node to. (
+        λ leads. (was.stays node to).0 ((stays node to).0 leads),
+        λ leads. (stays node to).1
+            ((was.stays node to).1 leads),
+      );
       stands = c.in_ok-lead_on.ensures.stands;
     }
 
@@ -101,7 +111,8 @@ returns g c =
     let level = c.loop-graph.level.items in
     let was = c.loop-graph.invariant.searched in
     let empty : level ≡ [] = none_there level
-    (let none = eqb-true (vec_len c.loop-graph.level) 0 (sym c.is_empty.ensures ∙ c.loop-graph-test.false) in omega (arith, c.loop-graph.level.ok.0)) in
+    (let none = eqb-true (vec_len c.loop-graph.level) 0 (sym c.is_empty.ensures ∙ c.loop-graph-test.false) in omega
+    (arith, c.loop-graph.level.ok.0)) in
     let last = subst (λ (ns : List ℕ). IsSearched Leads nodes starts finds ns c.loop-graph.levels) empty was in
     let searched = searched_still Leads nodes starts finds kept [] c.loop-graph.levels refl refl last in
     let same = sym c.into_nodes.ensures in

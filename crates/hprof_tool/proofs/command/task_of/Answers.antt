@@ -26,7 +26,8 @@ pub returns : goal.returns
 returns c =
     let words = map string_bytes c.args.words.now in
     let found = subcommand_rows_of c.in_ok-matches.matches in
-    let same : found ≡ subcommand_of command_line words = (c.in_ok-matches.ensures.matches (ap is_simple c.in_ok-command.ensures ∙ simple)).1
+    let same : found ≡ subcommand_of command_line words =
+    (c.in_ok-matches.ensures.matches (ap is_simple c.in_ok-command.ensures ∙ simple)).1
     ∙ ap (λ (app : App). subcommand_of app words) c.in_ok-command.ensures in
     let taken : fault_of command_line words ≡ [] = subst (λ (app : App). fault_of app words ≡ []) c.in_ok-command.ensures
     (c.in_ok-matches.ensures.kinds (ap is_simple_and_free c.in_ok-command.ensures ∙ free)) in

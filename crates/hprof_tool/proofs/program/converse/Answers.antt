@@ -14,7 +14,8 @@ returns-clause-done g c =
     let answered = g.F.Folder.answered c.args.files.now in
     done_of_stream _ c.ask_files.result c.answer_stream.result
     (if_ok_more _ _ c.ask_files.result (λ written all. same_questions answered g.F.Part.Source.left g.I.Source.left
-    (λ (it : Prompting _ _). g.I.Source.left it.questions) g.O.Write.contents c.args.names.now c.args.input c.new-questions.result c.args.output
+    (λ (it : Prompting _ _). g.I.Source.left it.questions) g.O.Write.contents c.args.names.now c.args.input c.new-questions.result
+    c.args.output
     (ap g.I.Source.left c.new-questions.ensures) _ all) c.ask_files.ensures.ok)
     c.answer_stream.ensures.status c.answer_stream.ensures.output
 
@@ -32,7 +33,8 @@ returns-clause-refused g c =
     let refuses = λ (stopped : Stopped _). RefusesQuestions answered tells left contents names c.args.input c.args.output health pulls
     stopped.why stopped.writer in
     let failed = λ (stopped : Stopped _). HasFailed g.I.Source.health g.I.Source.pulls stopped.why in
-    let told = refused_of_stream (λ why left_over. RefusesQuestions answered tells left contents names c.args.input c.args.output health pulls
+    let told = refused_of_stream
+    (λ why left_over. RefusesQuestions answered tells left contents names c.args.input c.args.output health pulls
     why left_over × HasFailed g.I.Source.health g.I.Source.pulls why)
     (λ why. TellsRefusal why (g.E.Write.contents c.args.errors.now) (g.E.Write.contents c.answer_stream.new.errors))
     c.ask_files.result c.answer_stream.result
@@ -41,7 +43,8 @@ returns-clause-refused g c =
     (OverFiles answered tells asked contents names c.new-questions.result c.args.output)
     (OverFiles answered tells left contents names c.args.input c.args.output)
     (same_questions answered tells left asked contents names c.args.input c.new-questions.result c.args.output
-    (ap left c.new-questions.ensures)) refusal refusal (λ refused says. says) stopped.why stopped.writer leaves) c.ask_files.ensures.refused)
+    (ap left c.new-questions.ensures)) refusal refusal (λ refused says. says) stopped.why stopped.writer leaves)
+    c.ask_files.ensures.refused)
     (if_err_more _ _ c.ask_files.result (λ stopped cause same. (c.ask_files.new.questions.questions, cause same))
     c.ask_files.ensures.cause))
     c.answer_stream.ensures.status c.answer_stream.ensures.output c.answer_stream.ensures.told in

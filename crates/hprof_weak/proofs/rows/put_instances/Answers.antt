@@ -20,7 +20,7 @@ loop-fact-preserved-in_ok-put_weak c =
     c.loop-fact.left c.loop-fact.fields.items (value_of c.in-Some.fact) c.in-Some.ensures.steps.0
     c.loop-fact.invariant c.in-Instance.id c.in-Instance.trace c.in-Instance.class c.in-Instance.bytes.now c.put_weak.new.self
     c.put_weak.new.fields.items (ap value_of c.in-Instance.is) c.holds_of_heap.ensures.agree
-    (c.in_ok-put_weak.ensures facts)
+    (c.in_ok-put_weak.ensures.puts facts)
 
 pub loop-fact-preserved : goal.loop-fact-preserved
 loop-fact-preserved c =

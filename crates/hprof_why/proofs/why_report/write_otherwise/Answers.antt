@@ -56,7 +56,8 @@ returns-in_ok-write_str-in-Some-clause-bytes g c = λ found are.
     let is = subst (IsPathTo kept ids facts id) c.in-Some.is c.in_ok-found.ensures.path in
     let told = told_exists kept ids facts agree (kept_decided ids facts agree []) found id path.distance path.nodes.items is.1 in
     let told_so =
-    subst (λ (fields : List FieldPlace). IsToldPath (IsKept fields facts) ids facts found path.distance path.nodes.items told.0) (sym c.none.ensures) told.1 in (
+    subst (λ (fields : List FieldPlace). IsToldPath (IsKept fields facts) ids facts found path.distance path.nodes.items told.0)
+    (sym c.none.ensures) told.1 in (
       codes "only by weak references\n" ++ told.0,
       inl (
         told.0,

@@ -9,7 +9,8 @@ use Rattle.hprof_ask.proofs.answerer.Answerer.write_histogram.Goals as goal
 pub returns-in_err-text-clause-bytes : goal.returns-in_err-text-clause-bytes
 returns-in_err-text-clause-bytes g c =
     let heap = c.args.self.now.heap.now in
-    let text = some_heap_report (size_of heap) (facts_of heap) c.holds_of_heap.ensures.agree c.args.self.now.summaries.now heaps.Histogram in
+    let text = some_heap_report (size_of heap)
+    (facts_of heap) c.holds_of_heap.ensures.agree c.args.self.now.summaries.now heaps.Histogram in
     let r = c.from_residual in
     let p = err_from_is_err_and r.result r.ensures.1 in
     (text.0, text.1, text_unwritten r.result (g.W.Target.written c.args.target.now) p.0 text.0 p.1)

@@ -14,7 +14,8 @@ of_parts-requires c =
     let ids = size_of c.args.heap.now in
     let facts = facts_of c.args.heap.now in
     let parts = c.in_ok-parts.parts.items in
-    parts_fit ids facts c.deref.result.now (subst (IsHistogram ids facts) (sym c.deref.ensures.value) c.in_ok-rows.ensures) parts c.deref-2.result.now
+    parts_fit ids facts c.deref.result.now
+    (subst (IsHistogram ids facts) (sym c.deref.ensures.value) c.in_ok-rows.ensures) parts c.deref-2.result.now
     (subst (λ (l : List Part). IsPermutation parts l) (sym c.deref-2.ensures.value) c.sort_parts.ensures)
     c.holds_of_heap.ensures.fit c.holds_of_heap.ensures.few c.in_ok-parts.ensures.all
 

@@ -22,14 +22,16 @@ add-requires c =
     c.in-Some.ensures.cases.0 c.first_run.ensures.same in
     let text = string_bytes c.in_ok-label.label in
     kept_room (facts_of c.args.heap.now) c.holds_of_heap.ensures.agree c.args.parts.now c.loop-first.rest.now c.first_run.result.1.now
-    c.first_run.result.0 run text c.in_ok-label.ensures c.loop-first.counts c.loop-first.invariant.kept ((bytes_eq-Decides text text).1 refl) c.requires
+    c.first_run.result.0 run text c.in_ok-label.ensures c.loop-first.counts c.loop-first.invariant.kept
+    ((bytes_eq-Decides text text).1 refl) c.requires
 
 pub loop-first-preserved : goal.loop-first-preserved
 loop-first-preserved c =
     let run = run_taken c.loop-first.rest.now c.in-Some.after.now c.first_run.result.1.now c.in-Some.first.now c.first_run.result.0
     c.in-Some.ensures.cases.0 c.first_run.ensures.same in
     record {
-      kept = kept_more (facts_of c.args.heap.now) c.holds_of_heap.ensures.agree c.args.parts.now c.loop-first.rest.now c.first_run.result.1.now
+      kept = kept_more (facts_of c.args.heap.now) c.holds_of_heap.ensures.agree c.args.parts.now c.loop-first.rest.now
+          c.first_run.result.1.now
           c.first_run.result.0 run (string_bytes c.in_ok-label.label) c.in_ok-label.ensures c.loop-first.counts c.loop-first.invariant.kept
           c.add.new.self c.in_ok-add.ensures;
       room = room_behind c.loop-first.rest.now c.first_run.result.1.now c.first_run.result.0 c.loop-first.invariant.room run;

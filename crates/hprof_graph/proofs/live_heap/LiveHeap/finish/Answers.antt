@@ -27,7 +27,8 @@ returns-in-Ok-clause-answer c = c.in-Ok.ensures.answer ∙ sym (sound_outcome c.
 
 pub returns-in-Ok-clause-told : goal.returns-in-Ok-clause-told
 returns-in-Ok-clause-told c = λ parts gathers.
-    c.in-Ok.ensures.told parts (subst (λ (g : Gathered). Gathers nothing_gathered parts g) (sound_seen c.args.self c.if-failed.false) gathers)
+    c.in-Ok.ensures.told parts
+    (subst (λ (g : Gathered). Gathers nothing_gathered parts g) (sound_seen c.args.self c.if-failed.false) gathers)
 
 pub returns-in-Ok-clause-kept : goal.returns-in-Ok-clause-kept
 returns-in-Ok-clause-kept c = λ current.

@@ -30,7 +30,11 @@ returns c =
         λ _. tt,
         record {
           seen = refl;
-          goes_on = record { current = current_stays live other c.bring_behind-start.ensures.same; keeps = c.bring_behind-start.ensures.keeps };
+          goes_on = record {
+            current = current_stays live other c.bring_behind-start.ensures.same;
+            keeps =
+                c.bring_behind-start.ensures.keeps;
+          };
         },
       ),
       record {

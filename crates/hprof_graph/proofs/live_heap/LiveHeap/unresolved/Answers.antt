@@ -18,7 +18,8 @@ returns-clause-value c = λ current.
     let derived = c.args.self.now.derived in
     answer_so (λ ids facts number. IsDerived ids facts derived → IsNumberOf (CannotBeLaid facts) number)
     (λ ids facts number. IsNumberOf (CannotBeLaid facts) number) (outcome_of c.args.self.now) derived c.map.result
-    (answer_mapped (λ ids facts number. IsDerived ids facts derived → IsNumberOf (CannotBeLaid facts) number) _ (λ heap number gives. search rules)
+    (answer_mapped (λ ids facts number. IsDerived ids facts derived → IsNumberOf (CannotBeLaid facts) number) _
+    (λ heap number gives. search rules)
     (λ number gives ids is. (
     let zero : number ≡ 0 = search rules in
     subst (IsNumberOf (CannotBeLaid [])) (sym zero) (no_number (CannotBeLaid []) (λ id can. absurd can.is_of.1.has))))

@@ -18,7 +18,8 @@ returns-in_default-clause-name c = λ skips slots slot known there.
     let before = c.loop-passed.invariant in
     let still = still_past facts c.args.class c.args.place c.loop-passed.at c.loop-passed.before _ (before.still skips) c.in_ok-at.at
     (c.in_ok-at.ensures.same (before.skips skips)) in
-    absurd (not_missing facts c.args.class c.args.place c.in_ok-at.at c.loop-passed.before _ still c.in_default.ensures.none slots slot known there)
+    absurd (not_missing facts c.args.class c.args.place c.in_ok-at.at c.loop-passed.before _ still c.in_default.ensures.none slots slot
+    known there)
 
 pub returns-in-Some-get-clause-name : goal.returns-in-Some-get-clause-name
 returns-in-Some-get-clause-name c = λ skips slots slot known there.
@@ -26,7 +27,8 @@ returns-in-Some-get-clause-name c = λ skips slots slot known there.
     let before = c.loop-passed.invariant in
     let still = still_past facts c.args.class c.args.place c.loop-passed.at c.loop-passed.before _ (before.still skips) c.in_ok-at.at
     (c.in_ok-at.ensures.same (before.skips skips)) in
-    found_here facts c.args.class c.args.place c.in_ok-at.at c.loop-passed.before _ still (class_value c.in-Some.dump) c.in-Some.ensures.only
+    found_here facts c.args.class c.args.place c.in_ok-at.at c.loop-passed.before _ still
+    (class_value c.in-Some.dump) c.in-Some.ensures.only
     c.in-Some-get.field c.in-Some-get.ensures slots slot known there
 
 pub returns-in-Some-get-clause-skips : goal.returns-in-Some-get-clause-skips

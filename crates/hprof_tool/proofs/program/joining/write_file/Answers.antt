@@ -11,7 +11,8 @@ use Rattle.hprof_tool.proofs.program.joining.write_file.Goals as goal
 pub returns-in_err-parts-clause-no_parts : goal.returns-in_err-parts-clause-no_parts
 returns-in_err-parts-clause-no_parts g c = λ same.
     let is = rw same at c.from_residual.ensures.1 in
-    absurd (starting_not_of_engine (g.F.Folder.answered c.args.files.now) c.args.names.now c.args.out.name.now c.in_err-parts.field-0.0 tool.NoParts
+    absurd (starting_not_of_engine
+    (g.F.Folder.answered c.args.files.now) c.args.names.now c.args.out.name.now c.in_err-parts.field-0.0 tool.NoParts
     c.in_err-parts.ensures.kind (sym is))
 
 pub returns-in_err-parts-clause-refused : goal.returns-in_err-parts-clause-refused
