@@ -80,23 +80,12 @@ Differs word = (has_space (word_of word) ≡ false) × (word_by all_words (word_
 
 differs : (word : ReportWord) → Differs word
 differs = of_each Differs (
-  (refl, refl, refl, refl, refl, refl),
-  (refl, refl, refl, refl, refl, refl),
-  (refl, refl, refl, refl, refl, refl),
-  (refl, refl, refl, refl, refl, refl),
-  (refl, refl, refl, refl, refl, refl),
-  (refl, refl, refl, refl, refl, refl),
-  (refl, refl, refl, refl, refl, refl),
-  (refl, refl, refl, refl, refl, refl),
-  (refl, refl, refl, refl, refl, refl),
-  (refl, refl, refl, refl, refl, refl),
-  (refl, refl, refl, refl, refl, refl),
-  (refl, refl, refl, refl, refl, refl),
-  (refl, refl, refl, refl, refl, refl),
-  (refl, refl, refl, refl, refl, refl),
-  (refl, refl, refl, refl, refl, refl),
-  (refl, refl, refl, refl, refl, refl),
-  tt,
+    (refl, refl, refl, refl, refl, refl), ((refl, refl, refl, refl, refl, refl), ((refl, refl, refl, refl, refl, refl), (
+    (refl, refl, refl, refl, refl, refl), ((refl, refl, refl, refl, refl, refl), ((refl, refl, refl, refl, refl, refl), (
+    (refl, refl, refl, refl, refl, refl), ((refl, refl, refl, refl, refl, refl), ((refl, refl, refl, refl, refl, refl), (
+    (refl, refl, refl, refl, refl, refl), ((refl, refl, refl, refl, refl, refl), ((refl, refl, refl, refl, refl, refl), (
+    (refl, refl, refl, refl, refl, refl), ((refl, refl, refl, refl, refl, refl), ((refl, refl, refl, refl, refl, refl), (
+    (refl, refl, refl, refl, refl, refl), (tt))))))))))))))))
 )
 
 -- the line of a word begins with it
