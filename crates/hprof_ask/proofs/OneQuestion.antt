@@ -11,9 +11,11 @@ use Rattle.hprof_ask.specs.declared.report.Kinds.{Kinds}
 use Rattle.hprof_ask.specs.declared.report.Kinds.TheVariants as these
 use Rattle.hprof_ask.specs.declared.report.Node.{Node}
 use Rattle.hprof_ask.specs.declared.report.Node.TheVariants as that
+use Rattle.hprof_ask.specs.declared.report.HeapReport.TheVariants as heaps
 use Rattle.hprof_ask.specs.declared.report.KindReport.{KindReport}
 use Rattle.hprof_ask.specs.declared.report.KindReport.TheVariants as kinds_of
 use Rattle.hprof_ask.specs.declared.report.NodeReport.{NodeReport}
+use Rattle.hprof_ask.specs.declared.report.NodeReport.TheVariants as nodes
 use Rattle.hprof_ask.specs.declared.report.Report.{Report}
 use Rattle.hprof_ask.specs.declared.report.Report.TheVariants as reports
 use Rattle.hprof_ask.specs.declared.report_word.Follows.{Follows}
@@ -27,7 +29,6 @@ use Rattle.hprof_ask.specs.declared.question.Question.TheVariants as questions
 use Rattle.hprof_ask.specs.Asked.{Asks, AsksReport, IsFollowed, IsLineOf, IsMisnamed, IsNamed, IsQuestion, IsQuit, SaysKinds, SaysNode}
 use Rattle.hprof_ask.specs.Same.{IsSame, placed_question, placed_report}
 use Rattle.hprof_ask.specs.Words.{all_words, follows_of, node_follows, word_of}
-use Rattle.hprof_ask.proofs.WordLists.{of_each}
 
 -- ---- which word it is
 
@@ -79,14 +80,22 @@ Differs word = (has_space (word_of word) ≡ false) × (word_by all_words (word_
     × (bytes_eq (word_of word) (codes "exit") ≡ false)
 
 differs : (word : ReportWord) → Differs word
-differs = of_each Differs (
-    (refl, refl, refl, refl, refl, refl), ((refl, refl, refl, refl, refl, refl), ((refl, refl, refl, refl, refl, refl), (
-    (refl, refl, refl, refl, refl, refl), ((refl, refl, refl, refl, refl, refl), ((refl, refl, refl, refl, refl, refl), (
-    (refl, refl, refl, refl, refl, refl), ((refl, refl, refl, refl, refl, refl), ((refl, refl, refl, refl, refl, refl), (
-    (refl, refl, refl, refl, refl, refl), ((refl, refl, refl, refl, refl, refl), ((refl, refl, refl, refl, refl, refl), (
-    (refl, refl, refl, refl, refl, refl), ((refl, refl, refl, refl, refl, refl), ((refl, refl, refl, refl, refl, refl), (
-    (refl, refl, refl, refl, refl, refl), (tt))))))))))))))))
-)
+differs (words.Heap heaps.Check) = (refl, refl, refl, refl, refl, refl)
+differs (words.Heap heaps.Histogram) = (refl, refl, refl, refl, refl, refl)
+differs (words.Heap heaps.Classes) = (refl, refl, refl, refl, refl, refl)
+differs (words.Heap heaps.Threads) = (refl, refl, refl, refl, refl, refl)
+differs (words.Heap heaps.Suspects) = (refl, refl, refl, refl, refl, refl)
+differs (words.Heap heaps.Retained) = (refl, refl, refl, refl, refl, refl)
+differs (words.Kind kinds_of.Biggest) = (refl, refl, refl, refl, refl, refl)
+differs (words.Kind kinds_of.Objects) = (refl, refl, refl, refl, refl, refl)
+differs (words.Node nodes.Show) = (refl, refl, refl, refl, refl, refl)
+differs (words.Node nodes.Why) = (refl, refl, refl, refl, refl, refl)
+differs (words.Node nodes.Who) = (refl, refl, refl, refl, refl, refl)
+differs (words.Node nodes.Keeps) = (refl, refl, refl, refl, refl, refl)
+differs (words.Node nodes.Text) = (refl, refl, refl, refl, refl, refl)
+differs (words.Node nodes.Object) = (refl, refl, refl, refl, refl, refl)
+differs (words.Node nodes.Refs) = (refl, refl, refl, refl, refl, refl)
+differs (words.Node nodes.Path) = (refl, refl, refl, refl, refl, refl)
 
 -- the line of a word begins with it
 line_front : (word : ReportWord) (line text : List ℕ) → IsLineOf line word text → front line ≡ word_of word
