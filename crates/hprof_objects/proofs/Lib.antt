@@ -1,0 +1,3 @@
+mod Enough
+mod Rows
+mod Stretches

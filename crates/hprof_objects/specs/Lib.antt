@@ -1,0 +1,5 @@
+pub mod ObjectRows
+pub mod PartsRead
+pub mod Enough
+pub mod Growing
+pub mod Stretches

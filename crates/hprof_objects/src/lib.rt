@@ -1,0 +1,12 @@
+//! The objects of parts that are larger than the memory: those that ascend in their part stay there, and the others are kept in memory or in
+//! scratch, in sorted runs.
+#![tactic(auto)]
+
+mod identifying;
+mod keeping;
+mod growing;
+mod stretch;
+
+pub use identifying::object_id;
+pub use keeping::Keeping;
+pub use stretch::Stretch;
