@@ -1,3 +1,5 @@
 mod Enough
 mod Rows
 mod Stretches
+mod Whole
+mod WholeHeap

@@ -3,3 +3,4 @@ pub mod PartsRead
 pub mod Enough
 pub mod Growing
 pub mod Stretches
+pub mod Whole

@@ -3,8 +3,9 @@
 #![tactic(auto)]
 
 mod identifying;
-mod keeping;
 mod growing;
+mod keeping;
+pub mod laws;
 mod stretch;
 
 pub use identifying::object_id;
