@@ -1,0 +1,10 @@
+//! Rows that come in no order. A row is a key and bytes. They are kept in memory, and written to scratch as sorted runs if the caller
+//! says so. The cursors over both are merged by `hprof_merge`.
+#![tactic(auto)]
+
+mod place;
+mod rows;
+mod sorted_rows;
+
+pub use rows::Rows;
+pub use sorted_rows::SortedRows;
