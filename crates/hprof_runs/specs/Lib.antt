@@ -1,2 +1,6 @@
 pub mod Places
 pub mod RowsIn
+pub mod Picked
+pub mod Other
+pub mod Picking
+pub mod PickedRise

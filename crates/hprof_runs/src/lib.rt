@@ -2,9 +2,13 @@
 //! says so. The cursors over both are merged by `hprof_merge`.
 #![tactic(auto)]
 
+mod firsts;
+mod others;
 mod place;
 mod rows;
 mod sorted_rows;
 
+pub use firsts::Firsts;
+pub use others::Others;
 pub use rows::Rows;
 pub use sorted_rows::SortedRows;

@@ -3,6 +3,8 @@
 ghost use Rattle.std.specs.Prelude.{◌≡◌, []};
 ghost use Rattle.hprof_runs.specs.Places.{HaveSortedKeys};
 
+use crate::firsts::Firsts;
+use crate::others::Others;
 use crate::place::Place;
 use crate::rows::Rows;
 
@@ -15,6 +17,8 @@ pub struct SortedRows {
 }
 
 impl SortedRows {
+    ghost use Rattle.hprof_runs.specs.Picked.{firsts_of, others_of};
+    ghost use Rattle.hprof_runs.specs.Picking.{firsts_to_come, others_to_come};
     ghost use Rattle.hprof_runs.specs.Places.{rows_lying};
     ghost use Rattle.hprof_runs.specs.RowsIn.{rows_in, sorted_in};
 
@@ -24,6 +28,20 @@ impl SortedRows {
         ensures { sorted_in result ≡ rows_lying bytes.items places.items }
     {
         SortedRows { bytes, places }
+    }
+
+    /// Returns a cursor over the first row of each key.
+    pub fn firsts(&self) -> Firsts<'_>
+        ensures { firsts_to_come result ≡ firsts_of (sorted_in self.now) }
+    {
+        Firsts::new(&self.bytes, &self.places)
+    }
+
+    /// Returns a cursor over one more row of each key with two contents.
+    pub fn others(&self) -> Others<'_>
+        ensures { others_to_come result ≡ others_of (sorted_in self.now) }
+    {
+        Others::new(&self.bytes, &self.places)
     }
 
     /// Returns an empty list of rows, which keeps the memory for further rows.
