@@ -3,6 +3,7 @@
 #![tactic(auto)]
 
 mod firsts;
+pub mod laws;
 mod others;
 mod place;
 mod rows;
