@@ -4,3 +4,5 @@ pub mod Picked
 pub mod Other
 pub mod Picking
 pub mod PickedRise
+pub mod ReadBack
+pub mod MemoryScratch

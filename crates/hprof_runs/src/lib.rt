@@ -4,12 +4,16 @@
 
 mod firsts;
 pub mod laws;
+mod memory_scratch;
 mod others;
 mod place;
 mod rows;
+mod scratch;
 mod sorted_rows;
 
 pub use firsts::Firsts;
+pub use memory_scratch::MemoryScratch;
 pub use others::Others;
 pub use rows::Rows;
+pub use scratch::Scratch;
 pub use sorted_rows::SortedRows;

@@ -44,7 +44,7 @@ fn next_other<'a>(
             key = place.key;
             content = Some(*place);
         } else if differs(bytes, content, *place) {
-            return (Some(Place { key, ..*place }), rest);
+            return (Some(Place::new(key, place.at, place.len)), rest);
         }
     }
     (None, rest)

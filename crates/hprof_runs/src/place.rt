@@ -1,6 +1,6 @@
 //! Places of rows.
 
-ghost use Rattle.std.specs.Prelude.{◌≡◌, take, drop};
+ghost use Rattle.std.specs.Prelude.{◌≡◌, ◌<◌, ◌^◌, take, drop};
 
 /// The key of a row, and where its bytes lie among others.
 #[derive(Clone, Copy)]
@@ -11,6 +11,19 @@ pub(crate) struct Place {
     pub(crate) at: usize,
     /// Their number.
     pub(crate) len: u32,
+    ghost key_fits: { key < 2 ^ 64 },
+    ghost len_fits: { len < 2 ^ 32 },
+}
+
+impl Place {
+    /// Returns the place of a row.
+    pub(crate) fn new(key: u64, at: usize, len: u32) -> Self
+        ensures key { result.key ≡ key }
+        ensures at { result.at ≡ at }
+        ensures len { result.len ≡ len }
+    {
+        Place { key, at, len }
+    }
 }
 
 /// Returns the bytes that lie at a place.
