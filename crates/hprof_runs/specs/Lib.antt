@@ -6,3 +6,6 @@ pub mod Picking
 pub mod PickedRise
 pub mod ReadBack
 pub mod MemoryScratch
+pub mod Spelling
+pub mod ScratchFault
+pub mod ScratchWriter

@@ -9,6 +9,8 @@ mod others;
 mod place;
 mod rows;
 mod scratch;
+mod scratch_fault;
+mod scratch_writer;
 mod sorted_rows;
 
 pub use firsts::Firsts;
@@ -16,4 +18,5 @@ pub use memory_scratch::MemoryScratch;
 pub use others::Others;
 pub use rows::Rows;
 pub use scratch::Scratch;
+pub use scratch_fault::ScratchFault;
 pub use sorted_rows::SortedRows;
