@@ -1,3 +1,5 @@
 pub mod Lying
 pub mod Picked
 pub mod Sending
+pub mod Spelled
+pub mod PickedCursors

@@ -9,3 +9,4 @@ pub mod MemoryScratch
 pub mod Spelling
 pub mod ScratchFault
 pub mod ScratchWriter
+pub mod RunOf

@@ -8,6 +8,8 @@ mod memory_scratch;
 mod others;
 mod place;
 mod rows;
+mod run;
+mod run_writing;
 mod scratch;
 mod scratch_fault;
 mod scratch_writer;
