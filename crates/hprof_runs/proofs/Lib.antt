@@ -3,3 +3,4 @@ pub mod Picked
 pub mod Sending
 pub mod Spelled
 pub mod PickedCursors
+pub mod Added

@@ -10,3 +10,4 @@ pub mod Spelling
 pub mod ScratchFault
 pub mod ScratchWriter
 pub mod RunOf
+pub mod Runs

@@ -14,6 +14,13 @@ LeavesScratch (Err OutOfMemory) health = health ≡ Well
 LeavesScratch (Err Full) health = health ≡ Well
 LeavesScratch (Err (Write fault)) health = health ≡ health_after fault
 
+-- the same of a write, which takes no memory
+abbrev pub LeavesWriting : {A : Type 0} → Result A ScratchFault → Health → Type 0
+LeavesWriting (Ok done) health = health ≡ Well
+LeavesWriting (Err OutOfMemory) health = ⊥
+LeavesWriting (Err Full) health = health ≡ Well
+LeavesWriting (Err (Write fault)) health = health ≡ health_after fault
+
 -- some bytes were put behind those of the scratch; they are counted, if it is well
 pub record Grows {S : Type 0} (written : S → Option (List ℕ)) (health : S → Health) (old new : S) (count now : ℕ) : Type 0 where
   pub sent : List ℕ

@@ -3,7 +3,7 @@
 ghost use Rattle.std.specs.Prelude.{◌≡◌, ◌+◌, ◌++◌, ◌<◌, ◌≤◌, ◌^◌, [], length, vec_len, vec_capacity, IfOk, OnOk, OnErr};
 ghost use Rattle.std.specs.Io.KnownBytes.{Appends};
 ghost use Rattle.hprof_devices.specs.declared.health.Health.TheVariants.{Well};
-ghost use Rattle.hprof_runs.specs.ScratchFault.{Grows, LeavesScratch};
+ghost use Rattle.hprof_runs.specs.ScratchFault.{Grows, LeavesWriting};
 
 use crate::scratch::Scratch;
 use crate::scratch_fault::ScratchFault;
@@ -33,7 +33,7 @@ fn push_counted<S: Scratch>(
     ensures appended { OnOk result (Appends (S.written scratch.old) (S.written scratch.new) bytes.now) }
     ensures counted { OnOk result (count.new ≡ count.old + length bytes.now) }
     ensures err { OnErr result (Grows S.written S.health scratch.old scratch.new count.old count.new) }
-    ensures health { LeavesScratch result (S.health scratch.new) }
+    ensures health { LeavesWriting result (S.health scratch.new) }
 {
     let Some(sum) = count.checked_add(bytes.len() as u64) else {
         return Err(ScratchFault::Full);
@@ -88,7 +88,7 @@ impl<S: Scratch + Drop> ScratchWriter<S> {
         ensures sent { OnOk result (Puts S.written self.old self.new []) }
         ensures buffer { OnOk result (self.new.buffer.items ≡ []) }
         ensures err { OnErr result (GrowsScratch S.written S.health self.old self.new) }
-        ensures health { LeavesScratch result (S.health self.new.scratch) }
+        ensures health { LeavesWriting result (S.health self.new.scratch) }
     {
         if let Err(fault) = push_counted(&mut self.scratch, &mut self.count, &self.buffer) {
             return Err(fault);
@@ -102,7 +102,7 @@ impl<S: Scratch + Drop> ScratchWriter<S> {
         requires { S.health self.old.scratch ≡ Well }
         ensures put { OnOk result (Puts S.written self.old self.new bytes.now) }
         ensures err { OnErr result (GrowsScratch S.written S.health self.old self.new) }
-        ensures health { LeavesScratch result (S.health self.new.scratch) }
+        ensures health { LeavesWriting result (S.health self.new.scratch) }
     {
         if bytes.len() <= PIECE_BYTES - self.buffer.len() {
             self.keep(bytes);
