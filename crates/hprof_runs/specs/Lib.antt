@@ -1,0 +1,13 @@
+pub mod Places
+pub mod RowsIn
+pub mod Picked
+pub mod Other
+pub mod Picking
+pub mod PickedRise
+pub mod ReadBack
+pub mod MemoryScratch
+pub mod Spelling
+pub mod ScratchFault
+pub mod ScratchWriter
+pub mod RunOf
+pub mod Runs
