@@ -4,3 +4,4 @@ pub mod Enough
 pub mod Growing
 pub mod Stretches
 pub mod Whole
+pub mod Store

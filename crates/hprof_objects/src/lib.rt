@@ -6,8 +6,10 @@ mod identifying;
 mod growing;
 mod keeping;
 pub mod laws;
+mod row_store;
 mod stretch;
 
 pub use identifying::object_id;
 pub use keeping::Keeping;
+pub use row_store::RowStore;
 pub use stretch::Stretch;
