@@ -22,6 +22,7 @@ use Rattle.hprof_stream.proofs.FedRuns.{CameLast-read, Pulled-consumes, RanOver-
 use Rattle.hprof_stream.proofs.FedRuns.{no_header_no_fact}
 use Rattle.hprof_stream.proofs.ItemLists.{header_at_place, item_kept}
 use Rattle.hprof_stream.proofs.LastItems.{ends_behind}
+use Rattle.hprof_stream.proofs.Longer.{Splits-more}
 use Rattle.hprof_stream.proofs.PieceRoom.{taken_is}
 use Rattle.hprof_stream.proofs.Sources.{HasFed, HasFed-failed, HasFed-spent, ReadsPart-finished}
 use Rattle.hprof_facts.specs.FactReader.{Ends, EndsFrom, IsReading, comes_to_end, is_refused, reads_are_spent, source_fails, start_of}
@@ -40,8 +41,10 @@ module _ (limits : Limits) (bytes : List ℕ) (facts : List FactValue) (from to 
       → StatesSoFar limits.max_item (bytes ++ extra) (header_of to) all
       → header_of from ≡ Some header → header_of to ≡ Some header
   stays_over extra all header states is =
-      first_header limits.max_item bytes extra (header_of to) all states read.items (place_of from.progress) read.unfinished header
-      read.splits (header_at_place (header_of from) from.progress.room ∙ is)
+      first_header limits.max_item (bytes ++ extra) (header_of to) all states read.items (place_of from.progress) (read.unfinished ++ extra)
+      header
+      (Splits-more limits.max_item bytes extra read.items (place_of from.progress) read.unfinished read.splits)
+      (header_at_place (header_of from) from.progress.room ∙ is)
 
   stays_unheld : (old new : List FactValue) (header : Header) (unheld : IsUnheld limits bytes piece)
       → RanUnheld {S = List FactValue} listing.begins listing.steps limits bytes piece unheld facts (header_of from) old (header_of to) new

@@ -50,14 +50,23 @@ pub record StatesFirst (longest : ℕ) (bytes : List ℕ) (facts : List FactValu
   pub splits : Splits longest bytes items place rest
   pub has_facts : all_facts items ≡ facts
 
-module _ (longest : ℕ) (bytes extra : List ℕ) (header : Option Header) (all : List FactValue)
-    (states : StatesSoFar longest (bytes ++ extra) header all) where
+-- and more bytes behind
+pub first_more : (longest : ℕ) (bytes extra : List ℕ) (facts : List FactValue) → StatesFirst longest bytes facts
+    → StatesFirst longest (bytes ++ extra) facts
+first_more longest bytes extra facts first = record {
+  items = first.items;
+  place = first.place;
+  rest = first.rest ++ extra;
+  splits = Splits-more longest bytes extra first.items first.place first.rest first.splits;
+  has_facts = first.has_facts;
+}
+
+module _ (longest : ℕ) (bytes : List ℕ) (header : Option Header) (all : List FactValue) (states : StatesSoFar longest bytes header all) where
   go_on : (items : List Stated) (place : Place) (rest : List ℕ) → Splits longest bytes items place rest
       → GoesOn longest place items states.place states.items
   go_on items place rest splits =
-      let longer = Splits-more longest bytes extra items place rest splits in
-      items_go_on longest Start place states.place items states.items (rest ++ extra) states.rest longer.each states.splits.each
-      (sym longer.parts ∙ states.splits.parts) states.ends
+      items_go_on longest Start place states.place items states.items rest states.rest splits.each states.splits.each
+      (sym splits.parts ∙ states.splits.parts) states.ends
 
   -- they are the first of all facts
   pub first_facts : (facts : List FactValue) → StatesFirst longest bytes facts → (others : List FactValue) × (all ≡ facts ++ others)

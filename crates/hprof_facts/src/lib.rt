@@ -5,6 +5,7 @@
 mod fact_place;
 mod fact_reader;
 mod kept;
+pub mod laws;
 mod queue;
 #[cfg(test)]
 mod tests;
