@@ -1,4 +1,6 @@
 pub mod Kept
 pub mod Queues
 pub mod Listing
+pub mod FactPlaces
 pub mod FactReader
+pub mod OfBytes

@@ -1,5 +1,5 @@
 -- A queue of facts.
-use Rattle.std.specs.Prelude.{◌≡◌, ◌-◌, ◌<◌, ◌≤◌, Bool, false, List, [], ◌∷◌, ◌++◌, drop, length, slice_get, Option, Some}
+use Rattle.std.specs.Prelude.{◌≡◌, ℕ, ◌-◌, ◌<◌, ◌≤◌, Bool, false, List, [], ◌∷◌, ◌++◌, drop, length, slice_get, Option, Some}
 use Rattle.hprof_values.specs.declared.ids.IdSize.{IdSize}
 use Rattle.hprof_items.specs.declared.header.Header.{Header}
 use Rattle.hprof_items.specs.FactValue.{FactValue}
@@ -16,6 +16,10 @@ begun_with queue = queue.begun
 -- it refused a fact
 abbrev pub has_refused : Queue → Bool
 has_refused queue = queue.failed
+
+-- how many facts were given since it was emptied
+abbrev pub given_of : Queue → ℕ
+given_of queue = queue.given
 
 -- these facts are still to be given
 abbrev pub Holds : Queue → List FactValue → Type 0
@@ -35,13 +39,16 @@ pub record HasCurrent (queue : Queue) (fact : FactValue) : Type 0 where
 
 -- a header empties it
 abbrev pub queue_begins : Queue → Header → Queue → Type 0
-queue_begins old header new = (has_refused new ≡ false) × Holds new []
+queue_begins old header new = (has_refused new ≡ false) × Holds new [] × (given_of new ≡ 0)
 
 -- a fact is held behind the others
 abbrev pub queue_steps : Queue → FactValue → Queue → Type 0
-queue_steps old fact new = (has_refused new ≡ false) × ((facts : List FactValue) → Holds old facts → Holds new (facts ++ fact ∷ []))
+queue_steps old fact new =
+    (has_refused new ≡ false) × ((facts : List FactValue) → Holds old facts → Holds new (facts ++ fact ∷ []))
+    × (given_of new ≡ given_of old)
 
 -- only memory can be wanting, and nothing that it holds is lost
 abbrev pub queue_refuses : Queue → List FactValue → SinkFault → Queue → Type 0
 queue_refuses old given fault new =
     (has_refused old ≡ false → fault ≡ OutOfMemory) × ((facts : List FactValue) → Holds old facts → Holds new facts)
+    × (given_of new ≡ given_of old)

@@ -27,18 +27,20 @@ impl Queue {
     ghost use Rattle.hprof_stream.specs.Run.{SpellsBegun};
     ghost use Rattle.hprof_stream.specs.declared.sink.SinkFault.{SinkFault};
     ghost use Rattle.hprof_facts.specs.declared.kept.Slot.{Slot};
-    ghost use Rattle.hprof_facts.specs.Queues.{Holds, HasCurrent, has_refused, begun_with};
+    ghost use Rattle.hprof_facts.specs.Queues.{Holds, HasCurrent, has_refused, begun_with, given_of};
 
-    /// Returns a queue that keeps nothing. It takes no memory yet.
-    pub(crate) fn new(alloc: Global) -> Self
+    /// Returns a queue that keeps nothing, begun with a size of identifiers, if there is one. It takes no memory yet.
+    pub(crate) fn new(alloc: Global, begun: Option<IdSize>) -> Self
         ensures holds { Holds result [] }
+        ensures begun { begun_with result ≡ begun }
         ensures well { has_refused result ≡ false }
+        ensures given { given_of result ≡ 0 }
     {
         Queue {
             bytes: Vec::new(alloc),
             slots: Vec::new(alloc),
             given: 0,
-            begun: None,
+            begun,
             failed: false,
         }
     }
@@ -48,6 +50,7 @@ impl Queue {
         ensures holds { Holds self.new [] }
         ensures begun { begun_with self.new ≡ begun_with self.old }
         ensures failed { has_refused self.new ≡ has_refused self.old }
+        ensures given { given_of self.new ≡ 0 }
     {
         self.bytes.clear();
         self.slots.clear();
@@ -61,6 +64,7 @@ impl Queue {
             → Keeps ids form bytes.now fact → Holds self.old facts → Holds self.new (facts ++ fact ∷ [])) }
         ensures begun { self.new.begun ≡ self.old.begun }
         ensures failed { self.new.failed ≡ self.old.failed }
+        ensures given { self.new.given ≡ self.old.given }
         ensures err { OnErr result (result ≡ Err SinkFault.OutOfMemory) }
         ensures kept { OnErr result ((facts : List FactValue) → Holds self.old facts → Holds self.new facts) }
     {
@@ -86,11 +90,18 @@ impl Queue {
         self.given < self.slots.len()
     }
 
+    /// Returns the number of facts that were given since it was emptied.
+    pub(crate) fn given_count(&self) -> usize
+        ensures { result ≡ given_of self.now }
+    {
+        self.given
+    }
+
     /// Goes on to the next fact, if there is one.
     #[inline(always)]
     pub(crate) fn step(&mut self) -> bool
         ensures some { (fact : FactValue) (facts : List FactValue) → Holds self.old (fact ∷ facts)
-            → (result ≡ true) × Holds self.new facts × HasCurrent self.new fact }
+            → (result ≡ true) × Holds self.new facts × HasCurrent self.new fact × (given_of self.new ≡ given_of self.old + 1) }
         ensures none { Holds self.old [] → (result ≡ false) × (self.new ≡ self.old) }
         ensures begun { begun_with self.new ≡ begun_with self.old }
         ensures failed { has_refused self.new ≡ has_refused self.old }

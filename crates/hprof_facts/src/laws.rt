@@ -1,0 +1,86 @@
+//! Laws of the definitions. The contract of each function is a theorem; its body is empty.
+
+ghost use Rattle.std.specs.Prelude.{◌≡◌, ◌≤◌, ◌++◌, ℕ, List, length, take, Option, Some, Result, Ok, Err, false};
+ghost use Rattle.std.specs.Io.KnownBytes.{Consumes};
+ghost use Rattle.hprof_values.specs.declared.ids.IdSize.{IdSize};
+ghost use Rattle.hprof_items.specs.declared.header.Header.{Header};
+ghost use Rattle.hprof_items.specs.FactValue.{FactValue};
+ghost use Rattle.hprof_stream.specs.declared.limits.Limits.{Limits};
+ghost use Rattle.hprof_stream.specs.declared.part_fault.PartFault.{PartFault};
+ghost use Rattle.hprof_stream.specs.declared.summary.PartSummary.{PartSummary};
+ghost use Rattle.hprof_stream.specs.Part.{IsPart, IsSummary};
+ghost use Rattle.hprof_stream.specs.Fault.{HasNoFault, StatesSoFar};
+ghost use Rattle.hprof_stream.specs.Reader.{ReadsPart};
+ghost use Rattle.hprof_facts.specs.declared.fact_reader.FactReader.{FactReader};
+ghost use Rattle.hprof_facts.specs.FactReader.{Ends, EndsFrom, HasGivenFrom, Origin, start_of};
+ghost use Rattle.hprof_facts.specs.OfBytes.{IsOfBytes, IsResultOf, RunBefore, StatesBefore, is_of_bytes};
+
+use hprof_devices::Source;
+use hprof_stream::Sink;
+
+/// A reader that began before the first byte ends as `read_part` does, with a sink that lists the facts.
+pub fn from_the_start_it_ends_as_read_part<R: Source + Drop>()
+    ensures { (limits : Limits) (was is : R) (result : Result PartSummary PartFault) (given : List FactValue)
+        → EndsFrom R.left R.health R.pulls (start_of limits) was is result given → Ends R.left R.health R.pulls limits was is result given }
+{}
+
+/// The facts before the place at which a reader began, and those that it has given, are the first facts that the bytes state.
+pub fn given_facts_are_the_first<R: Source + Drop>()
+    ensures { (origin : Origin) (rest : List ℕ) (was : R) (given : List FactValue) (reader : FactReader R) (header : Option Header)
+        (all : List FactValue) → R.left was ≡ Some rest → HasGivenFrom R.left R.health R.pulls origin was given reader
+        → StatesSoFar origin.limits.max_item (take origin.limits.max_bytes (origin.front ++ rest)) header all
+        → (more : List FactValue) × (all ≡ origin.told ++ (given ++ more)) }
+{}
+
+/// Bytes have one result, and state one list of facts before it.
+pub fn bytes_have_one_result()
+    ensures result { (limits : Limits) (bytes : List ℕ) (one two : Result PartSummary PartFault) → IsResultOf limits bytes one
+        → IsResultOf limits bytes two → one ≡ two }
+    ensures facts { (limits : Limits) (bytes : List ℕ) (result : Result PartSummary PartFault) (facts others : List FactValue)
+        → StatesBefore limits bytes result facts → StatesBefore limits bytes result others → facts ≡ others }
+{}
+
+/// A reader that ends by the bytes has their result, and has given all facts before it, from the place on at which it began.
+pub fn pulled_by_the_bytes<R: Source + Drop>()
+    ensures { (origin : Origin) (rest : List ℕ) (was is : R) (result : Result PartSummary PartFault) (given : List FactValue)
+        → R.left was ≡ Some rest → EndsFrom R.left R.health R.pulls origin was is result given → IsOfBytes result
+        → IsResultOf origin.limits (origin.front ++ rest) result
+        × StatesBefore origin.limits (origin.front ++ rest) result (origin.told ++ given) }
+{}
+
+/// A reader of facts and `read_part` agree on the same bytes, if both results are decided by the bytes: the results are equal, and the sink
+/// ran over the facts that the reader gave. For a reader that began at a place, the facts before the place come first.
+pub fn pull_and_push_agree<R: Source + Drop, Q: Source, S: Sink>()
+    ensures start { (limits : Limits) (bytes : List ℕ) (was is : R) (result : Result PartSummary PartFault) (given : List FactValue)
+        (pushed behind : Q) (came : List ℕ) (other : Result PartSummary PartFault) (old new : S)
+        → R.left was ≡ Some bytes → Q.left pushed ≡ Some bytes → Ends R.left R.health R.pulls limits was is result given
+        → Consumes (Q.left pushed) (Q.left behind) came
+        → ReadsPart Q.left Q.health Q.pulls S.begins S.steps S.refuses S.failed limits pushed came behind old other new
+        → IsOfBytes result → IsOfBytes other → (result ≡ other) × RunBefore S.begins S.steps other old given new }
+    ensures place { (origin : Origin) (rest : List ℕ) (was is : R) (result : Result PartSummary PartFault) (given : List FactValue)
+        (pushed behind : Q) (came : List ℕ) (other : Result PartSummary PartFault) (old new : S)
+        → R.left was ≡ Some rest → Q.left pushed ≡ Some (origin.front ++ rest)
+        → EndsFrom R.left R.health R.pulls origin was is result given → Consumes (Q.left pushed) (Q.left behind) came
+        → ReadsPart Q.left Q.health Q.pulls S.begins S.steps S.refuses S.failed origin.limits pushed came behind old other new
+        → IsOfBytes result → IsOfBytes other
+        → (result ≡ other) × RunBefore S.begins S.steps other old (origin.told ++ given) new }
+{}
+
+/// In a part with no fault a reader that begins at a place finds none: it gives the facts behind the place, no fault is one of the bytes, and
+/// at the end all facts were given.
+pub fn no_false_alarm_behind_a_place<R: Source + Drop>()
+    ensures given { (origin : Origin) (bytes rest : List ℕ) (ids : IdSize) (millis : ℕ) (facts : List FactValue) (was : R)
+        (given : List FactValue) (reader : FactReader R) → HasNoFault origin.limits.max_item bytes → length bytes ≤ origin.limits.max_bytes
+        → IsPart bytes ids millis facts → bytes ≡ origin.front ++ rest → R.left was ≡ Some rest
+        → HasGivenFrom R.left R.health R.pulls origin was given reader
+        → (more : List FactValue) × (facts ≡ origin.told ++ (given ++ more)) }
+    ensures faults { (origin : Origin) (bytes rest : List ℕ) (ids : IdSize) (millis : ℕ) (facts : List FactValue) (was is : R)
+        (given : List FactValue) (fault : PartFault) → HasNoFault origin.limits.max_item bytes → length bytes ≤ origin.limits.max_bytes
+        → IsPart bytes ids millis facts → bytes ≡ origin.front ++ rest → R.left was ≡ Some rest
+        → EndsFrom R.left R.health R.pulls origin was is (Err fault) given → is_of_bytes fault ≡ false }
+    ensures end { (origin : Origin) (bytes rest : List ℕ) (ids : IdSize) (millis : ℕ) (facts : List FactValue) (was is : R)
+        (given : List FactValue) (summary : PartSummary) → HasNoFault origin.limits.max_item bytes → length bytes ≤ origin.limits.max_bytes
+        → IsPart bytes ids millis facts → bytes ≡ origin.front ++ rest → R.left was ≡ Some rest
+        → EndsFrom R.left R.health R.pulls origin was is (Ok summary) given
+        → (facts ≡ origin.told ++ given) × IsSummary bytes summary }
+{}
