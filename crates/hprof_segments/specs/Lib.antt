@@ -1,0 +1,3 @@
+pub mod ByteSegments
+pub mod Taking
+pub mod Writer

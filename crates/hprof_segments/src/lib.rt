@@ -1,0 +1,9 @@
+//! Writes sub-records, which come one after another, in HEAP_DUMP_SEGMENT records that are as full as they can be, so that the canonical
+//! dump can be written of objects that are not in memory.
+//!
+//! Only `SegmentWriter::new` allocates.
+#![tactic(auto)]
+
+mod segment_writer;
+
+pub use segment_writer::SegmentWriter;
