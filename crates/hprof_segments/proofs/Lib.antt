@@ -1,3 +1,4 @@
 pub mod Behind
 pub mod Held
 pub mod Takes
+pub mod Mapped

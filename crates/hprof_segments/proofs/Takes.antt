@@ -140,14 +140,23 @@ next_alone start mid now held subs sub (Err fault) n long none writes = λ more.
 
 -- ---- at the end
 
--- the segment that is held was the last
-pub all_written : (start mid now : Option (List ℕ)) (held : List ℕ) (subs : List (List ℕ)) (r : Result (Unit {0}) WriteFault)
-    → HasTaken start mid held subs → Writes mid now r (held_record held) → Writes start now r (segment_records subs)
-all_written start mid now held subs r h writes =
-    let split : segment_records subs ≡ flat_map segment_record h.sent ++ held_record held =
+-- the segment that is held is the last
+held_last : (start now : Option (List ℕ)) (held : List ℕ) (subs : List (List ℕ)) (h : HasTaken start now held subs)
+    → segment_records subs ≡ flat_map segment_record h.sent ++ held_record held
+held_last start now held subs h =
     ap (flat_map segment_record)
     (ap byte_segments (sym (append-nil subs)) ∙ h.segments [] ∙ ap (λ (l : List (List (List ℕ))). h.sent ++ l) (behind_none h.begun))
     ∙ flat_map-append segment_record h.sent (segment_begun h.begun)
-    ∙ ap (λ (l : List ℕ). flat_map segment_record h.sent ++ l) (held_is_begun held h.begun h.holds h.none) in
-    subst (Writes start now r) (sym split)
+    ∙ ap (λ (l : List ℕ). flat_map segment_record h.sent ++ l) (held_is_begun held h.begun h.holds h.none)
+
+-- the others were written
+pub taken_all : (start now : Option (List ℕ)) (held : List ℕ) (subs : List (List ℕ)) → HasTaken start now held subs
+    → (sent : List ℕ) × Appends start now sent × (segment_records subs ≡ sent ++ held_record held)
+taken_all start now held subs h = (flat_map segment_record h.sent, h.appended, held_last start now held subs h)
+
+-- and then it is written
+pub all_written : (start mid now : Option (List ℕ)) (held : List ℕ) (subs : List (List ℕ)) (r : Result (Unit {0}) WriteFault)
+    → HasTaken start mid held subs → Writes mid now r (held_record held) → Writes start now r (segment_records subs)
+all_written start mid now held subs r h writes =
+    subst (Writes start now r) (sym (held_last start mid held subs h))
     (Writes-then start mid now zero r (flat_map segment_record h.sent) (held_record held) h.appended writes)

@@ -4,6 +4,11 @@
 //! Only `SegmentWriter::new` allocates.
 #![tactic(auto)]
 
+pub mod laws;
+mod segment_sink;
 mod segment_writer;
+mod sink_fault;
 
+pub use segment_sink::SegmentSink;
 pub use segment_writer::SegmentWriter;
+pub use sink_fault::SinkFault;
