@@ -2,3 +2,6 @@ pub mod Behind
 pub mod Held
 pub mod Takes
 pub mod Mapped
+pub mod Viewed
+pub mod OverSame
+pub mod IntoWriter

@@ -5,10 +5,12 @@
 #![tactic(auto)]
 
 pub mod laws;
+mod merging;
 mod segment_sink;
 mod segment_writer;
 mod sink_fault;
 
+pub use merging::merge_sub_records;
 pub use segment_sink::SegmentSink;
 pub use segment_writer::SegmentWriter;
 pub use sink_fault::SinkFault;
