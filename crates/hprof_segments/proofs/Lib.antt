@@ -5,3 +5,5 @@ pub mod Mapped
 pub mod Viewed
 pub mod OverSame
 pub mod IntoWriter
+pub mod RowRuns
+pub mod FactSubs

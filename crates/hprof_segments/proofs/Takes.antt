@@ -154,6 +154,16 @@ pub taken_all : (start now : Option (List ℕ)) (held : List ℕ) (subs : List (
     → (sent : List ℕ) × Appends start now sent × (segment_records subs ≡ sent ++ held_record held)
 taken_all start now held subs h = (flat_map segment_record h.sent, h.appended, held_last start now held subs h)
 
+-- they are a front of those of all, whatever follows
+pub taken_front : (start now : Option (List ℕ)) (held : List ℕ) (subs more : List (List ℕ)) → HasTaken start now held subs
+    → (sent rest : List ℕ) × Appends start now sent × (segment_records (subs ++ more) ≡ sent ++ rest)
+taken_front start now held subs more h = (
+  flat_map segment_record h.sent,
+  flat_map segment_record (segments_behind h.begun more),
+  h.appended,
+  ap (flat_map segment_record) (h.segments more) ∙ flat_map-append segment_record h.sent (segments_behind h.begun more),
+)
+
 -- and then it is written
 pub all_written : (start mid now : Option (List ℕ)) (held : List ℕ) (subs : List (List ℕ)) (r : Result (Unit {0}) WriteFault)
     → HasTaken start mid held subs → Writes mid now r (held_record held) → Writes start now r (segment_records subs)
