@@ -1,5 +1,5 @@
 -- A sink stays a sink into the same writer and target.
-use Rattle.std.proofs.Common.{◌≡◌, ℕ, ◌⊎◌, inl, inr, List, [], ◌∷◌, Option, Result, Ok, Err, refl, subst, ◌∙◌}
+use Rattle.std.proofs.Common.{ℕ, inl, inr, List, [], ◌∷◌, Option, Result, Ok, Err, refl, subst, ◌∙◌}
 use Rattle.std.specs.Prelude.{OnOk, IfErr}
 use Rattle.hprof_devices.specs.declared.health.Health.{Health}
 use Rattle.hprof_merge.specs.declared.merge_stop.MergeStop.{MergeStop}

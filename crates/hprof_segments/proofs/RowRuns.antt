@@ -1,5 +1,5 @@
 -- Rows that are taken one after another.
-use Rattle.std.proofs.Common.{◌≡◌, ℕ, List, [], ◌∷◌, ◌++◌, map, Option, sym, subst, append_assoc, append-nil}
+use Rattle.std.proofs.Common.{ℕ, List, [], ◌∷◌, ◌++◌, map, Option, sym, subst, append_assoc, append-nil}
 use Rattle.hprof_merge.specs.Rows.{ByteRow}
 use Rattle.hprof_merge.specs.Run.{Runs}
 use Rattle.hprof_segments.specs.declared.segment_writer.SegmentWriter.{SegmentWriter}

@@ -11,7 +11,7 @@ use Rattle.hprof_devices.specs.Device.{Writes}
 use Rattle.hprof_devices.proofs.Writes.{WritesFront, WritesFront-more, WritesFront-then, Writes-then}
 use Rattle.hprof_items.specs.Head.{record_bytes}
 use Rattle.hprof_dump.specs.Dump.{most_in_segment}
-use Rattle.hprof_segments.specs.ByteSegments.{joined, byte_segments, segments_behind, segment_record, segment_records}
+use Rattle.hprof_segments.specs.ByteSegments.{byte_segments, segments_behind, segment_record, segment_records}
 use Rattle.hprof_segments.specs.Taking.{HasTaken, EndsTaking, held_record}
 use Rattle.hprof_segments.proofs.Behind.{segment_begun, behind_none, behind_fits, behind_full, alone}
 use Rattle.hprof_segments.proofs.Held.{held_size, held_more, held_is_begun}

@@ -1,10 +1,10 @@
 -- A merge into a sink, seen as what a part of the sink does.
-use Rattle.std.proofs.Common.{◌≡◌, ℕ, ◌+◌, ◌⊎◌, inl, inr, List, [], ◌∷◌, Option, ap}
+use Rattle.std.proofs.Common.{ℕ, ◌+◌, inl, inr, List, [], ◌∷◌, Option, ap}
 use Rattle.hprof_merge.specs.declared.merge_stop.MergeStop.{MergeStop}
 use Rattle.hprof_merge.specs.declared.merge_stop.MergeStop.TheVariants.{OutOfMemory, TwoContents, Cursor, Sink}
 use Rattle.hprof_merge.specs.Rows.{ByteRow}
 use Rattle.hprof_merge.specs.Run.{Runs}
-use Rattle.hprof_merge.specs.Merging.{TakesAll, TakesBelow, RefusesRow}
+use Rattle.hprof_merge.specs.Merging.{TakesAll, TakesBelow}
 use Rattle.hprof_merge.specs.Stopping.{MergesAll, TakesUpTo, StopsBecause, StopsMerging}
 
 module _ {T U : Type 0} (view : T → U) (steps : T → ℕ → List ℕ → T → Type 0) (others : U → ℕ → List ℕ → U → Type 0)

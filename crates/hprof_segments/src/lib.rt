@@ -9,6 +9,8 @@ mod merging;
 mod segment_sink;
 mod segment_writer;
 mod sink_fault;
+#[cfg(test)]
+mod tests;
 
 pub use merging::merge_sub_records;
 pub use segment_sink::SegmentSink;

@@ -1,4 +1,4 @@
-use Rattle.std.proofs.Common.{◌≡◌, sym, rules}
+use Rattle.std.proofs.Common.{sym, rules}
 use Rattle.hprof_segments.proofs.IntoWriter.{merged_into, stopped_into, well_into, well_unless}
 use Rattle.hprof_segments.proofs.OverSame.{same_merge}
 use Rattle.hprof_segments.proofs.merging.merge_sub_records.Goals as goal
