@@ -35,7 +35,8 @@ behind_full (first ∷ others) sub more full =
     (lt-leb (sum_by length (first ∷ others) + length sub) most_in_segment full)
 
 -- one that is longer than a segment of several stands alone
-pub alone : (sub : List ℕ) (more : List (List ℕ)) → most_in_segment < length sub → byte_segments (sub ∷ more) ≡ (sub ∷ []) ∷ byte_segments more
+pub alone : (sub : List ℕ) (more : List (List ℕ)) → most_in_segment < length sub
+    → byte_segments (sub ∷ more) ≡ (sub ∷ []) ∷ byte_segments more
 alone sub [] long = refl
 alone sub (next ∷ more) long =
     let full : most_in_segment < sum_by length (sub ∷ []) + length next = omega arith in

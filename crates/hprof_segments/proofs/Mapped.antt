@@ -37,7 +37,8 @@ module _ {A B : Type 0} (size : B → ℕ) (f : A → B) (most : ℕ) where
       ap (λ (n : ℕ). cond (leb (n + size (f next)) most) one other) (sum_by-map begun)
       ∙ both (leb (sum_by (λ x. size (f x)) begun + size (f next)) most) one other
       (packed_behind (λ x. size (f x)) most (begun ++ next ∷ []) subs) (begun ∷ packed_behind (λ x. size (f x)) most (next ∷ []) subs)
-      (ap (λ (l : List B). packed_behind size most l (map f subs)) (sym (map-append f begun (next ∷ []))) ∙ packed_behind-map (begun ++ next ∷ []) subs)
+      (ap (λ (l : List B). packed_behind size most l (map f subs)) (sym (map-append f begun (next ∷ [])))
+      ∙ packed_behind-map (begun ++ next ∷ []) subs)
       (ap (λ (l : List (List B)). map f begun ∷ l) (packed_behind-map (next ∷ []) subs))
 
   pub packed-map : (subs : List A) → packed size most (map f subs) ≡ map (map f) (packed (λ x. size (f x)) most subs)
@@ -53,7 +54,8 @@ records-map ids (segment ∷ segments) =
     (flat_map-map (λ sub. sub) (dump_bytes ids) segment)
     ∙ ap (λ (l : List ℕ). segment_bytes ids segment ++ l) (records-map ids segments)
 
-pub facts_packed : (ids : IdSize) (rows : List FactValue) → segment_records (map (dump_bytes ids) (sub_facts rows)) ≡ sub_facts_bytes ids rows
+pub facts_packed : (ids : IdSize) (rows : List FactValue)
+    → segment_records (map (dump_bytes ids) (sub_facts rows)) ≡ sub_facts_bytes ids rows
 facts_packed ids rows =
     ap (flat_map segment_record) (packed-map length (dump_bytes ids) most_in_segment (sub_facts rows))
     ∙ records-map ids (segments_of ids (sub_facts rows))

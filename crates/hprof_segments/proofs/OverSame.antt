@@ -8,7 +8,7 @@ use Rattle.hprof_merge.specs.Rows.{ByteRow}
 use Rattle.hprof_merge.specs.Run.{Runs}
 use Rattle.hprof_merge.specs.Stopping.{MergesAll, StopsBecause, StopsMerging}
 use Rattle.hprof_segments.specs.declared.segment_sink.SegmentSink.{SegmentSink}
-use Rattle.hprof_segments.specs.declared.sink_fault.SinkFault.{SinkFault}
+use Rattle.hprof_segments.specs.declared.segment_fault.SegmentFault.{SegmentFault}
 use Rattle.hprof_segments.specs.Sink.{IsOverSame, TakesIntoSink, SinkRefuses}
 
 module _ {W : Type 0} (written : W → Option (List ℕ)) (health : W → Health) where
@@ -20,7 +20,7 @@ module _ {W : Type 0} (written : W → Option (List ℕ)) (health : W → Health
   same_run old [] new run = subst (IsOverSame old) run (refl, refl)
   same_run old (row ∷ rows) new run = same_then old run.0 new run.1.0 (same_run run.0 rows new run.2)
 
-  same_stop : {F : Type 0} (came now : List (List ByteRow)) (stop : MergeStop F SinkFault) (old new : SegmentSink W)
+  same_stop : {F : Type 0} (came now : List (List ByteRow)) (stop : MergeStop F SegmentFault) (old new : SegmentSink W)
       → StopsBecause (TakesIntoSink written) (SinkRefuses written health) came now stop old new → IsOverSame old new
   same_stop came now OutOfMemory old new because = subst (IsOverSame old) because.1 (refl, refl)
   same_stop came now (TwoContents key) old new because = same_run old because.2.front new because.2.run
@@ -35,7 +35,7 @@ module _ {W : Type 0} (written : W → Option (List ℕ)) (health : W → Health
 
   -- after a merge
   pub same_merge : {C F : Type 0} (shown : C → Option ByteRow) (goes : C → C → Type 0) (fails : C → F → C → Type 0) (old new : List C)
-      (r : Result (Unit {0}) (MergeStop F SinkFault)) (sink after : SegmentSink W)
+      (r : Result (Unit {0}) (MergeStop F SegmentFault)) (sink after : SegmentSink W)
       → OnOk r (MergesAll shown goes (TakesIntoSink written) old new sink after)
       → IfErr r (λ stop. StopsMerging shown goes (TakesIntoSink written) fails (SinkRefuses written health) old new stop sink after)
       → IsOverSame sink after

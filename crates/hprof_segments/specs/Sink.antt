@@ -1,12 +1,13 @@
 -- Rows that are taken as sub-records.
 use Rattle.std.specs.Prelude.{◌≡◌, ℕ, List, [], ◌∷◌, ◌++◌, Option, Err}
+use Rattle.std.specs.Borrow.{MutBor}
 use Rattle.hprof_devices.specs.declared.health.Health.{Health}
 use Rattle.hprof_devices.specs.declared.health.WriteFault.{WriteFault}
 use Rattle.hprof_devices.specs.Device.{Writes, health_after}
 use Rattle.hprof_segments.specs.declared.segment_sink.SegmentSink.{SegmentSink}
 use Rattle.hprof_segments.specs.declared.segment_writer.SegmentWriter.{SegmentWriter}
-use Rattle.hprof_segments.specs.declared.sink_fault.SinkFault.{SinkFault}
-use Rattle.hprof_segments.specs.declared.sink_fault.SinkFault.TheVariants.{NoSubRecord, Write}
+use Rattle.hprof_segments.specs.declared.segment_fault.SegmentFault.{SegmentFault}
+use Rattle.hprof_segments.specs.declared.segment_fault.SegmentFault.TheVariants.{NoSubRecord, Write}
 use Rattle.hprof_segments.specs.ByteSegments.{IsSub, segment_records}
 use Rattle.hprof_segments.specs.Taking.{HasTaken}
 use Rattle.hprof_segments.specs.Writer.{held_bytes}
@@ -15,9 +16,13 @@ use Rattle.hprof_segments.specs.Writer.{held_bytes}
 abbrev pub sink_state : {W : Type 0} → SegmentSink W → SegmentWriter × W
 sink_state sink = (sink.writer.now, sink.target.now)
 
--- it is a sink into the same writer and the same target
+-- it is a sink into this writer and this target
+abbrev pub IsInto : {W : Type 0} → SegmentSink W → MutBor SegmentWriter → MutBor W → Type 0
+IsInto sink writer target = (sink.writer.ghost_name ≡ writer.ghost_name) × (sink.target.ghost_name ≡ target.ghost_name)
+
+-- both are sinks into the same writer and the same target
 abbrev pub IsOverSame : {W : Type 0} → SegmentSink W → SegmentSink W → Type 0
-IsOverSame old new = (new.writer.ghost_name ≡ old.writer.ghost_name) × (new.target.ghost_name ≡ old.target.ghost_name)
+IsOverSame old new = IsInto new old.writer old.target
 
 module _ {W : Type 0} (written : W → Option (List ℕ)) where
   -- the writer has taken these sub-records since the target held `start`
@@ -38,13 +43,13 @@ module _ {W : Type 0} (written : W → Option (List ℕ)) where
         → Writes {A = Unit {0}} start (written new.1) (Err fault) (segment_records (subs ++ bytes ∷ more))
 
   -- a row was refused: it is no sub-record, and nothing changed; or the target failed
-  abbrev pub RefusesRow : (W → Health) → SegmentWriter × W → ℕ → List ℕ → SinkFault → SegmentWriter × W → Type 0
+  abbrev pub RefusesRow : (W → Health) → SegmentWriter × W → ℕ → List ℕ → SegmentFault → SegmentWriter × W → Type 0
   RefusesRow well old key bytes NoSubRecord new = (¬ IsSub bytes) × (new ≡ old)
   RefusesRow well old key bytes (Write fault) new = FailsAtRow well old bytes fault new
 
-  -- the same of a sink
+  -- a sink took a row, or refused it
   abbrev pub TakesIntoSink : SegmentSink W → ℕ → List ℕ → SegmentSink W → Type 0
   TakesIntoSink old key bytes new = IsOverSame old new × TakesRow (sink_state old) key bytes (sink_state new)
 
-  abbrev pub SinkRefuses : (W → Health) → SegmentSink W → ℕ → List ℕ → SinkFault → SegmentSink W → Type 0
+  abbrev pub SinkRefuses : (W → Health) → SegmentSink W → ℕ → List ℕ → SegmentFault → SegmentSink W → Type 0
   SinkRefuses well old key bytes fault new = IsOverSame old new × RefusesRow well (sink_state old) key bytes fault (sink_state new)

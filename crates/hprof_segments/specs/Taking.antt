@@ -7,17 +7,19 @@ use Rattle.hprof_devices.specs.Device.{Writes}
 use Rattle.hprof_items.specs.Head.{record_bytes}
 use Rattle.hprof_segments.specs.ByteSegments.{joined, byte_segments, segments_behind, segment_record, segment_records}
 
--- these sub-records were taken: their segments were written, but for the one that is held, into which more may go
---   start, now: what the target held before the first of them, and what it holds now;  held: the bytes that are held
+-- a writer took these sub-records: it wrote all of their segments but the last, into which more may go, and holds that one
+--   start: what the target held before the first of them;  now: what it holds now;  held: the bytes that the writer holds
 pub record HasTaken (start now : Option (List ℕ)) (held : List ℕ) (subs : List (List ℕ)) : Type 0 where
+  -- the segments that were written, and the sub-records of the one that is held
   pub sent : List (List (List ℕ))
   pub begun : List (List ℕ)
+  -- whatever follows, the segments of all are those that were written, and then the one that is held goes on
   pub segments : (more : List (List ℕ)) → byte_segments (subs ++ more) ≡ sent ++ segments_behind begun more
   pub appended : Appends start now (flat_map segment_record sent)
   pub holds : held ≡ joined begun
   pub none : held ≡ [] → begun ≡ []
 
--- how it ends to take one more behind these: it was taken; or, whatever would have come behind it, a prefix of the records of all went out
+-- how taking one more ends: it was taken behind the others; or, whatever would have followed, a prefix of the records of all was written
 abbrev pub EndsTaking : (start now : Option (List ℕ)) (held : List ℕ) (subs : List (List ℕ)) (sub : List ℕ) → Result (Unit {0}) WriteFault
     → Type 0
 EndsTaking start now held subs sub (Ok done) = HasTaken start now held (subs ++ sub ∷ [])

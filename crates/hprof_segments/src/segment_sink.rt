@@ -3,14 +3,14 @@
 ghost use Rattle.std.specs.Prelude.{◌≡◌, ◌↔◌, IsTrue, length};
 ghost use Rattle.hprof_segments.specs.ByteSegments.{IsSub};
 
+use crate::segment_fault::SegmentFault;
 use crate::segment_writer::SegmentWriter;
-use crate::sink_fault::SinkFault;
 use hprof_devices::Target;
 use hprof_merge::RowSink;
 
-/// A sink that takes the bytes of each row as a sub-record, and writes them in segments to a target. The keys of the rows are not written.
+/// A sink that takes the bytes of each row as a sub-record, and writes them in segments to a target. Keys are not written.
 ///
-/// The writer goes on from what it holds, and holds the last segment afterwards.
+/// The writer goes on from what it holds, and afterwards holds the last segment.
 #[derive(Drop)]
 pub struct SegmentSink<'a, W: Target> {
     writer: &'a mut SegmentWriter,
@@ -18,12 +18,12 @@ pub struct SegmentSink<'a, W: Target> {
 }
 
 impl<'a, W: Target> SegmentSink<'a, W> {
+    ghost use Rattle.hprof_segments.specs.Sink.{sink_state, IsInto};
+
     /// Returns a sink that takes sub-records into a writer.
     pub fn new(writer: &'a mut SegmentWriter, target: &'a mut W) -> Self
-        ensures writer { result.writer.now ≡ writer.old }
-        ensures same_writer { result.writer.ghost_name ≡ writer.entry.ghost_name }
-        ensures target { result.target.now ≡ target.old }
-        ensures same_target { result.target.ghost_name ≡ target.entry.ghost_name }
+        ensures state { sink_state result ≡ (writer.old, target.old) }
+        ensures same { IsInto result writer.entry target.entry }
     {
         SegmentSink { writer, target }
     }
@@ -38,25 +38,22 @@ pub(crate) fn is_sub(bytes: &[u8]) -> bool
 
 impl<W: Target> RowSink for SegmentSink<'_, W> {
     ghost use Rattle.std.specs.Prelude.{◌≡◌};
+    ghost use Rattle.hprof_devices.specs.declared.health.Health.TheVariants.{Well};
     ghost use Rattle.hprof_segments.specs.Sink.{TakesIntoSink, SinkRefuses};
 
     ghost steps = { TakesIntoSink W.written };
 
     ghost refuses = { SinkRefuses W.written W.health };
 
-    ghost use Rattle.hprof_devices.specs.declared.health.Health.TheVariants.{Well};
-
     ghost well = { λ it. W.health it.target.now ≡ Well };
 
-    type Fault = SinkFault;
+    type Fault = SegmentFault;
 
-    fn take(&mut self, _key: u64, bytes: &[u8]) -> Result<(), SinkFault> {
+    fn take(&mut self, _key: u64, bytes: &[u8]) -> Result<(), SegmentFault> {
         if !is_sub(bytes) {
-            return Err(SinkFault::NoSubRecord);
+            return Err(SegmentFault::NoSubRecord);
         }
-        match self.writer.take(bytes, self.target) {
-            Ok(()) => Ok(()),
-            Err(fault) => Err(SinkFault::Write(fault)),
-        }
+        self.writer.take(bytes, self.target)?;
+        Ok(())
     }
 }

@@ -3,6 +3,7 @@
 ghost use Rattle.std.specs.Prelude.{◌≡◌, ◌+◌, ◌++◌, ◌<◌, ◌≤◌, ℕ, List, [], length, Option, vec_len, vec_capacity, IfOk, OnOk};
 ghost use Rattle.hprof_devices.specs.declared.health.Health.TheVariants.{Well};
 ghost use Rattle.hprof_devices.specs.Device.{Writes, LeavesHealth};
+ghost use Rattle.hprof_dump.specs.Dump.{most_in_segment};
 ghost use Rattle.hprof_items.specs.Head.{record_bytes};
 ghost use Rattle.hprof_items.specs.Spelling.{longest_body};
 ghost use Rattle.hprof_segments.specs.ByteSegments.{IsSub, segment_records};
@@ -27,15 +28,15 @@ fn write_segment<W: Target>(body: &[u8], target: &mut W) -> Result<(), WriteFaul
     push_all(body, target)
 }
 
-/// Writes sub-records in segments that are as full as they can be. It holds the sub-records of one segment, of 1 MiB at most, until the
-/// next has no room in it. A longer sub-record is not held: it is written at once, in a segment of its own.
+/// Writes sub-records, which it takes one after another, in segments that are as full as they can be.
 ///
-/// Only `new` allocates. After a fault it must not be used again.
+/// It holds the sub-records of one segment, at most 1 MiB, until the next one has no room there. A sub-record of more than 1 MiB is not
+/// held: it is written at once, in a segment of its own. Only `new` allocates. After a fault the writer must not be used again.
 #[derive(Drop)]
 pub struct SegmentWriter {
     held: Vec<u8>,
-    ghost short: { vec_len held ≤ 1048576 },
-    ghost room: { 1048576 ≤ vec_capacity held },
+    ghost short: { vec_len held ≤ most_in_segment },
+    ghost room: { most_in_segment ≤ vec_capacity held },
 }
 
 impl SegmentWriter {
@@ -52,7 +53,7 @@ impl SegmentWriter {
     /// Holds a sub-record behind those that are held.
     #[inline(always)]
     fn hold(&mut self, spelled: &[u8])
-        requires { length (held_bytes self.old) + length spelled.now ≤ 1048576 }
+        requires { length (held_bytes self.old) + length spelled.now ≤ most_in_segment }
         ensures { held_bytes self.new ≡ held_bytes self.old ++ spelled.now }
     {
         let Ok(()) = self.held.extend_from_slice(spelled) else {
@@ -80,7 +81,7 @@ impl SegmentWriter {
     fn take_next<W: Target>(&mut self, spelled: &[u8], target: &mut W) -> Result<(), WriteFault>
         requires well { W.health target.old ≡ Well }
         requires sub { IsSub spelled.now }
-        requires full { 1048576 < length (held_bytes self.old) + length spelled.now }
+        requires full { most_in_segment < length (held_bytes self.old) + length spelled.now }
         ensures taken { (start : Option (List ℕ)) (subs : List (List ℕ))
             → HasTaken start (W.written target.old) (held_bytes self.old) subs
             → EndsTaking start (W.written target.new) (held_bytes self.new) subs spelled.now result }
@@ -94,7 +95,7 @@ impl SegmentWriter {
         Ok(())
     }
 
-    /// Takes the next sub-record, of which these are the bytes. If it has no room in the segment that is held, that segment is written. The
+    /// Takes the next sub-record, given as its bytes. If it has no room in the segment that is held, that segment is written first. The
     /// bytes are copied once.
     ///
     /// If this fails, a prefix of the segments was written, and the writer must not be used again.
@@ -114,7 +115,7 @@ impl SegmentWriter {
         Ok(())
     }
 
-    /// Writes the segment that is held, if one is, so that the segments of all sub-records that were taken are written, and nothing is held.
+    /// Writes the segment that is held, if one is. So the segments of all sub-records that were taken are written, and nothing is held.
     ///
     /// If this fails, a prefix of the segments was written, and the writer must not be used again.
     pub fn finish<W: Target>(&mut self, target: &mut W) -> Result<(), WriteFault>

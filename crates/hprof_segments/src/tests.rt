@@ -5,9 +5,9 @@ ghost use Rattle.hprof_devices.specs.declared.health.Health.TheVariants.{Well};
 ghost use Rattle.hprof_devices.specs.Device.{LeavesHealth};
 
 use crate::merging::merge_sub_records;
+use crate::segment_fault::SegmentFault;
 use crate::segment_sink::is_sub;
 use crate::segment_writer::SegmentWriter;
-use crate::sink_fault::SinkFault;
 use hprof_devices::{Device, Target, WriteFault};
 use hprof_merge::{MergeStop, RefuseLate, RowCursor};
 use std::alloc::{AllocError, Global};
@@ -188,6 +188,6 @@ fn merged_rows_are_taken_in_order_of_key(rt: HostRuntime) -> Result<(), Fail> {
     let mut target = Device::new(Vec::new(alloc));
     let mut cursors = [in_order(&[(1, b"a"), (2, b"")])];
     let merged = merge_sub_records(alloc, &mut cursors, &mut writer, &mut target);
-    assert!(rt; matches!(merged, Err(MergeStop::Sink(SinkFault::NoSubRecord))));
+    assert!(rt; matches!(merged, Err(MergeStop::Sink(SegmentFault::NoSubRecord))));
     Ok(())
 }

@@ -1,4 +1,4 @@
-use Rattle.std.proofs.Common.{sym, rules}
+use Rattle.std.proofs.Common.{rules}
 use Rattle.hprof_segments.proofs.IntoWriter.{merged_into, stopped_into, well_into, well_unless}
 use Rattle.hprof_segments.proofs.OverSame.{same_merge}
 use Rattle.hprof_segments.proofs.merging.merge_sub_records.Goals as goal
@@ -10,7 +10,7 @@ returns-clause-merged g c =
     let same = same_merge g.W.Target.written g.W.Target.health g.C.RowCursor.shown g.C.RowCursor.goes g.C.RowCursor.fails
     c.args.cursors.now m.new.cursors m.result sink m.new.sink m.ensures.merged m.ensures.stop in
     merged_into g.C.RowCursor.shown g.C.RowCursor.goes g.C.RowCursor.fails g.W.Target.written g.W.Target.health
-    c.args.cursors.now m.new.cursors m.result sink m.new.sink _ _ _ _ (sym c.new-sink.ensures.writer) (sym c.new-sink.ensures.target)
+    c.args.cursors.now m.new.cursors m.result sink m.new.sink _ _ _ _ c.new-sink.ensures.state
     (search rules) (search rules) m.ensures.merged
 
 pub returns-clause-well : goal.returns-clause-well
@@ -28,7 +28,7 @@ returns-clause-stop g c =
     let same = same_merge g.W.Target.written g.W.Target.health g.C.RowCursor.shown g.C.RowCursor.goes g.C.RowCursor.fails
     c.args.cursors.now m.new.cursors m.result sink m.new.sink m.ensures.merged m.ensures.stop in
     stopped_into g.C.RowCursor.shown g.C.RowCursor.goes g.C.RowCursor.fails g.W.Target.written g.W.Target.health
-    c.args.cursors.now m.new.cursors m.result sink m.new.sink _ _ _ _ (sym c.new-sink.ensures.writer) (sym c.new-sink.ensures.target)
+    c.args.cursors.now m.new.cursors m.result sink m.new.sink _ _ _ _ c.new-sink.ensures.state
     (search rules) (search rules) m.ensures.stop
 
 pub returns-clause-target : goal.returns-clause-target

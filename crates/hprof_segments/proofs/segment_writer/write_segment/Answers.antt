@@ -14,4 +14,5 @@ returns-in_err-write_head-clause-bytes g c =
 pub returns-clause-bytes : goal.returns-clause-bytes
 returns-clause-bytes g c =
     let body = c.args.body.now in
-    Writes-then _ _ _ zero c.push_all.result (head_bytes 0x1c 0 (length body)) body c.in_ok-write_head.ensures.bytes c.push_all.ensures.bytes
+    Writes-then _ _ _ zero c.push_all.result (head_bytes 0x1c 0 (length body)) body c.in_ok-write_head.ensures.bytes
+    c.push_all.ensures.bytes

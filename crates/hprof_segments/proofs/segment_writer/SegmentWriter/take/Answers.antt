@@ -6,5 +6,6 @@ use Rattle.hprof_segments.proofs.segment_writer.SegmentWriter.take.Goals as goal
 
 pub returns-clause-taken : goal.returns-clause-taken
 returns-clause-taken g c = λ start subs h.
-    subst (λ (held : List ℕ). HasTaken start (g.W.Target.written c.args.target.now) held (subs ++ c.args.spelled.now ∷ [])) (sym c.hold.ensures)
+    subst (λ (held : List ℕ). HasTaken start (g.W.Target.written c.args.target.now) held (subs ++ c.args.spelled.now ∷ []))
+    (sym c.hold.ensures)
     (taken_more start _ (held_bytes c.args.self.now) subs c.args.spelled.now h c.requires.sub.0 (omega arith))

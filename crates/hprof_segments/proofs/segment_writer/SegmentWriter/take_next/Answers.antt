@@ -8,7 +8,8 @@ pub returns-in_err-write_held-clause-taken : goal.returns-in_err-write_held-clau
 returns-in_err-write_held-clause-taken g c = λ start subs h.
     let r = c.from_residual.result in
     let p = err_from_is_err_and r c.from_residual.ensures.1 in
-    next_stops start _ _ (held_bytes c.args.self.now) _ subs c.args.spelled.now r p.0 p.1 h c.requires.full c.in_err-write_held.ensures.bytes
+    next_stops start _ _ (held_bytes c.args.self.now) _ subs c.args.spelled.now r p.0 p.1 h c.requires.full
+    c.in_err-write_held.ensures.bytes
 
 pub returns-then-spelled-gt-MOST_IN_SEGMENT-clause-taken : goal.returns-then-spelled-gt-MOST_IN_SEGMENT-clause-taken
 returns-then-spelled-gt-MOST_IN_SEGMENT-clause-taken g c = λ start subs h.
