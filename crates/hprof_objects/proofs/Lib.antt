@@ -3,3 +3,4 @@ mod Rows
 mod Stretches
 mod Whole
 mod WholeHeap
+mod Spilled
