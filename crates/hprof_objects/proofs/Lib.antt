@@ -4,3 +4,4 @@ mod Stretches
 mod Whole
 mod WholeHeap
 mod Spilled
+mod Logged

@@ -5,3 +5,5 @@ pub mod Growing
 pub mod Stretches
 pub mod Whole
 pub mod Store
+pub mod Reserved
+pub mod Log

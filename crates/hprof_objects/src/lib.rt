@@ -6,10 +6,12 @@ mod identifying;
 mod growing;
 mod keeping;
 pub mod laws;
+mod object_log;
 mod row_store;
 mod stretch;
 
 pub use identifying::object_id;
 pub use keeping::Keeping;
+pub use object_log::ObjectLog;
 pub use row_store::RowStore;
 pub use stretch::Stretch;
