@@ -5,3 +5,5 @@ mod Whole
 mod WholeHeap
 mod Spilled
 mod Logged
+mod Parts
+mod Settled

@@ -34,10 +34,17 @@ module _ {S : Type 0} (written : S → Option (List ℕ)) (health : S → Health
     pub enough : IsEnough (rows_of_parts (parts ++ part ∷ [])) (IsKept memory runs lists grown)
 
   -- the log keeps enough of the objects of these parts, and of one more that is being read
-  abbrev pub HasLogged : List PartRead → PartRead → ObjectLog S → Type 0
-  HasLogged parts part log =
+  abbrev pub KeepsLogged : List PartRead → PartRead → ObjectLog S → Type 0
+  KeepsLogged parts part log =
       Keeps parts part log.part (rows_of_store log.store) (runs_of_store log.store) log.stretches.items log.growing
-      × IsPieceOf limits part log.piece
+
+  -- the same with no growing stretch
+  abbrev pub KeepsUngrown : List PartRead → PartRead → ObjectLog S → Type 0
+  KeepsUngrown parts part log = Keeps parts part log.part (rows_of_store log.store) (runs_of_store log.store) log.stretches.items None
+
+  -- the same, and where the piece begins that is being read
+  abbrev pub HasLogged : List PartRead → PartRead → ObjectLog S → Type 0
+  HasLogged parts part log = KeepsLogged parts part log × IsPieceOf limits part log.piece
 
   -- the log keeps enough of the objects of these parts, and none is being read
   pub record HoldsParts (parts : List PartRead) (log : ObjectLog S) : Type 0 where

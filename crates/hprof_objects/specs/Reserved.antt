@@ -3,7 +3,7 @@ use Rattle.std.specs.Prelude.{ℕ, ◌<◌, Option, Some, None, ⊤}
 use Rattle.hprof_objects.specs.declared.growing.Growing.{Growing}
 use Rattle.hprof_objects.specs.declared.growing.Stands.{Stands}
 use Rattle.hprof_objects.specs.declared.growing.Stands.TheVariants.{InMemory, InPart}
-use Rattle.std.specs.Coded.{Unit-prop, lt_prop}
+use Rattle.std.specs.Coded.{Unit-prop}
 use Rattle.std.proofs.Props.{props}
 
 -- one that stays has room

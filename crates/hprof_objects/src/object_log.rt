@@ -1,6 +1,6 @@
 //! The log of the objects of parts, as they are read.
 
-ghost use Rattle.std.specs.Prelude.{ℕ, ◌≡◌, ◌<◌, ◌^◌, ◌∷◌, ◌++◌, [], List, length, vec_len, vec_capacity, Some, None, IfOk, OnOk, IsSome};
+ghost use Rattle.std.specs.Prelude.{ℕ, ◌≡◌, ◌<◌, ◌^◌, ◌∷◌, ◌++◌, [], List, length, vec_len, vec_capacity, true, Some, None, IfOk, OnOk, IsSome};
 ghost use Rattle.hprof_devices.specs.declared.health.Health.TheVariants.{Well};
 ghost use Rattle.hprof_items.specs.FactValue.{FactValue};
 ghost use Rattle.hprof_runs.specs.ReadBack.{HoldsNothing};
@@ -9,7 +9,9 @@ ghost use Rattle.hprof_stream.specs.declared.limits.Limits.{Limits};
 ghost use Rattle.hprof_values.specs.declared.ids.IdSize.{IdSize};
 ghost use Rattle.hprof_objects.specs.ObjectRows.{object_row};
 ghost use Rattle.hprof_objects.specs.PartsRead.{PartRead, part_begun, with_bytes, with_fact};
+ghost use Rattle.hprof_objects.specs.Growing.{piece_begun, staying};
 ghost use Rattle.hprof_objects.specs.Reserved.{IsReserved, IsReserved-prop};
+ghost use Rattle.hprof_objects.specs.Stretches.{IsPieceOf};
 
 use crate::growing::{Growing, Piece, Stands};
 use crate::keeping::Keeping;
@@ -37,8 +39,51 @@ pub struct ObjectLog<S> {
         by { IsReserved-prop growing (vec_len stretches) (vec_capacity stretches) },
 }
 
+/// Adds the growing stretch to those that stay, if it stays. There is room for it.
+fn keep(stretches: &mut Vec<Stretch>, growing: Option<Growing>)
+    requires { IsReserved growing (vec_len stretches.old) (vec_capacity stretches.old) }
+    ensures { stretches.new.items ≡ stretches.old.items ++ staying growing }
+{
+    if let Some(Growing {
+        stretch,
+        stands: Stands::InPart,
+        ..
+    }) = growing
+    {
+        stretches.push_reserved(stretch);
+    }
+}
+
+/// Returns the piece that begins at a place, of which no fact was taken.
+fn piece_at(place: Option<PartPlace>) -> Option<Piece>
+    ensures { result ≡ piece_begun place }
+{
+    match place {
+        Some(place) => Some(Piece { place, passed: 0 }),
+        None => None,
+    }
+}
+
+/// Returns the piece with one fact more that was taken of it. Where they cannot be counted, no stretch may begin behind them.
+fn with_one_more(piece: Option<Piece>) -> Option<Piece>
+    ensures { (limits : Limits) (part : PartRead) (fact : FactValue) → IsPieceOf limits part piece
+        → IsPieceOf limits (with_fact part fact) result }
+{
+    match piece {
+        Some(Piece { place, passed }) if passed < u64::MAX => Some(Piece {
+            place,
+            passed: passed + 1,
+        }),
+        _ => None,
+    }
+}
+
 impl<S: Scratch + Drop> ObjectLog<S> {
-    ghost use Rattle.hprof_objects.specs.Log.{HasLogged, HoldsParts, IsPlaceNow, scratch_of_log};
+    ghost use Rattle.hprof_objects.specs.Log.{HasLogged, HoldsParts, IsPlaceNow, KeepsLogged, KeepsUngrown, scratch_of_log};
+    ghost use Rattle.hprof_objects.specs.Store.{rows_of_store};
+    ghost use Rattle.hprof_objects.specs.Stretches.{IsGrowingStretch, IsPieceOf};
+    ghost use Rattle.hprof_objects.specs.declared.growing.Stands.TheVariants.{InMemory};
+    ghost use Rattle.hprof_merge.specs.Rows.{ByteRow};
 
     /// Returns a log without objects.
     pub fn new(alloc: Global, scratch: S, keeping: Keeping) -> Result<Self, AllocError>
@@ -62,19 +107,14 @@ impl<S: Scratch + Drop> ObjectLog<S> {
         ensures log { (limits : Limits) (parts : List PartRead) (part : PartRead) → HasLogged S.written S.health limits parts part self.old
             → HasLogged S.written S.health limits parts part self.new }
         ensures none { self.new.growing ≡ None }
+        ensures stretches { self.new.stretches.items ≡ self.old.stretches.items ++ staying self.old.growing }
         ensures store { self.new.store ≡ self.old.store }
         ensures piece { self.new.piece ≡ self.old.piece }
         ensures part { self.new.part ≡ self.old.part }
     {
-        if let Some(Growing {
-            stretch,
-            stands: Stands::InPart,
-            ..
-        }) = self.growing
-        {
-            self.stretches.push_reserved(stretch);
-        }
+        let growing = self.growing;
         self.growing = None;
+        keep(&mut self.stretches, growing);
     }
 
     /// Begins the part of that number. The parts before it have come to their ends.
@@ -105,9 +145,70 @@ impl<S: Scratch + Drop> ObjectLog<S> {
             → HasLogged S.written S.health limits parts (with_bytes part more) self.new }
         ensures scratch { scratch_of_log self.new ≡ scratch_of_log self.old }
     {
-        self.piece = match place {
-            Some(place) => Some(Piece { place, passed: 0 }),
-            None => None,
-        };
+        self.piece = piece_at(place);
+    }
+
+    /// Goes past a fact that is no object.
+    pub fn skip(&mut self)
+        ensures log { (limits : Limits) (parts : List PartRead) (part : PartRead) (fact : FactValue)
+            → HasLogged S.written S.health limits parts part self.old → object_row part.ids fact ≡ None
+            → HasLogged S.written S.health limits parts (with_fact part fact) self.new }
+        ensures scratch { scratch_of_log self.new ≡ scratch_of_log self.old }
+    {
+        self.piece = with_one_more(self.piece);
+    }
+
+    /// Returns whether a stretch of so many bytes may stay in its part. Then there is room for it.
+    fn may_stay(&mut self, size: u64) -> bool
+        requires { self.old.growing ≡ None }
+        ensures room { result ≡ true → vec_len self.new.stretches < vec_capacity self.new.stretches }
+        ensures none { self.new.growing ≡ None }
+        ensures store { self.new.store ≡ self.old.store }
+        ensures stretches { self.new.stretches.items ≡ self.old.stretches.items }
+        ensures piece { self.new.piece ≡ self.old.piece }
+        ensures part { self.new.part ≡ self.old.part }
+    {
+        if size < self.keeping.stretch || self.staying >= self.keeping.stretches {
+            return false;
+        }
+        self.stretches.reserve(1).is_ok()
+    }
+
+    /// Goes on with a stretch whose rows are the last ones in memory, from this one on. If it is long enough, it stays in its part, and they
+    /// leave the memory.
+    fn settle(&mut self, growing: Growing, from: usize)
+        requires { growing.stands ≡ InMemory from }
+        ensures log { (limits : Limits) (parts : List PartRead) (part : PartRead) (rows : List ByteRow)
+            → IsGrowingStretch limits self.old.part part growing (rows_of_store self.old.store) rows
+            → KeepsUngrown S.written S.health limits parts part self.old
+            → KeepsLogged S.written S.health limits parts part self.new }
+        ensures scratch { scratch_of_log self.new ≡ scratch_of_log self.old }
+        ensures piece { self.new.piece ≡ self.old.piece }
+    {
+        self.growing = None;
+        if self.may_stay(growing.size) {
+            self.store.truncate(from);
+            self.staying = self.staying.saturating_add(1);
+            self.growing = Some(growing.in_part());
+        } else {
+            self.growing = Some(growing);
+        }
+    }
+
+    /// Begins a stretch with an object whose row is the last one in memory, if the piece has a place.
+    fn begin_stretch(&mut self, id: u64, len: usize, from: usize)
+        requires { self.old.growing ≡ None }
+        ensures log { (limits : Limits) (parts : List PartRead) (part : PartRead) (fact : FactValue) (bytes : List ℕ) (front : List ByteRow)
+            → IsPieceOf limits part self.old.piece → object_row part.ids fact ≡ Some (id, bytes)
+            → rows_of_store self.old.store ≡ front ++ (id, bytes) ∷ [] → length front ≡ from
+            → KeepsUngrown S.written S.health limits parts (with_fact part fact) self.old
+            → KeepsLogged S.written S.health limits parts (with_fact part fact) self.new }
+        ensures scratch { scratch_of_log self.new ≡ scratch_of_log self.old }
+        ensures piece { self.new.piece ≡ self.old.piece }
+    {
+        if let Some(piece) = self.piece {
+            let growing = Growing::first(self.part, piece, id, len, from);
+            self.settle(growing, from);
+        }
     }
 }
