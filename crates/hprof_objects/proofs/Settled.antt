@@ -1,6 +1,7 @@
 -- A stretch that goes on.
 use Rattle.std.proofs.Common.{◌≡◌, ◌+◌, ◌<◌, ℕ, List, [], ◌∷◌, ◌++◌, length, take, Option, Some, None, refl, sym, subst, ap, ◌∙◌, append_assoc}
-use Rattle.std.proofs.Common.{length-append, append-nil}
+use Rattle.std.proofs.Common.{length-append, Bool, true, false, Result, Ok, Err}
+use Rattle.std.specs.Prelude.{IfOk, OnOk}
 use Rattle.hprof_devices.specs.declared.health.Health.{Health}
 use Rattle.hprof_items.specs.FactValue.{FactValue}
 use Rattle.hprof_stream.specs.declared.limits.Limits.{Limits}
@@ -17,7 +18,9 @@ use Rattle.hprof_objects.specs.Log.{Keeps}
 use Rattle.hprof_objects.specs.ObjectRows.{object_row}
 use Rattle.hprof_objects.specs.PartsRead.{PartRead, with_fact}
 use Rattle.hprof_objects.specs.Stretches.{IsGrowingStretch, IsPiece, IsPlaceIn, StandAt, StandsIn}
-use Rattle.hprof_objects.proofs.Logged.{keeps_growing, keeps_staying}
+use Rattle.hprof_objects.specs.declared.row_store.RowStore.{RowStore}
+use Rattle.hprof_objects.specs.Store.{Pushes, rows_of_store, runs_of_store}
+use Rattle.hprof_objects.proofs.Logged.{keeps_extended, keeps_forgotten, keeps_growing, keeps_pushed, keeps_spilled, keeps_staying}
 use Rattle.hprof_objects.proofs.Stretches.{all_below, place_with_fact, stands_alone, stands_longer, stands_with_fact}
 
 -- a front that is taken
@@ -94,3 +97,61 @@ pub keeps_same : {S : Type 0} (written : S → Option (List ℕ)) (health : S �
     → Keeps written health limits parts part other after next more growing
 keeps_same written health limits parts part number other memory after scratch next stays more growing a b c d it =
     rw (a, b, c, d) it
+
+-- no stretch grows
+pub ungrown : {S : Type 0} (written : S → Option (List ℕ)) (health : S → Health) (limits : Limits) (parts : List PartRead) (part : PartRead)
+    (number : ℕ) (memory : List ByteRow) (scratch : Runs S) (stays : List Stretch) (growing : Option Growing) → growing ≡ None
+    → Keeps written health limits parts part number memory scratch stays growing
+    → Keeps written health limits parts part number memory scratch stays None
+ungrown written health limits parts part number memory scratch stays growing none it =
+    subst (λ (g : Option Growing). Keeps written health limits parts part number memory scratch stays g) none it
+
+-- a row was pushed
+pub pushed_keeps : {S : Type 0} (written : S → Option (List ℕ)) (health : S → Health) (limits : Limits) (parts : List PartRead)
+    (part : PartRead) (number : ℕ) (stays : List Stretch) (fact : FactValue) (row : ByteRow) (old new : RowStore S) (spilled : Bool)
+    → object_row part.ids fact ≡ Some row → Pushes written health spilled old row new
+    → Keeps written health limits parts part number (rows_of_store old) (runs_of_store old) stays None
+    → Keeps written health limits parts (with_fact part fact) number (rows_of_store new) (runs_of_store new) stays None
+pushed_keeps written health limits parts part number stays fact row old new false object pushed it =
+    keeps_pushed written health limits parts part number fact row (rows_of_store old) (rows_of_store new) (runs_of_store old)
+    (runs_of_store new) stays object pushed.0 pushed.1 it
+pushed_keeps written health limits parts part number stays fact row old new true object pushed it =
+    keeps_spilled written health limits parts part number fact row (rows_of_store old) (rows_of_store new) (runs_of_store old)
+    (runs_of_store new) stays object pushed.0 pushed.1 it
+
+-- what holds of each answer holds where there is one
+pub where_ok : {A E P : Type 0} {F : A → Type 0} (result : Result A E) → IfOk result F → ((answer : A) → F answer → P) → OnOk result P
+where_ok (Ok answer) holds then = then answer holds
+where_ok (Err fault) holds then = tt
+
+-- the rows of a growing stretch, and what is kept where it is forgotten
+pub record WasGrowing {S : Type 0} (written : S → Option (List ℕ)) (health : S → Health) (limits : Limits) (parts : List PartRead)
+    (part : PartRead) (number : ℕ) (memory : List ByteRow) (scratch : Runs S) (stays : List Stretch) (growing : Growing) : Type 0 where
+  pub rows : List ByteRow
+  pub grows : IsGrowingStretch limits number part growing memory rows
+  pub keeps : Keeps written health limits parts part number memory scratch stays None
+
+pub was_growing : {S : Type 0} (written : S → Option (List ℕ)) (health : S → Health) (limits : Limits) (parts : List PartRead)
+    (part : PartRead) (number : ℕ) (memory : List ByteRow) (scratch : Runs S) (stays : List Stretch) (known : Option Growing) (growing : Growing)
+    (from : ℕ) → known ≡ Some growing → growing.stands ≡ InMemory from
+    → Keeps written health limits parts part number memory scratch stays known
+    → WasGrowing written health limits parts part number memory scratch stays growing
+was_growing written health limits parts part number memory scratch stays known growing from is stands it =
+    let kept = subst (λ (g : Option Growing). Keeps written health limits parts part number memory scratch stays g) is it in
+    record {
+      rows = kept.grown;
+      grows = kept.grows;
+      keeps = keeps_forgotten written health limits parts part number memory scratch stays growing from stands kept;
+    }
+
+-- a stretch that stays in its part has one object more
+pub grows_in_part : {S : Type 0} (written : S → Option (List ℕ)) (health : S → Health) (limits : Limits) (parts : List PartRead)
+    (part : PartRead) (number : ℕ) (memory : List ByteRow) (scratch : Runs S) (stays : List Stretch) (known : Option Growing)
+    (growing next : Growing) (fact : FactValue) (id len : ℕ) (bytes : List ℕ) → known ≡ Some growing → growing.stands ≡ InPart
+    → growing.last < id → object_row part.ids fact ≡ Some (id, bytes) → next ≡ extended growing id len
+    → Keeps written health limits parts part number memory scratch stays known
+    → Keeps written health limits parts (with_fact part fact) number memory scratch stays (Some next)
+grows_in_part written health limits parts part number memory scratch stays known growing next fact id len bytes is stands above object same it =
+    subst (λ (g : Growing). Keeps written health limits parts (with_fact part fact) number memory scratch stays (Some g)) (sym same)
+    (keeps_extended written health limits parts part number fact (id, bytes) memory scratch stays growing len object above stands
+    (subst (λ (g : Option Growing). Keeps written health limits parts part number memory scratch stays g) is it))

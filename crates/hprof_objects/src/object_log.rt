@@ -1,6 +1,6 @@
 //! The log of the objects of parts, as they are read.
 
-ghost use Rattle.std.specs.Prelude.{ℕ, ◌≡◌, ◌<◌, ◌^◌, ◌∷◌, ◌++◌, [], List, length, vec_len, vec_capacity, true, Some, None, IfOk, OnOk, IsSome};
+ghost use Rattle.std.specs.Prelude.{ℕ, ◌≡◌, ◌<◌, ◌-◌, ◌^◌, ◌∷◌, ◌++◌, [], List, length, vec_len, vec_capacity, true, Some, None, IfOk, OnOk, IsSome};
 ghost use Rattle.hprof_devices.specs.declared.health.Health.TheVariants.{Well};
 ghost use Rattle.hprof_items.specs.FactValue.{FactValue};
 ghost use Rattle.hprof_runs.specs.ReadBack.{HoldsNothing};
@@ -80,7 +80,7 @@ fn with_one_more(piece: Option<Piece>) -> Option<Piece>
 
 impl<S: Scratch + Drop> ObjectLog<S> {
     ghost use Rattle.hprof_objects.specs.Log.{HasLogged, HoldsParts, IsPlaceNow, KeepsLogged, KeepsUngrown, scratch_of_log};
-    ghost use Rattle.hprof_objects.specs.Store.{rows_of_store};
+    ghost use Rattle.hprof_objects.specs.Store.{StandsLast, rows_of_store};
     ghost use Rattle.hprof_objects.specs.Stretches.{IsGrowingStretch, IsPieceOf};
     ghost use Rattle.hprof_objects.specs.declared.growing.Stands.TheVariants.{InMemory};
     ghost use Rattle.hprof_merge.specs.Rows.{ByteRow};
@@ -210,5 +210,116 @@ impl<S: Scratch + Drop> ObjectLog<S> {
             let growing = Growing::first(self.part, piece, id, len, from);
             self.settle(growing, from);
         }
+    }
+
+    /// Adds the row of an object, and returns whether the rows before it went to scratch.
+    fn push(&mut self, id: u64, spelled: &[u8]) -> Result<bool, ScratchFault>
+        requires short { length spelled.now < 2 ^ 32 }
+        requires well { S.health (scratch_of_log self.old) ≡ Well }
+        requires none { self.old.growing ≡ None }
+        ensures log { OnOk result ((limits : Limits) (parts : List PartRead) (part : PartRead) (fact : FactValue)
+            → KeepsUngrown S.written S.health limits parts part self.old → object_row part.ids fact ≡ Some (id, spelled.now)
+            → KeepsUngrown S.written S.health limits parts (with_fact part fact) self.new) }
+        ensures row { IfOk result (λ spilled. StandsLast spilled (rows_of_store self.old.store) (id, spelled.now) (rows_of_store self.new.store)) }
+        ensures none { self.new.growing ≡ None }
+        ensures piece { self.new.piece ≡ self.old.piece }
+        ensures part { self.new.part ≡ self.old.part }
+        ensures health { LeavesScratch result (S.health (scratch_of_log self.new)) }
+    {
+        self.store.push(id, spelled)
+    }
+
+    /// Takes an object that does not belong to the growing stretch.
+    fn start(&mut self, id: u64, spelled: &[u8]) -> Result<(), ScratchFault>
+        requires short { length spelled.now < 2 ^ 32 }
+        requires well { S.health (scratch_of_log self.old) ≡ Well }
+        ensures log { OnOk result ((limits : Limits) (parts : List PartRead) (part : PartRead) (fact : FactValue)
+            → HasLogged S.written S.health limits parts part self.old → object_row part.ids fact ≡ Some (id, spelled.now)
+            → KeepsLogged S.written S.health limits parts (with_fact part fact) self.new) }
+        ensures piece { self.new.piece ≡ self.old.piece }
+        ensures health { LeavesScratch result (S.health (scratch_of_log self.new)) }
+    {
+        self.close();
+        let before = self.store.len();
+        match self.push(id, spelled) {
+            Ok(true) => self.begin_stretch(id, spelled.len(), 0),
+            Ok(false) => self.begin_stretch(id, spelled.len(), before),
+            Err(fault) => return Err(fault),
+        }
+        Ok(())
+    }
+
+    /// Takes an object behind those of the growing stretch, which are the last rows in memory, from this one on.
+    fn extend(
+        &mut self,
+        growing: Growing,
+        from: usize,
+        id: u64,
+        spelled: &[u8],
+    ) -> Result<(), ScratchFault>
+        requires short { length spelled.now < 2 ^ 32 }
+        requires well { S.health (scratch_of_log self.old) ≡ Well }
+        requires growing { self.old.growing ≡ Some growing }
+        requires from { growing.stands ≡ InMemory from }
+        requires above { growing.last < id }
+        requires count { growing.stretch.count < 2 ^ 64 - 1 }
+        ensures log { OnOk result ((limits : Limits) (parts : List PartRead) (part : PartRead) (fact : FactValue)
+            → HasLogged S.written S.health limits parts part self.old → object_row part.ids fact ≡ Some (id, spelled.now)
+            → KeepsLogged S.written S.health limits parts (with_fact part fact) self.new) }
+        ensures piece { self.new.piece ≡ self.old.piece }
+        ensures health { LeavesScratch result (S.health (scratch_of_log self.new)) }
+    {
+        self.growing = None;
+        match self.push(id, spelled) {
+            Ok(true) => self.begin_stretch(id, spelled.len(), 0),
+            Ok(false) => self.settle(growing.with(id, spelled.len()), from),
+            Err(fault) => return Err(fault),
+        }
+        Ok(())
+    }
+
+    /// Takes an object, with the bytes of its sub-record, and does not go on in the piece.
+    fn take_row(&mut self, id: u64, spelled: &[u8]) -> Result<(), ScratchFault>
+        requires short { length spelled.now < 2 ^ 32 }
+        requires well { S.health (scratch_of_log self.old) ≡ Well }
+        ensures log { OnOk result ((limits : Limits) (parts : List PartRead) (part : PartRead) (fact : FactValue)
+            → HasLogged S.written S.health limits parts part self.old → object_row part.ids fact ≡ Some (id, spelled.now)
+            → KeepsLogged S.written S.health limits parts (with_fact part fact) self.new) }
+        ensures piece { self.new.piece ≡ self.old.piece }
+        ensures health { LeavesScratch result (S.health (scratch_of_log self.new)) }
+    {
+        match self.growing {
+            Some(growing) if growing.last < id && growing.stretch.count < u64::MAX => {
+                match growing.stands {
+                    Stands::InPart => {
+                        self.growing = Some(growing.with(id, spelled.len()));
+                        Ok(())
+                    }
+                    Stands::InMemory(from) => self.extend(growing, from, id, spelled),
+                }
+            }
+            _ => self.start(id, spelled),
+        }
+    }
+
+    /// Takes an object, with the bytes of its sub-record.
+    ///
+    /// # Errors
+    ///
+    /// - `OutOfMemory`: memory ran out, also after the objects in memory had gone to scratch.
+    /// - `Full`, `Write`: the scratch took no more.
+    ///
+    /// The log is not used again then.
+    pub fn take(&mut self, id: u64, spelled: &[u8]) -> Result<(), ScratchFault>
+        requires short { length spelled.now < 2 ^ 32 }
+        requires well { S.health (scratch_of_log self.old) ≡ Well }
+        ensures log { OnOk result ((limits : Limits) (parts : List PartRead) (part : PartRead) (fact : FactValue)
+            → HasLogged S.written S.health limits parts part self.old → object_row part.ids fact ≡ Some (id, spelled.now)
+            → HasLogged S.written S.health limits parts (with_fact part fact) self.new) }
+        ensures health { LeavesScratch result (S.health (scratch_of_log self.new)) }
+    {
+        let outcome = self.take_row(id, spelled);
+        self.piece = with_one_more(self.piece);
+        outcome
     }
 }
