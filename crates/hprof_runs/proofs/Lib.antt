@@ -4,3 +4,4 @@ pub mod Sending
 pub mod Spelled
 pub mod PickedCursors
 pub mod Added
+pub mod Bringing

@@ -11,3 +11,5 @@ pub mod ScratchFault
 pub mod ScratchWriter
 pub mod RunOf
 pub mod Runs
+pub mod RunBytes
+pub mod RunOpened
