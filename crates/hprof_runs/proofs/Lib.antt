@@ -5,3 +5,5 @@ pub mod Spelled
 pub mod PickedCursors
 pub mod Added
 pub mod Bringing
+pub mod Reading
+pub mod Going

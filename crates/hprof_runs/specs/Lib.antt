@@ -11,5 +11,8 @@ pub mod ScratchFault
 pub mod ScratchWriter
 pub mod RunOf
 pub mod Runs
+pub mod RunFault
 pub mod RunBytes
 pub mod RunOpened
+pub mod Header
+pub mod RunCursor

@@ -1,8 +1,8 @@
 -- The bytes of a run that are still to come.
-use Rattle.std.specs.Prelude.{◌≡◌, ◌+◌, ◌-◌, ◌≤◌, ◌<◌, ◌++◌, ℕ, List, length, take, drop, Option, Some, ⊤}
+use Rattle.std.specs.Prelude.{◌≡◌, ◌+◌, ◌-◌, ◌≤◌, ◌<◌, ◌++◌, ℕ, List, length, take, drop, Option, Some}
 use Rattle.hprof_runs.specs.declared.run_bytes.RunBytes.{RunBytes}
 use Rattle.hprof_runs.specs.declared.run_fault.RunFault.{RunFault}
-use Rattle.hprof_runs.specs.declared.run_fault.RunFault.TheVariants.{OutOfMemory, Read, Damaged}
+use Rattle.hprof_runs.specs.RunFault.{IfDamaged}
 
 -- those that were read already
 abbrev pub held_bytes : {S : Type 0} → RunBytes S → List ℕ
@@ -24,8 +24,6 @@ module _ {S : Type 0} (written : S → Option (List ℕ)) where
   abbrev pub PassesBytes : ℕ → RunBytes S → RunBytes S → Type 0
   PassesBytes count old new = (bytes : List ℕ) → Brings old bytes → Brings new (drop count bytes)
 
-  -- a damage tells that fewer bytes are still to come, where these are told
+  -- if it is a damage, fewer bytes are still to come, where these are told
   abbrev pub LacksBytes : ℕ → RunBytes S → RunFault → Type 0
-  LacksBytes count old OutOfMemory = ⊤
-  LacksBytes count old Read = ⊤
-  LacksBytes count old Damaged = (bytes : List ℕ) → Brings old bytes → length bytes < count
+  LacksBytes count old fault = IfDamaged fault ((bytes : List ℕ) → Brings old bytes → length bytes < count)

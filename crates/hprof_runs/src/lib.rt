@@ -3,6 +3,7 @@
 #![tactic(auto)]
 
 mod firsts;
+mod header;
 pub mod laws;
 mod memory_scratch;
 mod others;
@@ -10,6 +11,7 @@ mod place;
 mod rows;
 mod run;
 mod run_bytes;
+mod run_cursor;
 mod run_fault;
 mod run_writing;
 mod runs;
@@ -22,6 +24,7 @@ pub use firsts::Firsts;
 pub use memory_scratch::MemoryScratch;
 pub use others::Others;
 pub use rows::Rows;
+pub use run_cursor::RunCursor;
 pub use run_fault::RunFault;
 pub use runs::Runs;
 pub use scratch::Scratch;

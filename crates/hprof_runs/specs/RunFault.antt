@@ -1,0 +1,10 @@
+-- What a damage tells.
+use Rattle.std.specs.Prelude.{⊤}
+use Rattle.hprof_runs.specs.declared.run_fault.RunFault.{RunFault}
+use Rattle.hprof_runs.specs.declared.run_fault.RunFault.TheVariants.{OutOfMemory, Read, Damaged}
+
+-- if it is a damage, this holds
+abbrev pub IfDamaged : RunFault → Type 0 → Type 0
+IfDamaged OutOfMemory P = ⊤
+IfDamaged Read P = ⊤
+IfDamaged Damaged P = P
