@@ -1,13 +1,22 @@
 //! Laws of the definitions. The contract of each function is a theorem; its body is empty.
 
-ghost use Rattle.std.specs.Prelude.{◌≡◌, [], ◌∷◌, List, None};
+ghost use Rattle.std.specs.Prelude.{◌≡◌, ◌++◌, [], ◌∷◌, List, None};
 ghost use Rattle.std.specs.List.Sorted.{IsPermutation};
 ghost use Rattle.hprof_merge.specs.Rows.{ByteRow, IsAscending};
+ghost use Rattle.hprof_merge.specs.Showing.{Shows};
 ghost use Rattle.hprof_merge.specs.TwoContents.{HasEnoughOf};
 ghost use Rattle.hprof_merge.specs.Union.{HaveSameRows};
+ghost use Rattle.hprof_runs.specs.declared.firsts.Firsts.{Firsts};
+ghost use Rattle.hprof_runs.specs.declared.others.Others.{Others};
+ghost use Rattle.hprof_runs.specs.declared.run_cursor.RunCursor.{RunCursor};
 ghost use Rattle.hprof_runs.specs.declared.sorted_rows.SortedRows.{SortedRows};
 ghost use Rattle.hprof_runs.specs.Picked.{IsSortedByKey, firsts_of, others_of};
+ghost use Rattle.hprof_runs.specs.Picking.{FirstsGo, OthersGo, firsts_shown, firsts_to_come, others_shown, others_to_come};
 ghost use Rattle.hprof_runs.specs.RowsIn.{sorted_in};
+ghost use Rattle.hprof_runs.specs.RunCursor.{ComesTo, GoesOn, run_shown};
+ghost use Rattle.hprof_runs.specs.RunOf.{run_lists};
+
+use crate::scratch::Scratch;
 
 /// The keys of sorted rows do not fall.
 pub fn sorted_keys_do_not_fall()
@@ -25,7 +34,31 @@ pub fn firsts_and_others_ascend()
     ensures others { (rows : List ByteRow) → IsAscending (others_of rows) }
 {}
 
-/// Of rows sorted by key, the first rows and the others are enough: they have the same union, and the same least key with two contents.
+/// Of rows sorted by key, the first rows and the others are enough: they have the same union, and the same least key with two contents. So
+/// are the runs that they are written as.
 pub fn firsts_and_others_are_enough()
-    ensures { (rows : List ByteRow) → IsSortedByKey rows → HasEnoughOf (rows ∷ []) (firsts_of rows ∷ others_of rows ∷ []) }
+    ensures both { (rows : List ByteRow) → IsSortedByKey rows → HasEnoughOf (rows ∷ []) (firsts_of rows ∷ others_of rows ∷ []) }
+    ensures runs { (rows : List ByteRow) → IsSortedByKey rows → HasEnoughOf (rows ∷ []) (run_lists rows) }
+{}
+
+/// Lists that are enough of the same rows, or of one group and of another, are enough.
+pub fn enough_in_groups()
+    ensures same { (lists same others : List (List ByteRow)) → HaveSameRows lists same → HasEnoughOf same others
+        → HasEnoughOf lists others }
+    ensures both { (lists others more more_others : List (List ByteRow)) → HasEnoughOf lists others → HasEnoughOf more more_others
+        → HasEnoughOf (lists ++ more) (others ++ more_others) }
+{}
+
+/// The rows that the cursors over sorted rows show, up to their end, are exactly those to come.
+pub fn cursors_show_sorted_rows()
+    ensures firsts { (old new : Firsts) (came : List ByteRow) → Shows firsts_shown FirstsGo old came new → firsts_shown new ≡ None
+        → came ≡ firsts_to_come old }
+    ensures others { (old new : Others) (came : List ByteRow) → Shows others_shown OthersGo old came new → others_shown new ≡ None
+        → came ≡ others_to_come old }
+{}
+
+/// If the scratch tells its bytes, the rows that a cursor over a run shows, up to its end, are exactly those of the run.
+pub fn run_cursors_show_runs<S: Scratch>()
+    ensures { (old new : RunCursor S) (rows came : List ByteRow) → ComesTo S.written old rows
+        → Shows run_shown (GoesOn S.written) old came new → run_shown new ≡ None → came ≡ rows }
 {}
