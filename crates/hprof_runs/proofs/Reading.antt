@@ -103,7 +103,7 @@ module _ {S : Type 0} (written : S → Option (List ℕ)) where
               let now = then (row.1 ++ run_bytes rest) (brings_row row rest brings) in
               let own : take header.len (held_bytes new) ≡ row.1 =
               ap (λ (n : ℕ). take n (held_bytes new)) size
-                  ∙ front_of (held_bytes new) _ row.1 (run_bytes rest) now.same (omega (arith, size)) in
+              ∙ front_of (held_bytes new) _ row.1 (run_bytes rest) now.same (omega (arith, size)) in
               record {
                 is = ap (λ (k : ℕ). let one : ByteRow = (k, take header.len (held_bytes new)) in one) (key_is row rest fits brings)
                     ∙ ap (λ (l : List ℕ). let one : ByteRow = (row.0, l) in one) own;

@@ -19,6 +19,8 @@ mod scratch;
 mod scratch_fault;
 mod scratch_writer;
 mod sorted_rows;
+#[cfg(test)]
+mod tests;
 
 pub use firsts::Firsts;
 pub use memory_scratch::MemoryScratch;
