@@ -1,12 +1,12 @@
 -- The bytes of a run that are still to come, as they are read and passed.
-use Rattle.std.proofs.Common.{◌≡◌, ◌+◌, ◌-◌, ◌≤◌, ◌<◌, ◌++◌, ℕ, List, [], ◌∷◌, length, take, drop, Option, Some, None}
-use Rattle.std.proofs.Common.{refl, sym, ap, subst, ◌∙◌, append_assoc, append-nil, arith}
-use Rattle.std.proofs.lemmas.List.{drop-append-le, drop-drop, drop-take, length-append, length-drop, length-take, length-take-le, take-append-le, take-take}
+use Rattle.std.proofs.Common.{◌≡◌, ◌+◌, ◌-◌, ◌≤◌, ◌++◌, ℕ, List, length, take, drop, Option}
+use Rattle.std.proofs.Common.{sym, ap, subst, ◌∙◌, append_assoc, arith}
+use Rattle.std.proofs.lemmas.List.{drop-append-le, drop-drop, drop-take, length-drop, length-take-le, take-append-le, take-take}
 use Rattle.std.proofs.Math.Seq.{take-add, take-append-add}
 use Rattle.std.specs.Borrow.{Bor}
 use Rattle.hprof_runs.specs.declared.run_bytes.RunBytes.{RunBytes}
 use Rattle.hprof_runs.specs.ReadBack.{IsReadFrom, ReadsBack}
-use Rattle.hprof_runs.specs.RunBytes.{Brings, KeepsBytes, PassesBytes, held_bytes}
+use Rattle.hprof_runs.specs.RunBytes.{KeepsBytes, PassesBytes, held_bytes}
 
 -- ---- a part of a block
 

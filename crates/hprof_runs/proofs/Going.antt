@@ -1,15 +1,15 @@
 -- A cursor over a run goes on.
-use Rattle.std.proofs.Common.{◌≡◌, ◌++◌, ◌∷◌, [], ◌<◌, ℕ, List, length, drop, Option, Some, None, inl, inr, refl, sym, ap, ◌∙◌, subst, arith}
+use Rattle.std.proofs.Common.{◌≡◌, ◌++◌, ◌∷◌, [], ◌<◌, ℕ, List, Option, Some, None, inl, inr, refl, sym, ap, ◌∙◌, subst, arith}
 use Rattle.std.specs.Option.{option_map}
 use Rattle.std.proofs.lemmas.List.{drop_at}
-use Rattle.hprof_merge.specs.Rows.{ByteRow, Has, IsAscending}
+use Rattle.hprof_merge.specs.Rows.{ByteRow, Has}
 use Rattle.hprof_runs.specs.declared.header.Header.{Header}
 use Rattle.hprof_runs.specs.declared.run_bytes.RunBytes.{RunBytes}
 use Rattle.hprof_runs.specs.declared.run_cursor.RunCursor.{RunCursor}
 use Rattle.hprof_runs.specs.declared.run_fault.RunFault.{RunFault}
 use Rattle.hprof_runs.specs.Header.{HasNoRows, IsKeyAbove, IsRowRead, ReadsRows, RowsToCome, row_read}
 use Rattle.hprof_runs.specs.RunBytes.{Brings, PassesBytes}
-use Rattle.hprof_runs.specs.RunCursor.{ComesTo, FailsRun, GoesOn, run_shown}
+use Rattle.hprof_runs.specs.RunCursor.{ComesTo, GoesOn}
 use Rattle.hprof_runs.specs.RunFault.{IfDamaged}
 use Rattle.hprof_runs.specs.Spelling.{AllFit, run_bytes}
 use Rattle.hprof_runs.proofs.Reading.{damaged_more}

@@ -8,10 +8,10 @@ use Rattle.hprof_runs.specs.declared.header.Header.{Header}
 use Rattle.hprof_runs.specs.declared.run_bytes.RunBytes.{RunBytes}
 use Rattle.hprof_runs.specs.declared.run_fault.RunFault.{RunFault}
 use Rattle.hprof_runs.specs.declared.run_fault.RunFault.TheVariants.{OutOfMemory, Read, Damaged}
-use Rattle.hprof_runs.specs.Header.{HasNoRows, IsRowRead, ReadsRows, RowsToCome}
+use Rattle.hprof_runs.specs.Header.{HasNoRows, ReadsRows}
 use Rattle.hprof_runs.specs.RunBytes.{Brings, KeepsBytes, LacksBytes, PassesBytes, held_bytes}
 use Rattle.hprof_runs.specs.RunFault.{IfDamaged}
-use Rattle.hprof_runs.specs.Spelling.{AllFit, FitsHeader, header_bytes, row_bytes, run_bytes, spelled_key, spelled_len}
+use Rattle.hprof_runs.specs.Spelling.{FitsHeader, header_bytes, run_bytes, spelled_key, spelled_len}
 use Rattle.hprof_runs.proofs.Spelled.{header-length, key_read, len_read, run-length}
 
 pub damaged_more : (fault : RunFault) (P Q : Type 0) → IfDamaged fault P → (P → Q) → IfDamaged fault Q

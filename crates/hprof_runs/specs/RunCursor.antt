@@ -1,5 +1,5 @@
 -- What a cursor over a run shows.
-use Rattle.std.specs.Prelude.{◌≡◌, ◌<◌, ℕ, List, [], ◌∷◌, Option, Some}
+use Rattle.std.specs.Prelude.{◌≡◌, ◌<◌, ℕ, List, ◌∷◌, Option, Some}
 use Rattle.std.specs.Option.{option_map}
 use Rattle.hprof_merge.specs.Rows.{ByteRow, IsAscending}
 use Rattle.hprof_runs.specs.declared.run.Run.{Run}

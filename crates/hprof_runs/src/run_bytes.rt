@@ -26,15 +26,16 @@ impl<'a, S: Scratch> RunBytes<'a, S> {
     ghost use Rattle.hprof_runs.specs.RunBytes.{Brings, KeepsBytes, LacksBytes, PassesBytes, held_bytes};
     ghost use Rattle.hprof_runs.specs.RunOpened.{BeginsRun};
 
-    /// Returns the bytes of a run. Allocates a block of 64 KiB.
+    /// Returns the bytes of a run. Allocates a block of 64 KiB, or of the length of the run if that is less.
     pub(crate) fn new(alloc: Global, scratch: &'a S, run: Run) -> Result<Self, AllocError>
         ensures { IfOk result (BeginsRun S.written scratch.now run) }
     {
+        let size = run.len.min(PIECE_BYTES as u64) as usize;
         Ok(RunBytes {
             scratch,
             at: run.at,
             left: run.len,
-            block: vec![in alloc; 0; PIECE_BYTES]?,
+            block: vec![in alloc; 0; size]?,
             start: 0,
             end: 0,
         })

@@ -12,7 +12,8 @@ use crate::scratch::Scratch;
 use hprof_merge::{AscendingCursor, RowCursor};
 use std::alloc::Global;
 
-/// A cursor over a run, which is read back in pieces of 64 KiB without trust in the scratch. It holds a block of 64 KiB, or the longest row.
+/// A cursor over a run, which is read back in pieces of 64 KiB without trust in the scratch. It holds one piece, or the longest row so far if
+/// that is longer.
 #[derive(Drop)]
 pub struct RunCursor<'a, S> {
     bytes: RunBytes<'a, S>,

@@ -1,5 +1,4 @@
-use Rattle.std.proofs.Common.{◌≡◌, ◌≤◌, [], length, ap, sym, subst, ◌∙◌, refl, true, false}
-use Rattle.hprof_runs.specs.RunBytes.{held_bytes}
+use Rattle.std.proofs.Common.{◌≡◌, ap, ◌∙◌, refl, true, false}
 use Rattle.hprof_runs.specs.Spelling.{spelled_key, spelled_len}
 use Rattle.hprof_runs.proofs.Reading.{no_header, no_row, no_rows_left, row_come}
 use Rattle.hprof_runs.proofs.header.Header.read.Goals as goal

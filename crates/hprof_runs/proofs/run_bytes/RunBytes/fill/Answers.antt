@@ -1,5 +1,4 @@
 use Rattle.std.proofs.Common.{◌+◌, ◌-◌, ◌≤◌, ◌++◌, List, ℕ, length, take, drop, refl, ap, ◌∙◌, arith}
-use borrow.Rule.Slice.PartMut.{post_of}
 use Rattle.hprof_runs.proofs.Bringing.{fill_brings, part_filled_in}
 use Rattle.hprof_runs.proofs.run_bytes.RunBytes.fill.Goals as goal
 
