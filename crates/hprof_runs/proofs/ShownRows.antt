@@ -1,5 +1,5 @@
 -- The rows that cursors show, up to their end.
-use Rattle.std.proofs.Common.{◌≡◌, ◌∷◌, [], ℕ, List, drop, Option, Some, None, refl, sym, ap, ◌∙◌, subst}
+use Rattle.std.proofs.Common.{◌≡◌, ◌++◌, ◌∷◌, [], ℕ, List, drop, Option, Some, None, refl, sym, ap, ◌∙◌, subst, append-nil}
 use Rattle.std.specs.Option.{option_map}
 use Rattle.hprof_merge.specs.Rows.{ByteRow}
 use Rattle.hprof_merge.specs.Showing.{Shows}
@@ -21,14 +21,20 @@ no_row [] is = refl
 no_row (first ∷ rows) is = absurd cc
 
 module _ {C : Type 0} (to_come : C → List ByteRow) where
+  pub shows_so_far : (came : List ByteRow) (old new : C)
+      → Shows (λ (it : C). first_of (to_come it)) (λ (one next : C). to_come next ≡ drop 1 (to_come one)) old came new
+      → to_come old ≡ came ++ to_come new
+  shows_so_far [] old new shows = ap to_come shows
+  shows_so_far (row ∷ came) old new shows =
+      let mid = shows.1.0 in
+      first_row (to_come old) row shows.0
+      ∙ ap (λ (l : List ByteRow). row ∷ l) (sym shows.1.1 ∙ shows_so_far came mid new shows.1.2)
+
   pub shows_to_come : (came : List ByteRow) (old new : C)
       → Shows (λ (it : C). first_of (to_come it)) (λ (one next : C). to_come next ≡ drop 1 (to_come one)) old came new
       → first_of (to_come new) ≡ None → came ≡ to_come old
-  shows_to_come [] old new shows ended = sym (ap to_come shows ∙ no_row (to_come new) ended)
-  shows_to_come (row ∷ came) old new shows ended =
-      let mid = shows.1.0 in
-      ap (λ (l : List ByteRow). row ∷ l) (shows_to_come came mid new shows.1.2 ended ∙ shows.1.1)
-      ∙ sym (first_row (to_come old) row shows.0)
+  shows_to_come came old new shows ended =
+      sym (shows_so_far came old new shows ∙ ap (λ (l : List ByteRow). came ++ l) (no_row (to_come new) ended) ∙ append-nil came)
 
 -- ---- cursors over runs
 
@@ -49,12 +55,25 @@ module _ {S : Type 0} (written : S → Option (List ℕ)) where
       let read : row_read header it ≡ row = cc in
       (rest, ap (λ (one : ByteRow). one ∷ rest) (sym come.is ∙ read))
 
+  pub shown_first : (shown : Option Header) (it : RunBytes S) (rows : List ByteRow) → RowsToCome written shown it rows
+      → option_map (λ (header : Header). row_read header it) shown ≡ first_of rows
+  shown_first None it [] come = refl
+  shown_first None it (row ∷ rows) come = absurd come
+  shown_first (Some header) it [] come = absurd come
+  shown_first (Some header) it (row ∷ rest) come = ap (λ (one : ByteRow). Some one) come.is
+
+  pub shows_run_so_far : (came : List ByteRow) (old new : RunCursor S) (rows : List ByteRow) → ComesTo written old rows
+      → Shows run_shown (GoesOn written) old came new → (rest : List ByteRow) × (rows ≡ came ++ rest) × ComesTo written new rest
+  shows_run_so_far [] old new rows comes shows = (rows, refl, subst (λ (it : RunCursor S). ComesTo written it rows) shows comes)
+  shows_run_so_far (row ∷ came) old new rows comes shows =
+      let first = first_come old.shown old.bytes row rows shows.0 comes.to_come in
+      let here : ComesTo written old (row ∷ first.0) = subst (ComesTo written old) first.1 comes in
+      let behind = shows_run_so_far came shows.1.0 new first.0 (shows.1.1.behind row first.0 here) shows.1.2 in
+      (behind.0, first.1 ∙ ap (λ (l : List ByteRow). row ∷ l) behind.1, behind.2)
+
   pub shows_run : (came : List ByteRow) (old new : RunCursor S) (rows : List ByteRow) → ComesTo written old rows
       → Shows run_shown (GoesOn written) old came new → run_shown new ≡ None → came ≡ rows
-  shows_run [] old new rows comes shows ended =
-      no_rows old.shown old.bytes rows (ap run_shown shows ∙ ended) comes.to_come
-  shows_run (row ∷ came) old new rows comes shows ended =
-      let first = first_come old.shown old.bytes row rows shows.0 comes.to_come in
-      let rest = first.0 in
-      let here : ComesTo written old (row ∷ rest) = subst (ComesTo written old) first.1 comes in
-      ap (λ (l : List ByteRow). row ∷ l) (shows_run came shows.1.0 new rest (shows.1.1.behind row rest here) shows.1.2 ended) ∙ sym first.1
+  shows_run came old new rows comes shows ended =
+      let behind = shows_run_so_far came old new rows comes shows in
+      let none = no_rows new.shown new.bytes behind.0 ended behind.2.to_come in
+      sym (behind.1 ∙ ap (λ (l : List ByteRow). came ++ l) (sym none) ∙ append-nil came)

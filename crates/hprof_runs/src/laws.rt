@@ -1,6 +1,6 @@
 //! Laws of the definitions. The contract of each function is a theorem; its body is empty.
 
-ghost use Rattle.std.specs.Prelude.{◌≡◌, ◌++◌, [], ◌∷◌, List, None};
+ghost use Rattle.std.specs.Prelude.{◌≡◌, ◌++◌, [], ◌∷◌, List, length, None};
 ghost use Rattle.std.specs.List.Sorted.{IsPermutation};
 ghost use Rattle.hprof_merge.specs.Rows.{ByteRow, IsAscending};
 ghost use Rattle.hprof_merge.specs.Showing.{Shows};
@@ -9,12 +9,14 @@ ghost use Rattle.hprof_merge.specs.Union.{HaveSameRows};
 ghost use Rattle.hprof_runs.specs.declared.firsts.Firsts.{Firsts};
 ghost use Rattle.hprof_runs.specs.declared.others.Others.{Others};
 ghost use Rattle.hprof_runs.specs.declared.run_cursor.RunCursor.{RunCursor};
+ghost use Rattle.hprof_runs.specs.declared.runs.Runs.{Runs};
 ghost use Rattle.hprof_runs.specs.declared.sorted_rows.SortedRows.{SortedRows};
-ghost use Rattle.hprof_runs.specs.Picked.{IsSortedByKey, firsts_of, others_of};
+ghost use Rattle.hprof_runs.specs.Picked.{IsSortedByKey, first_of, firsts_of, others_of};
 ghost use Rattle.hprof_runs.specs.Picking.{FirstsGo, OthersGo, firsts_shown, firsts_to_come, others_shown, others_to_come};
 ghost use Rattle.hprof_runs.specs.RowsIn.{sorted_in};
 ghost use Rattle.hprof_runs.specs.RunCursor.{ComesTo, GoesOn, run_shown};
 ghost use Rattle.hprof_runs.specs.RunOf.{run_lists};
+ghost use Rattle.hprof_runs.specs.Runs.{HoldsRuns, run_count};
 
 use crate::scratch::Scratch;
 
@@ -49,16 +51,29 @@ pub fn enough_in_groups()
         → HasEnoughOf (lists ++ more) (others ++ more_others) }
 {}
 
-/// The rows that the cursors over sorted rows show, up to their end, are exactly those to come.
+/// The rows that the cursors over sorted rows show, up to their end, are exactly those to come. Before their end, they are a prefix.
 pub fn cursors_show_sorted_rows()
     ensures firsts { (old new : Firsts) (came : List ByteRow) → Shows firsts_shown FirstsGo old came new → firsts_shown new ≡ None
         → came ≡ firsts_to_come old }
+    ensures firsts_so_far { (old new : Firsts) (came : List ByteRow) → Shows firsts_shown FirstsGo old came new
+        → firsts_to_come old ≡ came ++ firsts_to_come new }
     ensures others { (old new : Others) (came : List ByteRow) → Shows others_shown OthersGo old came new → others_shown new ≡ None
         → came ≡ others_to_come old }
+    ensures others_so_far { (old new : Others) (came : List ByteRow) → Shows others_shown OthersGo old came new
+        → others_to_come old ≡ came ++ others_to_come new }
 {}
 
-/// If the scratch tells its bytes, the rows that a cursor over a run shows, up to its end, are exactly those of the run.
+/// If the scratch tells its bytes, the rows that a cursor over a run shows, up to its end, are exactly those of the run. Before its end, they
+/// are a prefix, and the first of the others is shown.
 pub fn run_cursors_show_runs<S: Scratch>()
-    ensures { (old new : RunCursor S) (rows came : List ByteRow) → ComesTo S.written old rows
+    ensures all { (old new : RunCursor S) (rows came : List ByteRow) → ComesTo S.written old rows
         → Shows run_shown (GoesOn S.written) old came new → run_shown new ≡ None → came ≡ rows }
+    ensures so_far { (old new : RunCursor S) (rows came : List ByteRow) → ComesTo S.written old rows
+        → Shows run_shown (GoesOn S.written) old came new → ((rest : List ByteRow) × (rows ≡ came ++ rest) × ComesTo S.written new rest) }
+    ensures first { (it : RunCursor S) (rows : List ByteRow) → ComesTo S.written it rows → run_shown it ≡ first_of rows }
+{}
+
+/// Scratch that holds the rows of lists has a run for each list.
+pub fn one_run_for_each_list<S: Scratch>()
+    ensures { (runs : Runs S) (lists : List (List ByteRow)) → HoldsRuns S.written S.health runs lists → length lists ≡ run_count runs }
 {}
