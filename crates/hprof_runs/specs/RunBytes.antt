@@ -8,6 +8,10 @@ use Rattle.hprof_runs.specs.RunFault.{IfDamaged}
 abbrev pub held_bytes : {S : Type 0} → RunBytes S → List ℕ
 held_bytes it = take (it.end - it.start) (drop it.start it.block.items)
 
+-- the scratch that they are read from
+abbrev pub scratch_under : {S : Type 0} → RunBytes S → S
+scratch_under it = it.scratch.now
+
 module _ {S : Type 0} (written : S → Option (List ℕ)) where
   -- the scratch tells its bytes, and these of the run are still to come
   pub record Brings (it : RunBytes S) (bytes : List ℕ) : Type 0 where

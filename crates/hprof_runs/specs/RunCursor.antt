@@ -6,7 +6,8 @@ use Rattle.hprof_runs.specs.declared.run.Run.{Run}
 use Rattle.hprof_runs.specs.declared.run_cursor.RunCursor.{RunCursor}
 use Rattle.hprof_runs.specs.declared.run_fault.RunFault.{RunFault}
 use Rattle.hprof_runs.specs.Header.{RowsToCome, row_read}
-use Rattle.hprof_runs.specs.RunFault.{IfDamaged}
+use Rattle.hprof_runs.specs.RunBytes.{scratch_under}
+use Rattle.hprof_runs.specs.RunFault.{IfDamaged, IfUnread}
 use Rattle.hprof_runs.specs.RunOf.{IsRunOf}
 use Rattle.hprof_runs.specs.Spelling.{AllFit}
 
@@ -26,9 +27,10 @@ module _ {S : Type 0} (written : S → Option (List ℕ)) where
     pub above : (row next : ByteRow) → run_shown old ≡ Some row → run_shown new ≡ Some next → row.0 < next.0
     pub behind : (row : ByteRow) (rest : List ByteRow) → ComesTo old (row ∷ rest) → ComesTo new rest
 
-  -- if it is a damage, the bytes of the scratch are not told, or they are not those of rows in order
-  abbrev pub FailsRun : RunCursor S → RunFault → RunCursor S → Type 0
-  FailsRun old fault new = IfDamaged fault ((rows : List ByteRow) → ComesTo old rows → ⊥)
+  -- if it is a damage, the bytes of the scratch are not told, or they are not those of rows in order; if the scratch failed, a read may fail
+  pub record FailsRun (unreadable : S → Type 0) (old : RunCursor S) (fault : RunFault) (new : RunCursor S) : Type 0 where
+    pub damaged : IfDamaged fault ((rows : List ByteRow) → ComesTo old rows → ⊥)
+    pub unread : IfUnread fault (unreadable (scratch_under old.bytes))
 
   -- if the scratch tells its bytes, and the run spells rows, these come
   abbrev pub OpensRun : S → Run → RunCursor S → Type 0

@@ -23,12 +23,14 @@ pub(crate) struct RunBytes<'a, S> {
 }
 
 impl<'a, S: Scratch> RunBytes<'a, S> {
-    ghost use Rattle.hprof_runs.specs.RunBytes.{Brings, KeepsBytes, LacksBytes, PassesBytes, held_bytes};
+    ghost use Rattle.hprof_runs.specs.RunBytes.{Brings, KeepsBytes, LacksBytes, PassesBytes, held_bytes, scratch_under};
+    ghost use Rattle.hprof_runs.specs.RunFault.{IfUnread};
     ghost use Rattle.hprof_runs.specs.RunOpened.{BeginsRun};
 
     /// Returns the bytes of a run. Allocates a block of 64 KiB, or of the length of the run if that is less.
     pub(crate) fn new(alloc: Global, scratch: &'a S, run: Run) -> Result<Self, AllocError>
-        ensures { IfOk result (BeginsRun S.written scratch.now run) }
+        ensures begins { IfOk result (BeginsRun S.written scratch.now run) }
+        ensures scratch { IfOk result (λ bytes. scratch_under bytes ≡ scratch.now) }
     {
         let size = run.len.min(PIECE_BYTES as u64) as usize;
         Ok(RunBytes {
@@ -60,6 +62,7 @@ impl<'a, S: Scratch> RunBytes<'a, S> {
         requires { count ≤ length (held_bytes self.old) }
         ensures held { held_bytes self.new ≡ drop count (held_bytes self.old) }
         ensures bytes { PassesBytes S.written count self.old self.new }
+        ensures scratch { scratch_under self.new ≡ scratch_under self.old }
     {
         self.start += count;
     }
@@ -71,6 +74,7 @@ impl<'a, S: Scratch> RunBytes<'a, S> {
         ensures end { self.new.end ≡ self.old.end - self.old.start }
         ensures held { held_bytes self.new ≡ held_bytes self.old }
         ensures bytes { KeepsBytes S.written self.old self.new }
+        ensures scratch { scratch_under self.new ≡ scratch_under self.old }
         ensures left { self.new.left ≡ self.old.left }
     {
         self.block.copy_within(self.start..self.end, 0);
@@ -91,7 +95,9 @@ impl<'a, S: Scratch> RunBytes<'a, S> {
         ensures more { OnOk result (self.old.end < self.new.end) }
         ensures left { OnOk result (self.new.end + self.new.left ≡ self.old.end + self.old.left) }
         ensures bytes { OnOk result (KeepsBytes S.written self.old self.new) }
+        ensures scratch { scratch_under self.new ≡ scratch_under self.old }
         ensures fault { IfErr result (LacksBytes S.written 0 self.old) }
+        ensures read { IfErr result (λ fault. IfUnread fault (S.unreadable (scratch_under self.old))) }
     {
         let room = (self.block.len() - self.end) as u64;
         let wanted = room.min(self.left) as usize;
@@ -113,7 +119,9 @@ impl<'a, S: Scratch> RunBytes<'a, S> {
     pub(crate) fn hold(&mut self, count: usize) -> Result<(), RunFault>
         ensures held { OnOk result (count ≤ length (held_bytes self.new)) }
         ensures bytes { OnOk result (KeepsBytes S.written self.old self.new) }
+        ensures scratch { OnOk result (scratch_under self.new ≡ scratch_under self.old) }
         ensures fault { IfErr result (LacksBytes S.written count self.old) }
+        ensures read { IfErr result (λ fault. IfUnread fault (S.unreadable (scratch_under self.old))) }
     {
         let held = self.end - self.start;
         if count <= held {

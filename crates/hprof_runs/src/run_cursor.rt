@@ -23,11 +23,13 @@ pub struct RunCursor<'a, S> {
 
 impl<'a, S: Scratch> RunCursor<'a, S> {
     ghost use Rattle.hprof_runs.specs.RunCursor.{OpensRun, RefusesRun};
+    ghost use Rattle.hprof_runs.specs.RunFault.{IfUnread};
 
     /// Returns a cursor over a run, which shows its first row.
     pub(crate) fn open(alloc: Global, scratch: &'a S, run: Run) -> Result<Self, RunFault>
         ensures rows { IfOk result (OpensRun S.written scratch.now run) }
         ensures fault { IfErr result (RefusesRun S.written scratch.now run) }
+        ensures read { IfErr result (λ fault. IfUnread fault (S.unreadable scratch.now)) }
     {
         let Ok(mut bytes) = RunBytes::new(alloc, scratch, run) else {
             return Err(RunFault::OutOfMemory);
@@ -46,7 +48,7 @@ impl<S: Scratch> RowCursor for RunCursor<'_, S> {
 
     ghost goes = { GoesOn S.written };
 
-    ghost fails = { FailsRun S.written };
+    ghost fails = { FailsRun S.written S.unreadable };
 
     ghost well = { λ it. ⊤ };
 

@@ -145,6 +145,8 @@ impl Target for Lying {
 }
 
 impl Scratch for Lying {
+    ghost unreadable = { λ it. ⊤ };
+
     fn read_back(&self, at: u64, piece: &mut [u8]) -> Result<usize, ReadFault> {
         let count = self.kept.read_back(at, piece)?;
         if self.at >= at && self.at - at < count as u64 {
