@@ -12,7 +12,8 @@ use Rattle.hprof_runs.specs.RunBytes.{KeepsBytes, PassesBytes, held_bytes}
 
 -- behind the part, a piece was put
 pub part_filled : (block piece behind : List ℕ) (start end count : ℕ) → start ≤ end → end ≤ length block → count ≤ length piece
-    → take ((end + count) - start) (drop start (take end block ++ (piece ++ behind))) ≡ take (end - start) (drop start block) ++ take count piece
+    → take ((end + count) - start) (drop start (take end block ++ (piece ++ behind)))
+    ≡ take (end - start) (drop start block) ++ take count piece
 part_filled block piece behind start end count order within room =
     let size : length (take end block) ≡ end = length-take-le end block within in
     let whole : start + (end - start) ≡ end = omega arith in

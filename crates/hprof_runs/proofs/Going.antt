@@ -26,7 +26,8 @@ module _ {S : Type 0} (written : S → Option (List ℕ)) where
   no_end None it header is come = absurd cc
   no_end (Some other) it header is come = come
 
-  shown_key : (shown : Option Header) (it : RunBytes S) (row : ByteRow) → option_map (λ (header : Header). row_read header it) shown ≡ Some row
+  shown_key : (shown : Option Header) (it : RunBytes S) (row : ByteRow)
+      → option_map (λ (header : Header). row_read header it) shown ≡ Some row
       → (header : Header) × (shown ≡ Some header) × (header.key ≡ row.0)
   shown_key None it row is = absurd cc
   shown_key (Some header) it row is =

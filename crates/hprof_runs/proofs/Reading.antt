@@ -1,5 +1,6 @@
 -- The rows that the bytes of a run spell, as they are read.
-use Rattle.std.proofs.Common.{◌≡◌, ◌++◌, ◌∷◌, [], ◌≤◌, ◌+◌, ◌<◌, ℕ, List, length, take, drop, Option, Some, None, inl, refl, sym, ap, ◌∙◌, subst}
+use Rattle.std.proofs.Common.{◌≡◌, ◌++◌, ◌∷◌, [], ◌≤◌, ◌+◌, ◌<◌, ℕ, List, length, take, drop, Option, Some, None, inl, refl, sym}
+use Rattle.std.proofs.Common.{ap, ◌∙◌, subst}
 use Rattle.std.proofs.Common.{append_assoc, arith}
 use Rattle.std.proofs.lemmas.List.{drop_at, length-append, length-drop, length-take-le, nil_from_length, take-append-drop, take-append-le}
 use Rattle.std.proofs.Math.Seq.{take-append_seam}
@@ -20,7 +21,8 @@ damaged_more Read P Q is more = tt
 damaged_more Damaged P Q is more = more is
 
 -- two splits of a list
-front_of : (held behind front more : List ℕ) → held ++ behind ≡ front ++ more → length front ≤ length held → take (length front) held ≡ front
+front_of : (held behind front more : List ℕ) → held ++ behind ≡ front ++ more → length front ≤ length held
+    → take (length front) held ≡ front
 front_of held behind front more same le =
     sym (take-append-le (length front) held behind le) ∙ ap (take (length front)) same ∙ take-append_seam front more
 

@@ -39,7 +39,8 @@ module _ {C : Type 0} (to_come : C → List ByteRow) where
 -- ---- cursors over runs
 
 module _ {S : Type 0} (written : S → Option (List ℕ)) where
-  no_rows : (shown : Option Header) (it : RunBytes S) (rows : List ByteRow) → option_map (λ (header : Header). row_read header it) shown ≡ None
+  no_rows : (shown : Option Header) (it : RunBytes S) (rows : List ByteRow)
+      → option_map (λ (header : Header). row_read header it) shown ≡ None
       → RowsToCome written shown it rows → [] ≡ rows
   no_rows None it [] is come = refl
   no_rows None it (row ∷ rows) is come = absurd come

@@ -7,7 +7,7 @@ use Rattle.hprof_runs.specs.declared.run_cursor.RunCursor.{RunCursor}
 use Rattle.hprof_runs.specs.declared.run_fault.RunFault.{RunFault}
 use Rattle.hprof_runs.specs.Header.{RowsToCome, row_read}
 use Rattle.hprof_runs.specs.RunBytes.{scratch_under}
-use Rattle.hprof_runs.specs.RunFault.{IfDamaged, IfUnread}
+use Rattle.hprof_runs.specs.RunFault.{IfDamaged, IfReadFailed}
 use Rattle.hprof_runs.specs.RunOf.{IsRunOf}
 use Rattle.hprof_runs.specs.Spelling.{AllFit}
 
@@ -27,14 +27,15 @@ module _ {S : Type 0} (written : S → Option (List ℕ)) where
     pub above : (row next : ByteRow) → run_shown old ≡ Some row → run_shown new ≡ Some next → row.0 < next.0
     pub behind : (row : ByteRow) (rest : List ByteRow) → ComesTo old (row ∷ rest) → ComesTo new rest
 
-  -- if it is a damage, the bytes of the scratch are not told, or they are not those of rows in order; if the scratch failed, a read may fail
+  -- a damage: the bytes of the scratch are not told, or are not those of rows in order; a read that failed: reads of the scratch may fail
   pub record FailsRun (unreadable : S → Type 0) (old : RunCursor S) (fault : RunFault) (new : RunCursor S) : Type 0 where
     pub damaged : IfDamaged fault ((rows : List ByteRow) → ComesTo old rows → ⊥)
-    pub unread : IfUnread fault (unreadable (scratch_under old.bytes))
+    pub read : IfReadFailed fault (unreadable (scratch_under old.bytes))
 
   -- if the scratch tells its bytes, and the run spells rows, these come
   abbrev pub OpensRun : S → Run → RunCursor S → Type 0
   OpensRun scratch run it = (all : List ℕ) → written scratch ≡ Some all → (rows : List ByteRow) → IsRunOf all run rows → ComesTo it rows
 
   abbrev pub RefusesRun : S → Run → RunFault → Type 0
-  RefusesRun scratch run fault = IfDamaged fault ((all : List ℕ) → written scratch ≡ Some all → (rows : List ByteRow) → IsRunOf all run rows → ⊥)
+  RefusesRun scratch run fault = IfDamaged fault ((all : List ℕ) → written scratch ≡ Some all → (rows : List ByteRow)
+      → IsRunOf all run rows → ⊥)

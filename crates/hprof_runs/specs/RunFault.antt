@@ -9,8 +9,8 @@ IfDamaged OutOfMemory P = ⊤
 IfDamaged Read P = ⊤
 IfDamaged Damaged P = P
 
--- if the scratch failed, this holds
-abbrev pub IfUnread : RunFault → Type 0 → Type 0
-IfUnread OutOfMemory P = ⊤
-IfUnread Read P = P
-IfUnread Damaged P = ⊤
+-- if a read failed, this holds
+abbrev pub IfReadFailed : RunFault → Type 0 → Type 0
+IfReadFailed OutOfMemory P = ⊤
+IfReadFailed Read P = P
+IfReadFailed Damaged P = ⊤

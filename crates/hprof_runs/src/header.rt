@@ -1,6 +1,6 @@
 //! Headers of rows.
 
-ghost use Rattle.std.specs.Prelude.{◌≡◌, ◌≤◌, ◌↔◌, length, take, drop, IsTrue, IfOk, IfErr};
+ghost use Rattle.std.specs.Prelude.{◌≡◌, ◌≤◌, ◌↔◌, length, IsTrue, IfOk, IfErr};
 ghost use Rattle.std.specs.Option.{ForSome};
 ghost use Rattle.hprof_runs.specs.Spelling.{spelled_key, spelled_len};
 
@@ -41,14 +41,14 @@ fn first_header(bytes: &[u8]) -> Header
 impl Header {
     ghost use Rattle.hprof_runs.specs.Header.{HasNoRows, IsKeyAbove, ReadsRows};
     ghost use Rattle.hprof_runs.specs.RunBytes.{held_bytes, scratch_under};
-    ghost use Rattle.hprof_runs.specs.RunFault.{IfDamaged, IfUnread};
+    ghost use Rattle.hprof_runs.specs.RunFault.{IfDamaged, IfReadFailed};
 
     /// Reads the header of the next row, and its bytes behind it. Returns `None` at the end of the run.
     pub(crate) fn read<S: Scratch>(bytes: &mut RunBytes<'_, S>) -> Result<Option<Self>, RunFault>
         ensures rows { IfOk result (λ header. ReadsRows S.written bytes.old header bytes.new) }
         ensures whole { IfOk result (λ header. ForSome header (λ one. one.len ≤ length (held_bytes bytes.new))) }
         ensures fault { IfErr result (λ fault. IfDamaged fault (HasNoRows S.written bytes.old)) }
-        ensures read { IfErr result (λ fault. IfUnread fault (S.unreadable (scratch_under bytes.old))) }
+        ensures read { IfErr result (λ fault. IfReadFailed fault (S.unreadable (scratch_under bytes.old))) }
     {
         if bytes.is_empty() {
             return Ok(None);

@@ -63,8 +63,8 @@ pub fn cursors_show_sorted_rows()
         → others_to_come old ≡ came ++ others_to_come new }
 {}
 
-/// If the scratch tells its bytes, the rows that a cursor over a run shows, up to its end, are exactly those of the run. Before its end, they
-/// are a prefix, and the first of the others is shown.
+/// If the scratch tells its bytes, the rows that a cursor over a run shows, up to its end, are exactly those of the run. Before its end,
+/// they are a prefix, and the first of the others is shown.
 pub fn run_cursors_show_runs<S: Scratch>()
     ensures all { (old new : RunCursor S) (rows came : List ByteRow) → ComesTo S.written old rows
         → Shows run_shown (GoesOn S.written) old came new → run_shown new ≡ None → came ≡ rows }

@@ -35,7 +35,8 @@ fn next_other<'a>(
     mut key: u64,
     mut content: Option<Place>,
 ) -> (Option<Place>, &'a [Place])
-    ensures { others_from bytes.now result.0 result.1.now ≡ others_behind key (content_at bytes.now content) (rows_lying bytes.now places.now) }
+    ensures { others_from bytes.now result.0 result.1.now
+        ≡ others_behind key (content_at bytes.now content) (rows_lying bytes.now places.now) }
 {
     let mut rest = places;
     while let Some((place, behind)) = rest.split_first() {

@@ -1,6 +1,6 @@
 //! The bytes of a run, read back in pieces.
 
-ghost use Rattle.std.specs.Prelude.{◌≡◌, ◌+◌, ◌-◌, ◌<◌, ◌≤◌, ◌^◌, [], length, take, drop, vec_len, IfOk, OnOk, IfErr, IsTrue, ◌↔◌};
+ghost use Rattle.std.specs.Prelude.{◌≡◌, ◌+◌, ◌-◌, ◌<◌, ◌≤◌, ◌^◌, [], length, drop, vec_len, IfOk, OnOk, IfErr, IsTrue, ◌↔◌};
 
 use crate::run::Run;
 use crate::run_fault::RunFault;
@@ -23,8 +23,8 @@ pub(crate) struct RunBytes<'a, S> {
 }
 
 impl<'a, S: Scratch> RunBytes<'a, S> {
-    ghost use Rattle.hprof_runs.specs.RunBytes.{Brings, KeepsBytes, LacksBytes, PassesBytes, held_bytes, scratch_under};
-    ghost use Rattle.hprof_runs.specs.RunFault.{IfUnread};
+    ghost use Rattle.hprof_runs.specs.RunBytes.{KeepsBytes, LacksBytes, PassesBytes, held_bytes, scratch_under};
+    ghost use Rattle.hprof_runs.specs.RunFault.{IfReadFailed};
     ghost use Rattle.hprof_runs.specs.RunOpened.{BeginsRun};
 
     /// Returns the bytes of a run. Allocates a block of 64 KiB, or of the length of the run if that is less.
@@ -97,7 +97,7 @@ impl<'a, S: Scratch> RunBytes<'a, S> {
         ensures bytes { OnOk result (KeepsBytes S.written self.old self.new) }
         ensures scratch { scratch_under self.new ≡ scratch_under self.old }
         ensures fault { IfErr result (LacksBytes S.written 0 self.old) }
-        ensures read { IfErr result (λ fault. IfUnread fault (S.unreadable (scratch_under self.old))) }
+        ensures read { IfErr result (λ fault. IfReadFailed fault (S.unreadable (scratch_under self.old))) }
     {
         let room = (self.block.len() - self.end) as u64;
         let wanted = room.min(self.left) as usize;
@@ -121,7 +121,7 @@ impl<'a, S: Scratch> RunBytes<'a, S> {
         ensures bytes { OnOk result (KeepsBytes S.written self.old self.new) }
         ensures scratch { OnOk result (scratch_under self.new ≡ scratch_under self.old) }
         ensures fault { IfErr result (LacksBytes S.written count self.old) }
-        ensures read { IfErr result (λ fault. IfUnread fault (S.unreadable (scratch_under self.old))) }
+        ensures read { IfErr result (λ fault. IfReadFailed fault (S.unreadable (scratch_under self.old))) }
     {
         let held = self.end - self.start;
         if count <= held {

@@ -1,6 +1,6 @@
 //! Cursors over runs.
 
-ghost use Rattle.std.specs.Prelude.{◌≤◌, length, take, IfOk, IfErr, ⊤};
+ghost use Rattle.std.specs.Prelude.{◌≤◌, length, IfOk, IfErr, ⊤};
 ghost use Rattle.std.specs.Option.{ForSome};
 ghost use Rattle.hprof_runs.specs.RunBytes.{held_bytes};
 
@@ -12,8 +12,8 @@ use crate::scratch::Scratch;
 use hprof_merge::{AscendingCursor, RowCursor};
 use std::alloc::Global;
 
-/// A cursor over a run, which is read back in pieces of 64 KiB without trust in the scratch. It holds one piece, or the longest row so far if
-/// that is longer.
+/// A cursor over a run, which is read back in pieces of 64 KiB without trust in the scratch. It holds one piece, or the longest row so far
+/// if that is longer.
 #[derive(Drop)]
 pub struct RunCursor<'a, S> {
     bytes: RunBytes<'a, S>,
@@ -23,13 +23,13 @@ pub struct RunCursor<'a, S> {
 
 impl<'a, S: Scratch> RunCursor<'a, S> {
     ghost use Rattle.hprof_runs.specs.RunCursor.{OpensRun, RefusesRun};
-    ghost use Rattle.hprof_runs.specs.RunFault.{IfUnread};
+    ghost use Rattle.hprof_runs.specs.RunFault.{IfReadFailed};
 
     /// Returns a cursor over a run, which shows its first row.
     pub(crate) fn open(alloc: Global, scratch: &'a S, run: Run) -> Result<Self, RunFault>
         ensures rows { IfOk result (OpensRun S.written scratch.now run) }
         ensures fault { IfErr result (RefusesRun S.written scratch.now run) }
-        ensures read { IfErr result (λ fault. IfUnread fault (S.unreadable scratch.now)) }
+        ensures read { IfErr result (λ fault. IfReadFailed fault (S.unreadable scratch.now)) }
     {
         let Ok(mut bytes) = RunBytes::new(alloc, scratch, run) else {
             return Err(RunFault::OutOfMemory);

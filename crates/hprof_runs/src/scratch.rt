@@ -5,9 +5,9 @@ ghost use Rattle.hprof_runs.specs.ReadBack.{ReadsBack};
 
 use hprof_devices::{ReadFault, Target};
 
-/// A target whose bytes are read back.
+/// A target whose bytes are read back. Where `written` tells them, what is read back is what was written.
 pub trait Scratch: Target {
-    // A read may fail.
+    // A read of it may fail.
     ghost unreadable: { Self → Type 0 };
 
     /// Stores the bytes from an offset on at the front of `piece`, and returns their number. It is 0 only if no bytes are there, or if

@@ -1,5 +1,5 @@
 use Rattle.std.proofs.Common.{◌≡◌, Some, subst, false, true, sym, ◌∙◌, refl}
-use Rattle.hprof_runs.specs.RunFault.{IfUnread}
+use Rattle.hprof_runs.specs.RunFault.{IfReadFailed}
 use Rattle.hprof_runs.proofs.Going.{goes_no_further, goes_on, in_order}
 use Rattle.hprof_runs.proofs.run_cursor.RunCursorRowCursor.advance.Goals as goal
 
@@ -10,7 +10,7 @@ returns-in-Err-clause-fails g c =
     record {
       damaged = goes_no_further g.S.Target.written old c.in-Some.header shown c.pass.new.self c.pass.ensures.bytes c.in-Err.fault
           c.in-Err.ensures.fault;
-      unread = subst (λ scratch. IfUnread c.in-Err.fault (g.S.Scratch.unreadable scratch)) c.pass.ensures.scratch c.in-Err.ensures.read;
+      read = subst (λ scratch. IfReadFailed c.in-Err.fault (g.S.Scratch.unreadable scratch)) c.pass.ensures.scratch c.in-Err.ensures.read;
     }
 
 pub returns-then-not-is_below-clause-fails : goal.returns-then-not-is_below-clause-fails
@@ -20,7 +20,7 @@ returns-then-not-is_below-clause-fails g c =
     record {
       damaged = in_order g.S.Target.written old c.in-Some.header shown c.pass.new.self c.pass.ensures.bytes c.in-Ok.next
           c.read.new.bytes c.in-Ok.ensures.rows (λ up. let t : false ≡ true = c.if-not-is_below.ensures.1 up in cc);
-      unread = tt;
+      read = tt;
     }
 
 pub returns-clause-goes : goal.returns-clause-goes
