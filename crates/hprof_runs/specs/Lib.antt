@@ -16,3 +16,4 @@ pub mod RunBytes
 pub mod RunOpened
 pub mod Header
 pub mod RunCursor
+pub mod AnyRows

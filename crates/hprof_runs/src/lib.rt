@@ -6,6 +6,7 @@ mod firsts;
 mod header;
 pub mod laws;
 mod memory_scratch;
+mod opening;
 mod others;
 mod place;
 mod rows;
@@ -24,6 +25,7 @@ mod tests;
 
 pub use firsts::Firsts;
 pub use memory_scratch::MemoryScratch;
+pub use opening::{AnyRows, open_all};
 pub use others::Others;
 pub use rows::Rows;
 pub use run_cursor::RunCursor;
