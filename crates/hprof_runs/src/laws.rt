@@ -1,16 +1,17 @@
 //! Laws of the definitions. The contract of each function is a theorem; its body is empty.
 
-ghost use Rattle.std.specs.Prelude.{◌≡◌, ◌++◌, [], ◌∷◌, List, length, None};
+ghost use Rattle.std.specs.Prelude.{◌≡◌, ◌++◌, [], ◌∷◌, ℕ, List, length, None};
 ghost use Rattle.std.specs.List.Sorted.{IsPermutation};
 ghost use Rattle.hprof_merge.specs.Rows.{ByteRow, IsAscending};
-ghost use Rattle.hprof_merge.specs.Showing.{Shows};
-ghost use Rattle.hprof_merge.specs.TwoContents.{HasEnoughOf};
-ghost use Rattle.hprof_merge.specs.Union.{HaveSameRows};
+ghost use Rattle.hprof_merge.specs.Showing.{AllShow, Shows, all_shown};
+ghost use Rattle.hprof_merge.specs.TwoContents.{HasEnoughOf, IsLeastWithTwoContents};
+ghost use Rattle.hprof_merge.specs.Union.{AllFrom, AnyHas, HaveSameRows};
 ghost use Rattle.hprof_runs.specs.declared.firsts.Firsts.{Firsts};
 ghost use Rattle.hprof_runs.specs.declared.others.Others.{Others};
 ghost use Rattle.hprof_runs.specs.declared.run_cursor.RunCursor.{RunCursor};
 ghost use Rattle.hprof_runs.specs.declared.runs.Runs.{Runs};
 ghost use Rattle.hprof_runs.specs.declared.sorted_rows.SortedRows.{SortedRows};
+ghost use Rattle.hprof_runs.specs.AnyRows.{AllComeTo, AnyGoes, AnyRows, any_shown};
 ghost use Rattle.hprof_runs.specs.Picked.{IsSortedByKey, first_of, firsts_of, others_of};
 ghost use Rattle.hprof_runs.specs.Picking.{FirstsGo, OthersGo, firsts_shown, firsts_to_come, others_shown, others_to_come};
 ghost use Rattle.hprof_runs.specs.RowsIn.{sorted_in};
@@ -76,4 +77,15 @@ pub fn run_cursors_show_runs<S: Scratch>()
 /// Scratch that holds the rows of lists has a run for each list.
 pub fn one_run_for_each_list<S: Scratch>()
     ensures { (runs : Runs S) (lists : List (List ByteRow)) → HoldsRuns S.written S.health runs lists → length lists ≡ run_count runs }
+{}
+
+/// Cursors over rows in memory and over runs show, up to their ends, exactly the rows of their lists. If a merge of them stops at the least
+/// key with two contents, it is the least of these lists.
+pub fn merged_rows_are_all<S: Scratch>()
+    ensures all { (old new : List (AnyRows S)) (lists came : List (List ByteRow)) → AllComeTo S.written old lists
+        → AllShow any_shown (AnyGoes S.written) old new came → ((row : ByteRow) → AnyHas (all_shown any_shown new) row → ⊥)
+        → came ≡ lists }
+    ensures least { (old new : List (AnyRows S)) (lists came : List (List ByteRow)) (key : ℕ) → AllComeTo S.written old lists
+        → AllShow any_shown (AnyGoes S.written) old new came → AllFrom key (all_shown any_shown new)
+        → IsLeastWithTwoContents (came ++ all_shown any_shown new) key → IsLeastWithTwoContents lists key }
 {}

@@ -1,0 +1,8 @@
+use Rattle.hprof_runs.proofs.AllRows.{all_come, least_come}
+use Rattle.hprof_runs.proofs.laws.merged_rows_are_all.Goals as goal
+
+pub returns-clause-all : goal.returns-clause-all
+returns-clause-all g c = all_come g.S.Target.written
+
+pub returns-clause-least : goal.returns-clause-least
+returns-clause-least g c = least_come g.S.Target.written
