@@ -7,6 +7,5 @@ pub mod Added
 pub mod Bringing
 pub mod Reading
 pub mod Going
-pub mod ShownRows
 pub mod Groups
 pub mod AllRows

@@ -3,6 +3,7 @@ pub mod RowsIn
 pub mod Picked
 pub mod Other
 pub mod Picking
+pub mod PickedAscend
 pub mod PickedRise
 pub mod ReadBack
 pub mod MemoryScratch
@@ -16,4 +17,5 @@ pub mod RunBytes
 pub mod RunOpened
 pub mod Header
 pub mod RunCursor
+pub mod Known
 pub mod AnyRows

@@ -11,7 +11,7 @@ ghost use Rattle.hprof_runs.specs.declared.others.Others.{Others};
 ghost use Rattle.hprof_runs.specs.declared.run_cursor.RunCursor.{RunCursor};
 ghost use Rattle.hprof_runs.specs.declared.runs.Runs.{Runs};
 ghost use Rattle.hprof_runs.specs.declared.sorted_rows.SortedRows.{SortedRows};
-ghost use Rattle.hprof_runs.specs.AnyRows.{AllComeTo, AnyGoes, AnyRows, any_shown};
+ghost use Rattle.hprof_runs.specs.Known.{AllComeTo};
 ghost use Rattle.hprof_runs.specs.Picked.{IsSortedByKey, first_of, firsts_of, others_of};
 ghost use Rattle.hprof_runs.specs.Picking.{FirstsGo, OthersGo, firsts_shown, firsts_to_come, others_shown, others_to_come};
 ghost use Rattle.hprof_runs.specs.RowsIn.{sorted_in};
@@ -19,6 +19,7 @@ ghost use Rattle.hprof_runs.specs.RunCursor.{ComesTo, GoesOn, run_shown};
 ghost use Rattle.hprof_runs.specs.RunOf.{run_lists};
 ghost use Rattle.hprof_runs.specs.Runs.{HoldsRuns, run_count};
 
+use crate::known_cursor::KnownCursor;
 use crate::scratch::Scratch;
 
 /// The keys of sorted rows do not fall.
@@ -52,26 +53,28 @@ pub fn enough_in_groups()
         → HasEnoughOf (lists ++ more) (others ++ more_others) }
 {}
 
-/// The rows that the cursors over sorted rows show, up to their end, are exactly those to come. Before their end, they are a prefix.
+/// The rows that a cursor shows, up to its end, are exactly those to which it comes. Before its end, they are a prefix, and the first of
+/// the others is shown.
+pub fn known_cursors_show_rows<C: KnownCursor>()
+    ensures all { (old new : C) (rows came : List ByteRow) → C.comes_to old rows → Shows C.shown C.goes old came new
+        → C.shown new ≡ None → came ≡ rows }
+    ensures so_far { (old new : C) (rows came : List ByteRow) → C.comes_to old rows → Shows C.shown C.goes old came new
+        → ((rest : List ByteRow) × (rows ≡ came ++ rest) × C.comes_to new rest) }
+    ensures first { (it : C) (rows : List ByteRow) → C.comes_to it rows → C.shown it ≡ first_of rows }
+{}
+
+/// The rows that the cursors over sorted rows show, up to their end, are exactly the first rows, and the others.
 pub fn cursors_show_sorted_rows()
     ensures firsts { (old new : Firsts) (came : List ByteRow) → Shows firsts_shown FirstsGo old came new → firsts_shown new ≡ None
         → came ≡ firsts_to_come old }
-    ensures firsts_so_far { (old new : Firsts) (came : List ByteRow) → Shows firsts_shown FirstsGo old came new
-        → firsts_to_come old ≡ came ++ firsts_to_come new }
     ensures others { (old new : Others) (came : List ByteRow) → Shows others_shown OthersGo old came new → others_shown new ≡ None
         → came ≡ others_to_come old }
-    ensures others_so_far { (old new : Others) (came : List ByteRow) → Shows others_shown OthersGo old came new
-        → others_to_come old ≡ came ++ others_to_come new }
 {}
 
-/// If the scratch tells its bytes, the rows that a cursor over a run shows, up to its end, are exactly those of the run. Before its end,
-/// they are a prefix, and the first of the others is shown.
+/// If the scratch tells its bytes, the rows that a cursor over a run shows, up to its end, are exactly those of the run.
 pub fn run_cursors_show_runs<S: Scratch>()
-    ensures all { (old new : RunCursor S) (rows came : List ByteRow) → ComesTo S.written old rows
+    ensures { (old new : RunCursor S) (rows came : List ByteRow) → ComesTo S.written old rows
         → Shows run_shown (GoesOn S.written) old came new → run_shown new ≡ None → came ≡ rows }
-    ensures so_far { (old new : RunCursor S) (rows came : List ByteRow) → ComesTo S.written old rows
-        → Shows run_shown (GoesOn S.written) old came new → ((rest : List ByteRow) × (rows ≡ came ++ rest) × ComesTo S.written new rest) }
-    ensures first { (it : RunCursor S) (rows : List ByteRow) → ComesTo S.written it rows → run_shown it ≡ first_of rows }
 {}
 
 /// Scratch that holds the rows of lists has a run for each list.
@@ -79,13 +82,12 @@ pub fn one_run_for_each_list<S: Scratch>()
     ensures { (runs : Runs S) (lists : List (List ByteRow)) → HoldsRuns S.written S.health runs lists → length lists ≡ run_count runs }
 {}
 
-/// Cursors over rows in memory and over runs show, up to their ends, exactly the rows of their lists. If a merge of them stops at the least
-/// key with two contents, it is the least of these lists.
-pub fn merged_rows_are_all<S: Scratch>()
-    ensures all { (old new : List (AnyRows S)) (lists came : List (List ByteRow)) → AllComeTo S.written old lists
-        → AllShow any_shown (AnyGoes S.written) old new came → ((row : ByteRow) → AnyHas (all_shown any_shown new) row → ⊥)
-        → came ≡ lists }
-    ensures least { (old new : List (AnyRows S)) (lists came : List (List ByteRow)) (key : ℕ) → AllComeTo S.written old lists
-        → AllShow any_shown (AnyGoes S.written) old new came → AllFrom key (all_shown any_shown new)
-        → IsLeastWithTwoContents (came ++ all_shown any_shown new) key → IsLeastWithTwoContents lists key }
+/// Cursors that come to the rows of lists show, up to their ends, exactly these rows. If a merge of them stops at the least key with two
+/// contents, it is the least of these lists.
+pub fn merged_rows_are_all<C: KnownCursor>()
+    ensures all { (old new : List C) (lists came : List (List ByteRow)) → AllComeTo C.comes_to old lists
+        → AllShow C.shown C.goes old new came → ((row : ByteRow) → AnyHas (all_shown C.shown new) row → ⊥) → came ≡ lists }
+    ensures least { (old new : List C) (lists came : List (List ByteRow)) (key : ℕ) → AllComeTo C.comes_to old lists
+        → AllShow C.shown C.goes old new came → AllFrom key (all_shown C.shown new)
+        → IsLeastWithTwoContents (came ++ all_shown C.shown new) key → IsLeastWithTwoContents lists key }
 {}

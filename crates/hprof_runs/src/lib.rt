@@ -4,6 +4,7 @@
 
 mod firsts;
 mod header;
+mod known_cursor;
 pub mod laws;
 mod memory_scratch;
 mod opening;
@@ -24,6 +25,7 @@ mod sorted_rows;
 mod tests;
 
 pub use firsts::Firsts;
+pub use known_cursor::KnownCursor;
 pub use memory_scratch::MemoryScratch;
 pub use opening::{AnyRows, open_all};
 pub use others::Others;

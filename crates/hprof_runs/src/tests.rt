@@ -2,11 +2,9 @@
 
 ghost use Rattle.std.specs.Prelude.{◌≡◌, ◌++◌, ◌∷◌, [], None, ⊤};
 
-use crate::firsts::Firsts;
 use crate::memory_scratch::MemoryScratch;
-use crate::others::Others;
+use crate::opening::open_all;
 use crate::rows::Rows;
-use crate::run_cursor::RunCursor;
 use crate::run_fault::RunFault;
 use crate::runs::Runs;
 use crate::scratch::Scratch;
@@ -51,8 +49,6 @@ fn sorted(alloc: Global, list: &[(u64, &[u8])]) -> Result<SortedRows, AllocError
     Ok(rows.sort())
 }
 
-type Part<'a> = OneOf<OneOf<Firsts<'a>, Others<'a>>, RunCursor<'a, MemoryScratch>>;
-
 type Stop = MergeStop<OneOf<OneOf<Infallible, Infallible>, RunFault>, AllocError>;
 
 /// The rows in memory and in runs, merged.
@@ -61,13 +57,7 @@ fn merged(
     rows: &SortedRows,
     runs: &Runs<MemoryScratch>,
 ) -> Result<(Result<(), Stop>, Collected), Fail> {
-    let mut cursors: Vec<Part<'_>> = Vec::new(alloc);
-    cursors.push(OneOf::First(OneOf::First(rows.firsts())))?;
-    cursors.push(OneOf::First(OneOf::Second(rows.others())))?;
-    for index in 0..runs.count() {
-        let cursor = runs.cursor(alloc, index)?;
-        cursors.push(OneOf::Second(cursor))?;
-    }
+    let mut cursors = open_all(alloc, rows, runs)?;
     let mut sink = Collected {
         keys: Vec::new(alloc),
         bytes: Vec::new(alloc),

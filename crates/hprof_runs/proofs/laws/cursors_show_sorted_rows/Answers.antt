@@ -1,15 +1,11 @@
-use Rattle.hprof_runs.specs.Picking.{firsts_to_come, others_to_come}
-use Rattle.hprof_runs.proofs.ShownRows.{shows_so_far, shows_to_come}
+use Rattle.std.proofs.Common.{refl}
+use Rattle.hprof_runs.specs.AnyRows.{FirstsCome, OthersCome, firsts_known, others_known}
+use Rattle.hprof_runs.specs.Picking.{FirstsGo, OthersGo, firsts_shown, firsts_to_come, others_shown, others_to_come}
+use Rattle.hprof_runs.proofs.AllRows.{known_all}
 use Rattle.hprof_runs.proofs.laws.cursors_show_sorted_rows.Goals as goal
 
 pub returns-clause-firsts : goal.returns-clause-firsts
-returns-clause-firsts c = λ old new came. shows_to_come firsts_to_come came old new
-
-pub returns-clause-firsts_so_far : goal.returns-clause-firsts_so_far
-returns-clause-firsts_so_far c = λ old new came. shows_so_far firsts_to_come came old new
+returns-clause-firsts c = λ old new came. known_all firsts_shown FirstsGo FirstsCome firsts_known came old new (firsts_to_come old) refl
 
 pub returns-clause-others : goal.returns-clause-others
-returns-clause-others c = λ old new came. shows_to_come others_to_come came old new
-
-pub returns-clause-others_so_far : goal.returns-clause-others_so_far
-returns-clause-others_so_far c = λ old new came. shows_so_far others_to_come came old new
+returns-clause-others c = λ old new came. known_all others_shown OthersGo OthersCome others_known came old new (others_to_come old) refl
