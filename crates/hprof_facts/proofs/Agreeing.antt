@@ -1,6 +1,6 @@
 -- Pulled and pushed, the same bytes come to the same result, and state the same facts.
-use Rattle.std.proofs.Common.{◌≡◌, ℕ, ◌<◌, ◌≤◌, Bool, true, false, List, [], ◌++◌, length, take, Option, Some, None, Result, Ok, Err, inl, inr, refl, sym, ap, subst}
-use Rattle.std.proofs.Common.{◌∙◌, append_assoc, append-nil, arith}
+use Rattle.std.proofs.Common.{◌≡◌, ℕ, ◌≤◌, Bool, true, false, List, [], ◌++◌, length, take, Option, Some, None, Result, Ok, Err, inl, inr, refl, sym, ap, subst}
+use Rattle.std.proofs.Common.{◌∙◌, append_assoc, append-nil}
 use Rattle.std.proofs.lemmas.Bool.{both_ways, cases_Bool}
 use Rattle.std.proofs.lemmas.List.{take_all}
 use Rattle.std.proofs.KnownBytes.{Consumes-trans}
@@ -17,13 +17,12 @@ use Rattle.hprof_stream.specs.declared.part_reader.PartReader.{PartReader}
 use Rattle.hprof_stream.specs.declared.sink.SinkFault.{SinkFault}
 use Rattle.hprof_stream.specs.declared.summary.PartSummary.{PartSummary}
 use Rattle.hprof_stream.specs.Part.{IsPart, IsSummary}
-use Rattle.hprof_stream.specs.Fault.{HasNoFault, IsFirstFault, StatesSoFar, is_settled}
+use Rattle.hprof_stream.specs.Fault.{HasNoFault, IsFirstFault, StatesSoFar}
 use Rattle.hprof_stream.specs.Reader.{Feeds, Finishes, HasRead, IsSettledFault, RanOver, ReadsPart, header_of}
-use Rattle.hprof_stream.specs.Run.{Run}
 use Rattle.hprof_stream.proofs.Faults.{states_once}
 use Rattle.hprof_stream.proofs.FedRuns.{Pulled-consumes, StatesSoFar-read}
 use Rattle.hprof_stream.proofs.Parts.{states_one}
-use Rattle.hprof_facts.specs.FactReader.{Ends, EndsFrom, HasGivenFrom, IsReading, Origin, comes_to_end, is_refused, reads_are_spent, source_fails}
+use Rattle.hprof_facts.specs.FactReader.{Ends, EndsFrom, HasGivenFrom, Origin, comes_to_end, is_refused, reads_are_spent, source_fails}
 use Rattle.hprof_facts.specs.Listing as listing
 use Rattle.hprof_facts.specs.OfBytes.{IsOfBytes, IsResultOf, RunBefore, StatesBefore, is_of_bytes}
 use Rattle.hprof_facts.specs.declared.fact_reader.FactReader.{FactReader}

@@ -12,7 +12,7 @@ ghost use Rattle.hprof_stream.specs.Part.{IsPart, IsSummary};
 ghost use Rattle.hprof_stream.specs.Fault.{HasNoFault, StatesSoFar};
 ghost use Rattle.hprof_stream.specs.Reader.{ReadsPart};
 ghost use Rattle.hprof_facts.specs.declared.fact_reader.FactReader.{FactReader};
-ghost use Rattle.hprof_facts.specs.FactReader.{Ends, EndsFrom, HasGivenFrom, Origin, start_of};
+ghost use Rattle.hprof_facts.specs.FactReader.{Ends, EndsFrom, HasGivenFrom, HasGivenOrFails, HasPassed, Origin, start_of};
 ghost use Rattle.hprof_facts.specs.OfBytes.{IsOfBytes, IsResultOf, RunBefore, StatesBefore, is_of_bytes};
 
 use hprof_devices::Source;
@@ -30,6 +30,16 @@ pub fn given_facts_are_the_first<R: Source + Drop>()
         (all : List FactValue) → R.left was ≡ Some rest → HasGivenFrom R.left R.health R.pulls origin was given reader
         → StatesSoFar origin.limits.max_item (take origin.limits.max_bytes (origin.front ++ rest)) header all
         → (more : List FactValue) × (all ≡ origin.told ++ (given ++ more)) }
+{}
+
+/// If the bytes state the facts before a place, a reader that resumes there has skipped exactly these, or answers a fault that the bytes do not
+/// decide: of memory, the number of reads or the source.
+pub fn a_resumed_reader_stands_at_its_place<R: Source + Drop>()
+    ensures { (origin : Origin) (rest : List ℕ) (was : R) (passed others : List FactValue) (reader : FactReader R) (header : Option Header)
+        → R.left was ≡ Some rest → HasPassed R.left R.health R.pulls origin was (length passed) reader
+        → StatesSoFar origin.limits.max_item (take origin.limits.max_bytes (origin.front ++ rest)) header
+        ((origin.told ++ passed) ++ others)
+        → HasGivenOrFails R.left R.health R.pulls origin was passed reader }
 {}
 
 /// Bytes have one result, and state one list of facts before it.
@@ -66,14 +76,19 @@ pub fn pull_and_push_agree<R: Source + Drop, Q: Source, S: Sink>()
         → (result ≡ other) × RunBefore S.begins S.steps other old (origin.told ++ given) new }
 {}
 
-/// In a part with no fault a reader that begins at a place finds none: it gives the facts behind the place, no fault is one of the bytes, and
-/// at the end all facts were given.
+/// In a part with no fault a reader that begins at a place finds none. It has skipped the facts before the place and gives those behind it, in
+/// order; no fault is one of the bytes; and at the end all facts were given.
 pub fn no_false_alarm_behind_a_place<R: Source + Drop>()
     ensures given { (origin : Origin) (bytes rest : List ℕ) (ids : IdSize) (millis : ℕ) (facts : List FactValue) (was : R)
         (given : List FactValue) (reader : FactReader R) → HasNoFault origin.limits.max_item bytes → length bytes ≤ origin.limits.max_bytes
         → IsPart bytes ids millis facts → bytes ≡ origin.front ++ rest → R.left was ≡ Some rest
         → HasGivenFrom R.left R.health R.pulls origin was given reader
         → (more : List FactValue) × (facts ≡ origin.told ++ (given ++ more)) }
+    ensures passed { (origin : Origin) (bytes rest : List ℕ) (ids : IdSize) (millis : ℕ) (passed others : List FactValue) (was : R)
+        (reader : FactReader R) → HasNoFault origin.limits.max_item bytes → length bytes ≤ origin.limits.max_bytes
+        → IsPart bytes ids millis ((origin.told ++ passed) ++ others) → bytes ≡ origin.front ++ rest → R.left was ≡ Some rest
+        → HasPassed R.left R.health R.pulls origin was (length passed) reader
+        → HasGivenOrFails R.left R.health R.pulls origin was passed reader }
     ensures faults { (origin : Origin) (bytes rest : List ℕ) (ids : IdSize) (millis : ℕ) (facts : List FactValue) (was is : R)
         (given : List FactValue) (fault : PartFault) → HasNoFault origin.limits.max_item bytes → length bytes ≤ origin.limits.max_bytes
         → IsPart bytes ids millis facts → bytes ≡ origin.front ++ rest → R.left was ≡ Some rest
