@@ -166,7 +166,8 @@ module _ {R : Type 0} (left : R → Option (List ℕ)) (health : R → Health) (
   ends_first is result facts (comes_to_end {part = part} {before = before} {allowed = allowed} reading can last end well finishes) =
       reading_first part before allowed facts reading
   ends_first is result facts
-      (is_refused {part = part} next {before = before} {allowed = allowed} {piece = piece} {fault = fault} {facts = given} reading can last some
+      (is_refused {part = part} next {before = before} {allowed = allowed} {piece = piece} {fault = fault} {facts = given} reading can last
+      some
       well feeds) =
       let limits = origin.limits in
       let bytes : List ℕ = origin.front ++ reading.came in

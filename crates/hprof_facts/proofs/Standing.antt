@@ -80,7 +80,8 @@ module _ {R : Type 0} (left : R → Option (List ℕ)) (health : R → Health) (
         | inr other ↦ inr (over, (fault, ap last_answer is, other))
       ]
 
-  pub stands_or_fails : (reader : FactReader R) → HasPassed left health pulls origin was (length passed) reader → HasGivenOrFails left health pulls origin was passed reader
+  pub stands_or_fails : (reader : FactReader R) → HasPassed left health pulls origin was (length passed) reader
+      → HasGivenOrFails left health pulls origin was passed reader
   stands_or_fails reader has =
       let given = has.passed in
       let few = has.few in

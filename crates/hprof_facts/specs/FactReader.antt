@@ -1,5 +1,6 @@
 -- A reader of the facts of a part that is pulled: which facts it has given, and how it ends.
-use Rattle.std.specs.Prelude.{◌≡◌, ◌⊎◌, ℕ, ◌+◌, ◌≤◌, ◌<◌, Bool, true, false, List, [], ◌∷◌, ◌++◌, length, Option, Some, None, Result, Ok, Err}
+use Rattle.std.specs.Prelude.{◌≡◌, ◌⊎◌, ℕ, ◌+◌, ◌≤◌, ◌<◌, Bool, true, false, List, [], ◌∷◌, ◌++◌, length, Option, Some, None, Result, Ok}
+use Rattle.std.specs.Prelude.{Err}
 use Rattle.std.specs.Io.KnownBytes.{Consumes, IsAtEnd}
 use Rattle.hprof_values.specs.declared.ids.IdSize.{IdSize}
 use Rattle.hprof_items.specs.FactValue.{FactValue}
@@ -100,7 +101,8 @@ module _ {R : Type 0} (left : R → Option (List ℕ)) (health : R → Health) (
         → Finishes origin.limits (origin.front ++ reading.came) (origin.told ++ facts) (header_of part) result
         → EndsFrom origin was is result facts
     -- a piece came, and the part was refused with it
-    is_refused : {part : PartReader} (next : PartReader) {before : R} {allowed : ℕ} {piece : List ℕ} {fault : PartFault} {facts all : List FactValue}
+    is_refused : {part : PartReader} (next : PartReader) {before : R} {allowed : ℕ} {piece : List ℕ} {fault : PartFault} {facts all : List
+        FactValue}
         → (reading : IsReading origin was part before allowed facts) → 0 < allowed → IsPull left pulls before piece is → 0 < length piece
         → health is ≡ Well
         → Feeds listing.begins listing.steps listing.refuses listing.failed origin.limits (origin.front ++ reading.came)

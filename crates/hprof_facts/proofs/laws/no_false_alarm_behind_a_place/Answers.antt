@@ -10,14 +10,16 @@ returns-clause-given g c = λ origin bytes rest ids millis facts was given reade
     let sound_too = subst (HasNoFault origin.limits.max_item) parts sound in
     let within_too = subst (λ (b : List ℕ). length b ≤ origin.limits.max_bytes) parts within in
     let part_too = subst (λ (b : List ℕ). IsPart b ids millis facts) parts part in
-    given_of_part g.R.Source.left g.R.Source.health g.R.Source.pulls origin was rest tells ids millis facts sound_too within_too part_too given reader has
+    given_of_part g.R.Source.left g.R.Source.health g.R.Source.pulls origin was rest tells ids millis facts sound_too within_too part_too
+    given reader has
 
 pub returns-clause-passed : goal.returns-clause-passed
 returns-clause-passed g c = λ origin bytes rest ids millis passed others was reader sound within part parts tells has.
     let sound_too = subst (HasNoFault origin.limits.max_item) parts sound in
     let within_too = subst (λ (b : List ℕ). length b ≤ origin.limits.max_bytes) parts within in
     let part_too = subst (λ (b : List ℕ). IsPart b ids millis ((origin.told ++ passed) ++ others)) parts part in
-    stands_in_part g.R.Source.left g.R.Source.health g.R.Source.pulls origin was rest tells ids millis passed others reader sound_too within_too
+    stands_in_part g.R.Source.left g.R.Source.health g.R.Source.pulls origin was rest tells ids millis passed others reader sound_too
+    within_too
     part_too has
 
 pub returns-clause-faults : goal.returns-clause-faults
@@ -25,12 +27,14 @@ returns-clause-faults g c = λ origin bytes rest ids millis facts was is given f
     let sound_too = subst (HasNoFault origin.limits.max_item) parts sound in
     let within_too = subst (λ (b : List ℕ). length b ≤ origin.limits.max_bytes) parts within in
     let part_too = subst (λ (b : List ℕ). IsPart b ids millis facts) parts part in
-    never_of_bytes g.R.Source.left g.R.Source.health g.R.Source.pulls origin was rest tells ids millis facts sound_too within_too part_too is fault given ends
+    never_of_bytes g.R.Source.left g.R.Source.health g.R.Source.pulls origin was rest tells ids millis facts sound_too within_too part_too
+    is fault given ends
 
 pub returns-clause-end : goal.returns-clause-end
 returns-clause-end g c = λ origin bytes rest ids millis facts was is given summary sound within part parts tells ends.
     let sound_too = subst (HasNoFault origin.limits.max_item) parts sound in
     let within_too = subst (λ (b : List ℕ). length b ≤ origin.limits.max_bytes) parts within in
     let part_too = subst (λ (b : List ℕ). IsPart b ids millis facts) parts part in
-    let it = all_at_end g.R.Source.left g.R.Source.health g.R.Source.pulls origin was rest tells ids millis facts sound_too within_too part_too is summary given ends in
+    let it = all_at_end g.R.Source.left g.R.Source.health g.R.Source.pulls origin was rest tells ids millis facts sound_too within_too
+    part_too is summary given ends in
     (it.0, subst (λ (b : List ℕ). IsSummary b summary) (sym parts) it.1)
