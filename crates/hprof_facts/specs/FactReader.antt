@@ -1,5 +1,6 @@
 -- A reader of the facts of a part that is pulled: which facts it has given, and how it ends.
-use Rattle.std.specs.Prelude.{◌≡◌, ℕ, ◌+◌, ◌≤◌, ◌<◌, Bool, true, false, List, [], ◌∷◌, ◌++◌, length, Option, Some, None, Result, Ok, Err}
+use Rattle.std.specs.Prelude.{◌≡◌, ◌⊎◌, ℕ, ◌+◌, ◌≤◌, ◌<◌, Bool, true, false, List, [], ◌∷◌, ◌++◌, length, Option, Some, None, Result, Ok}
+use Rattle.std.specs.Prelude.{Err}
 use Rattle.std.specs.Io.KnownBytes.{Consumes, IsAtEnd}
 use Rattle.hprof_values.specs.declared.ids.IdSize.{IdSize}
 use Rattle.hprof_items.specs.FactValue.{FactValue}
@@ -16,6 +17,7 @@ use Rattle.hprof_facts.specs.declared.fact_place.FactPlace.{FactPlace}
 use Rattle.hprof_facts.specs.declared.fact_reader.FactReader.{FactReader}
 use Rattle.hprof_facts.specs.FactPlaces.{IsBehindFacts}
 use Rattle.hprof_facts.specs.Listing as listing
+use Rattle.hprof_facts.specs.OfBytes.{is_of_bytes}
 use Rattle.hprof_facts.specs.Queues.{HasCurrent, Holds, begun_with, given_of, has_refused}
 
 -- the source that it reads from
@@ -99,7 +101,8 @@ module _ {R : Type 0} (left : R → Option (List ℕ)) (health : R → Health) (
         → Finishes origin.limits (origin.front ++ reading.came) (origin.told ++ facts) (header_of part) result
         → EndsFrom origin was is result facts
     -- a piece came, and the part was refused with it
-    is_refused : {part : PartReader} (next : PartReader) {before : R} {allowed : ℕ} {piece : List ℕ} {fault : PartFault} {facts all : List FactValue}
+    is_refused : {part : PartReader} (next : PartReader) {before : R} {allowed : ℕ} {piece : List ℕ} {fault : PartFault} {facts all : List
+        FactValue}
         → (reading : IsReading origin was part before allowed facts) → 0 < allowed → IsPull left pulls before piece is → 0 < length piece
         → health is ≡ Well
         → Feeds listing.begins listing.steps listing.refuses listing.failed origin.limits (origin.front ++ reading.came)
@@ -156,6 +159,11 @@ module _ {R : Type 0} (left : R → Option (List ℕ)) (health : R → Health) (
     pub given : HasGivenFrom origin was passed reader
     pub few : length passed ≤ count
     pub over : length passed < count → IsOver reader
+
+  -- it has given these facts; or it is over, and answers a fault that the bytes do not decide
+  abbrev pub HasGivenOrFails : Origin → R → List FactValue → FactReader R → Type 0
+  HasGivenOrFails origin was given reader = HasGivenFrom origin was given reader
+      ⊎ (IsOver reader × ((fault : PartFault) × (answer_of reader ≡ Err fault) × (is_of_bytes fault ≡ false)))
 
   -- it goes on to the fact behind those; or reading the part came to its end, and all facts before that were given
   abbrev pub AdvancesFrom : Origin → R → List FactValue → Result Bool PartFault → FactReader R → Type 0

@@ -2,5 +2,5 @@ pub mod Kept
 pub mod Queues
 pub mod Listing
 pub mod FactPlaces
-pub mod FactReader
 pub mod OfBytes
+pub mod FactReader

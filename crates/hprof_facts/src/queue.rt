@@ -1,6 +1,7 @@
 //! The queue of the facts of one piece.
 
-ghost use Rattle.std.specs.Prelude.{◌≡◌, ◌∷◌, ◌++◌, ◌<◌, ◌≤◌, ◌-◌, ◌+◌, ℕ, List, [], length, take, drop, slice_get, Some, Err, true, false, OnOk, OnErr};
+ghost use Rattle.std.specs.Prelude.{◌≡◌, ◌∷◌, ◌++◌, ◌<◌, ◌≤◌, ◌-◌, ◌+◌, ℕ, List, [], length, take, drop, slice_get, Some, Err, true, false};
+ghost use Rattle.std.specs.Prelude.{OnOk, OnErr};
 ghost use Rattle.hprof_items.specs.FactValue.{FactValue, ListsHave, value_of};
 ghost use Rattle.hprof_facts.specs.Kept.{Keeps};
 

@@ -27,4 +27,12 @@ returns-clause-given g c = λ limits front told read.
     }
 
 pub returns-clause-can : goal.returns-clause-can
-returns-clause-can g c = (c.requires, subst (IsReady c.args.part) (sym c.new.ensures.begun) c.size_read-begun.ensures, omega (arith, c.in-Ok.ensures.len, c.in-Ok.piece.ok.0))
+returns-clause-can g c = (
+  c.requires,
+  subst (IsReady c.args.part) (sym c.new.ensures.begun) c.size_read-begun.ensures,
+  omega (
+    arith,
+    c.in-Ok.ensures.len,
+    c.in-Ok.piece.ok.0,
+  ),
+)
