@@ -1,5 +1,5 @@
 -- A reader of the facts of a part that is pulled: which facts it has given, and how it ends.
-use Rattle.std.specs.Prelude.{◌≡◌, ◌⊎◌, ℕ, ◌+◌, ◌≤◌, ◌<◌, Bool, true, false, List, [], ◌∷◌, ◌++◌, length, Option, Some, None, Result, Ok}
+use Rattle.std.specs.Prelude.{◌≡◌, ◌⊎◌, ℕ, ◌+◌, ◌≤◌, ◌<◌, Bool, true, false, List, [], ◌∷◌, ◌++◌, length, take, Option, Some, None, Result, Ok}
 use Rattle.std.specs.Prelude.{Err}
 use Rattle.std.specs.Io.KnownBytes.{Consumes, IsAtEnd}
 use Rattle.hprof_values.specs.declared.ids.IdSize.{IdSize}
@@ -18,7 +18,8 @@ use Rattle.hprof_facts.specs.declared.fact_reader.FactReader.{FactReader}
 use Rattle.hprof_facts.specs.FactPlaces.{IsBehindFacts}
 use Rattle.hprof_facts.specs.Listing as listing
 use Rattle.hprof_facts.specs.OfBytes.{is_of_bytes}
-use Rattle.hprof_facts.specs.Queues.{HasCurrent, Holds, begun_with, given_of, has_refused}
+use Rattle.hprof_facts.specs.Sizes.{StatesUnder}
+use Rattle.hprof_facts.specs.Queues.{HasCurrent, Holds, begun_with, given_of, has_refused, spelled_last}
 
 -- the source that it reads from
 abbrev pub source_of : {R : Type 0} → FactReader R → R
@@ -31,6 +32,10 @@ IsCurrent reader fact = HasCurrent reader.queue fact
 -- the size of the identifiers of the facts that are given
 abbrev pub ids_of : {R : Type 0} → FactReader R → Option IdSize
 ids_of reader = begun_with reader.queue
+
+-- the bytes of the sub-record that states the fact that was given last
+abbrev pub spelled_of : {R : Type 0} → FactReader R → List ℕ
+spelled_of reader = spelled_last reader.queue
 
 -- what the part came to, once it is over and was not refused
 abbrev pub summary_by : Option PartReader → Result PartSummary PartFault → Option PartSummary
@@ -142,12 +147,18 @@ module _ {R : Type 0} (left : R → Option (List ℕ)) (health : R → Health) (
 
   -- ---- what was given
 
+  -- where the source tells its bytes, these facts come behind the origin, and the size that was begun is that of the part
+  abbrev pub IsSized : Origin → R → Option IdSize → List FactValue → Type 0
+  IsSized origin was begun facts = (rest : List ℕ) → left was ≡ Some rest
+      → StatesUnder origin.limits.max_item (take origin.limits.max_bytes (origin.front ++ rest)) (origin.told ++ facts) begun
+
   -- of the part that comes from the source, as it was, it has given these facts behind the origin, from the first on
   pub record HasGivenFrom (origin : Origin) (was : R) (given : List FactValue) (reader : FactReader R) : Type 0 where
     pub queued : List FactValue
     pub holds : Holds reader.queue queued
     pub read : IsReadTo origin was reader.part reader.source reader.reads_left reader.outcome (has_refused reader.queue) (given ++ queued)
     pub placed : IsPlacedBy origin was reader.source given reader.before (given_of reader.queue)
+    pub sized : IsSized origin was (begun_with reader.queue) (given ++ queued)
 
   -- the same from the first fact of the part on
   abbrev pub HasGiven : Limits → R → List FactValue → FactReader R → Type 0

@@ -3,4 +3,5 @@ pub mod Queues
 pub mod Listing
 pub mod FactPlaces
 pub mod OfBytes
+pub mod Sizes
 pub mod FactReader

@@ -51,7 +51,7 @@ impl<R: Source + Drop> FactReader<R> {
     ghost use Rattle.hprof_facts.specs.FactPlaces.{begins_at, passed_of};
     ghost use Rattle.hprof_facts.specs.FactReader.{Advances, AdvancesFrom, CanAdvance, HasGiven, HasGivenFrom, HasPassed, IsCurrent};
     ghost use Rattle.hprof_facts.specs.FactReader.{IsOver, IsPlaced, IsPlacedBy, IsReading, Origin, answer_of, ids_of, reads_to_come};
-    ghost use Rattle.hprof_facts.specs.FactReader.{source_of, summary_of};
+    ghost use Rattle.hprof_facts.specs.FactReader.{source_of, spelled_of, summary_of};
     ghost use Rattle.hprof_facts.specs.Queues.{Holds, begun_with, given_of, has_refused};
 
     /// Returns a reader of the part that the source gives. It reads nothing yet. If memory runs out, the fault is `OutOfMemory`.
@@ -252,7 +252,8 @@ impl<R: Source + Drop> FactReader<R> {
 
     /// Returns the bytes of the sub-record that states the fact. They are empty for the fact of a record.
     pub fn spelled(&self) -> &[u8]
-        ensures { (fact : FactValue) → IsCurrent self.now fact → SpellsBegun (ids_of self.now) fact result.now }
+        ensures spells { (fact : FactValue) → IsCurrent self.now fact → SpellsBegun (ids_of self.now) fact result.now }
+        ensures is { (fact : FactValue) → IsCurrent self.now fact → result.now ≡ spelled_of self.now }
     {
         self.queue.spelled()
     }
