@@ -1,5 +1,5 @@
 -- A queue of facts.
-use Rattle.std.specs.Prelude.{◌≡◌, ℕ, ◌-◌, ◌<◌, ◌≤◌, Bool, false, List, [], ◌∷◌, ◌++◌, drop, take, length, slice_get, Option, Some, None}
+use Rattle.std.specs.Prelude.{◌≡◌, ◌==◌, ℕ, ◌+◌, ◌-◌, ◌<◌, ◌≤◌, nat_le, if◌then◌else◌, unwrap_or, Bool, false, List, [], ◌∷◌, ◌++◌, drop, take, length, slice_get, Option, Some, None}
 use Rattle.hprof_values.specs.declared.ids.IdSize.{IdSize}
 use Rattle.hprof_items.specs.declared.header.Header.{Header}
 use Rattle.hprof_items.specs.FactValue.{FactValue}
@@ -37,6 +37,14 @@ pub record HasCurrent (queue : Queue) (fact : FactValue) : Type 0 where
   pub stands : slice_get queue.slots.items (queue.given - 1) ≡ Some slot
   pub keeps : KeepsAt ids queue.bytes.items slot fact
 
+-- its slot
+abbrev pub last_slot : Queue → Option Slot
+last_slot queue = if queue.given == 0 then None else slice_get queue.slots.items (queue.given - 1)
+
+-- the bytes of a slot
+abbrev pub held_at : List ℕ → Slot → Option (List ℕ)
+held_at bytes slot = if nat_le (slot.at + slot.len) (length bytes) then Some (take slot.len (drop slot.at bytes)) else None
+
 -- the bytes that are kept with a form, where they are those of a sub-record
 abbrev pub spelled_in : Form → List ℕ → List ℕ
 spelled_in Spelled bytes = bytes
@@ -44,11 +52,11 @@ spelled_in form bytes = []
 
 abbrev pub spelled_at : List ℕ → Option Slot → List ℕ
 spelled_at bytes None = []
-spelled_at bytes (Some slot) = spelled_in slot.form (take slot.len (drop slot.at bytes))
+spelled_at bytes (Some slot) = spelled_in slot.form (unwrap_or (held_at bytes slot) [])
 
 -- those of the fact that was given last
 abbrev pub spelled_last : Queue → List ℕ
-spelled_last queue = spelled_at queue.bytes.items (slice_get queue.slots.items (queue.given - 1))
+spelled_last queue = spelled_at queue.bytes.items (last_slot queue)
 
 -- ---- the queue as a sink
 

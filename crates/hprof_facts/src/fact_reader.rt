@@ -253,7 +253,7 @@ impl<R: Source + Drop> FactReader<R> {
     /// Returns the bytes of the sub-record that states the fact. They are empty for the fact of a record.
     pub fn spelled(&self) -> &[u8]
         ensures spells { (fact : FactValue) → IsCurrent self.now fact → SpellsBegun (ids_of self.now) fact result.now }
-        ensures is { (fact : FactValue) → IsCurrent self.now fact → result.now ≡ spelled_of self.now }
+        ensures is { result.now ≡ spelled_of self.now }
     {
         self.queue.spelled()
     }
