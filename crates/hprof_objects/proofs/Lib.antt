@@ -3,3 +3,5 @@ mod Rows
 mod Stretches
 mod Whole
 mod WholeHeap
+mod ReadingAgain
+mod StretchCursors

@@ -5,3 +5,6 @@ pub mod Growing
 pub mod Stretches
 pub mod Whole
 pub mod Store
+pub mod ReadAgain
+pub mod StretchFault
+pub mod StretchCursor

@@ -6,10 +6,16 @@ mod identifying;
 mod growing;
 mod keeping;
 pub mod laws;
+mod next_object;
 mod row_store;
 mod stretch;
+mod stretch_cursor;
+mod stretch_fault;
+pub mod stretch_laws;
 
 pub use identifying::object_id;
 pub use keeping::Keeping;
 pub use row_store::RowStore;
 pub use stretch::Stretch;
+pub use stretch_cursor::StretchCursor;
+pub use stretch_fault::StretchFault;
