@@ -3,5 +3,6 @@ mod Rows
 mod Stretches
 mod Whole
 mod WholeHeap
+mod Spilled
 mod ReadingAgain
 mod StretchCursors
