@@ -172,8 +172,7 @@ module _ {R : Type 0} (left : R → Option (List ℕ)) (health : R → Health) (
       sym (ap (object_rows ids) to.is_next ∙ ap (λ (one : Option ByteRow). only one ++ object_rows ids to.rest) object) ∙ has.are in
       let first : (id, dump_bytes ids fact) ≡ row = cc in
       let behind : object_rows ids to.rest ≡ rows ++ has.more = cc in
-      let spelled = subst (λ (b : Option IdSize). SpellsBegun b fact (spelled_of new)) to.size (current_spelled new.queue fact to.current) in
-      (
+      let spelled = subst (λ (b : Option IdSize). SpellsBegun b fact (spelled_of new)) to.size (current_spelled new.queue fact to.current) in (
         sym first ∙ ap (λ (bytes : List ℕ). (id, bytes)) (sym spelled),
         goes_behind (row ∷ rows) has.more has to rows behind,
       )

@@ -2,8 +2,8 @@
 //! scratch, in sorted runs.
 #![tactic(auto)]
 
-mod identifying;
 mod growing;
+mod identifying;
 mod keeping;
 pub mod laws;
 mod next_object;
@@ -12,6 +12,8 @@ mod stretch;
 mod stretch_cursor;
 mod stretch_fault;
 pub mod stretch_laws;
+#[cfg(test)]
+mod stretch_tests;
 
 pub use identifying::object_id;
 pub use keeping::Keeping;

@@ -19,11 +19,11 @@ use std::alloc::Global;
 /// of its sub-record. The cursor holds the facts of one piece of 64 KiB, and an item that is not whole.
 #[derive(Drop)]
 pub struct StretchCursor<R: Source + Drop> {
-    pub(crate) reader: FactReader<R>,
+    reader: FactReader<R>,
     /// The identifier of the object that is shown.
-    pub(crate) shown: Option<u64>,
+    shown: Option<u64>,
     /// The number of objects behind it.
-    pub(crate) left: u64,
+    left: u64,
 }
 
 impl<R: Source + Drop> StretchCursor<R> {
