@@ -29,8 +29,8 @@ pub struct StretchCursor<R: Source + Drop> {
 impl<R: Source + Drop> StretchCursor<R> {
     ghost use Rattle.hprof_objects.specs.StretchCursor.{CanGoOn, OpensStretch, RefusesStretch, StandsAt};
 
-    /// Opens the part of a stretch at its place, and returns a cursor that shows the first object. `max_reads` of the limits is for this
-    /// opening alone.
+    /// Opens the part of a stretch at its place, and returns a cursor that shows the first object. The limits are those under which the part
+    /// was read before; the reads are counted anew.
     pub fn new<P: Parts<Reader = R>>(
         alloc: Global,
         parts: &P,
