@@ -204,7 +204,8 @@ module _ {R : Type 0} (left : R → Option (List ℕ)) (health : R → Health) (
       ap (λ (l : List FactValue). told ++ l) (holds_once new it.handed handed it.holds holds) ∙ append_assoc origin.told facts handed in
       taken_under limits.max_item limits.max_bytes (bytes ++ piece) known.0 (origin.front ++ rest) (origin.told ++ (facts ++ handed))
       (begun_with new) known.1
-      (subst (λ (l : List FactValue). StatesUnder limits.max_item (take limits.max_bytes (bytes ++ piece)) l (begun_with new)) same it.under)
+      (subst (λ (l : List FactValue). StatesUnder limits.max_item (take limits.max_bytes (bytes ++ piece)) l (begun_with new)) same
+      it.under)
 
 -- ---- a part with no fault
 

@@ -26,14 +26,17 @@ kept_spelled ids (forms.End thread) bytes fact keeps = sym (ap (dump_bytes ids) 
 kept_spelled ids forms.Spelled bytes fact keeps = keeps.spelled
 
 -- a slot that lies within the bytes
-pub held_within : (bytes : List ℕ) (slot : Slot) → slot.at + slot.len ≤ length bytes → held_at bytes slot ≡ Some (take slot.len (drop slot.at bytes))
+pub held_within : (bytes : List ℕ) (slot : Slot) → slot.at + slot.len ≤ length bytes
+    → held_at bytes slot ≡ Some (take slot.len (drop slot.at bytes))
 held_within bytes slot within =
-    cond-true (nat_le (slot.at + slot.len) (length bytes)) (Some (take slot.len (drop slot.at bytes))) None (le-leb (slot.at + slot.len) (length bytes) within)
+    cond-true (nat_le (slot.at + slot.len) (length bytes)) (Some (take slot.len (drop slot.at bytes))) None
+    (le-leb (slot.at + slot.len) (length bytes) within)
 
 -- the slot of a fact that was given
 pub slot_given : (queue : Queue) → 0 < queue.given → last_slot queue ≡ slice_get queue.slots.items (queue.given - 1)
 slot_given queue some =
-    cond-false (nat_eq queue.given 0) None (slice_get queue.slots.items (queue.given - 1)) (ne_eqb queue.given 0 (λ none. omega (arith, some, none)))
+    cond-false (nat_eq queue.given 0) None (slice_get queue.slots.items (queue.given - 1))
+    (ne_eqb queue.given 0 (λ none. omega (arith, some, none)))
 
 pub current_spelled : (queue : Queue) (fact : FactValue) → HasCurrent queue fact → SpellsBegun (begun_with queue) fact (spelled_last queue)
 current_spelled queue fact current =

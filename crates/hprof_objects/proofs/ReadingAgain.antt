@@ -5,14 +5,16 @@ use Rattle.std.proofs.lemmas.Bool.{both_ways}
 use Rattle.std.proofs.lemmas.List.{append_cancel_left}
 use Rattle.hprof_devices.specs.declared.health.Health.{Health}
 use Rattle.hprof_values.specs.declared.ids.IdSize.{IdSize}
-use Rattle.hprof_items.specs.FactValue.{FactValue, Name, Load, Unload, Frame, Trace, Start, End, Rooted, Class, Instance, ObjArray, PrimArray}
+use Rattle.hprof_items.specs.FactValue.{FactValue, Name, Load, Unload, Frame, Trace, Start, End, Rooted, Class, Instance, ObjArray}
+use Rattle.hprof_items.specs.FactValue.{PrimArray}
 use Rattle.hprof_items.specs.SubRecord.{dump_bytes}
 use Rattle.hprof_stream.specs.declared.limits.Limits.{Limits}
 use Rattle.hprof_stream.specs.declared.part_fault.PartFault.{PartFault}
 use Rattle.hprof_stream.specs.declared.part_fault.PartFault.TheVariants as faults
 use Rattle.hprof_stream.specs.Run.{SpellsBegun}
 use Rattle.hprof_facts.specs.declared.fact_reader.FactReader.{FactReader}
-use Rattle.hprof_facts.specs.FactReader.{AdvancesFrom, HasGivenFrom, HasGivenOrFails, IsCurrent, IsOver, Origin, answer_of, ids_of, source_of, spelled_of}
+use Rattle.hprof_facts.specs.FactReader.{AdvancesFrom, HasGivenFrom, HasGivenOrFails, IsCurrent, IsOver, Origin, answer_of, ids_of}
+use Rattle.hprof_facts.specs.FactReader.{source_of, spelled_of}
 use Rattle.hprof_facts.specs.OfBytes.{is_of_bytes}
 use Rattle.hprof_facts.proofs.Agreeing.{all_at_end, given_of_part, never_of_bytes}
 use Rattle.hprof_facts.proofs.Sizes.{size_of_part}
@@ -172,7 +174,8 @@ module _ {R : Type 0} (left : R → Option (List ℕ)) (health : R → Health) (
       sym (ap (object_rows ids) to.is_next ∙ ap (λ (one : Option ByteRow). only one ++ object_rows ids to.rest) object) ∙ has.are in
       let first : (id, dump_bytes ids fact) ≡ row = cc in
       let behind : object_rows ids to.rest ≡ rows ++ has.more = cc in
-      let spelled = subst (λ (b : Option IdSize). SpellsBegun b fact (spelled_of new)) to.size (current_spelled new.queue fact to.current) in (
+      let spelled = subst (λ (b : Option IdSize). SpellsBegun b fact (spelled_of new)) to.size
+      (current_spelled new.queue fact to.current) in (
         sym first ∙ ap (λ (bytes : List ℕ). (id, bytes)) (sym spelled),
         goes_behind (row ∷ rows) has.more has to rows behind,
       )

@@ -73,7 +73,8 @@ module _ {R : Type 0} (left : R → Option (List ℕ)) (health : R → Health) (
 
   -- the next one is above it
   pub never_late : (old new : StretchCursor R) (before id : ℕ) → old.shown ≡ Some before → new.shown ≡ Some id → id ≤ before
-      → ((rows : List ByteRow) → HasObjects left health pulls old.reader rows → old.left ≡ length rows → StandsAt left health pulls new rows)
+      → ((rows : List ByteRow) → HasObjects left health pulls old.reader rows → old.left ≡ length rows
+      → StandsAt left health pulls new rows)
       → (rows : List ByteRow) → ComesTo left health pulls old rows → ⊥
   never_late old new before id is is_next late goes rows comes =
       let stands = comes.stands in
@@ -88,7 +89,8 @@ module _ {R : Type 0} (left : R → Option (List ℕ)) (health : R → Health) (
 
   -- it goes past the row that it showed
   pub goes_past : (old new : StretchCursor R) (before : ℕ) → old.shown ≡ Some before
-      → ((rows : List ByteRow) → HasObjects left health pulls old.reader rows → old.left ≡ length rows → StandsAt left health pulls new rows)
+      → ((rows : List ByteRow) → HasObjects left health pulls old.reader rows → old.left ≡ length rows
+      → StandsAt left health pulls new rows)
       → (row : ByteRow) (rest : List ByteRow) → ComesTo left health pulls old (row ∷ rest) → ComesTo left health pulls new rest
   goes_past old new before is goes row rest comes =
       let stands = comes.stands in

@@ -15,8 +15,8 @@ use hprof_parts::Parts;
 use hprof_stream::Limits;
 use std::alloc::Global;
 
-/// A cursor over the objects of a stretch, which are read again without trust in the part. A row is the identifier of an object and the bytes
-/// of its sub-record. The cursor holds the facts of one piece of 64 KiB, and an item that is not whole.
+/// A cursor over the objects of a stretch, which are read again without trust in the part. A row is the identifier of an object and the
+/// bytes of its sub-record. The cursor holds the facts of one piece of 64 KiB, and an item that is not whole.
 #[derive(Drop)]
 pub struct StretchCursor<R: Source + Drop> {
     reader: FactReader<R>,
@@ -29,8 +29,8 @@ pub struct StretchCursor<R: Source + Drop> {
 impl<R: Source + Drop> StretchCursor<R> {
     ghost use Rattle.hprof_objects.specs.StretchCursor.{CanGoOn, OpensStretch, RefusesStretch, StandsAt};
 
-    /// Opens the part of a stretch at its place, and returns a cursor that shows the first object. The limits are those under which the part
-    /// was read before; the reads are counted anew.
+    /// Opens the part of a stretch at its place, and returns a cursor that shows the first object. The limits are those of the first
+    /// reading; the reads are counted anew.
     pub fn new<P: Parts<Reader = R>>(
         alloc: Global,
         parts: &P,

@@ -8,8 +8,8 @@ ghost use Rattle.hprof_objects.specs.StretchCursor.{ComesTo, GoesOn, stretch_sho
 
 use hprof_devices::Source;
 
-/// The rows that a cursor over a stretch shows, up to its end, are those of the stretch, if its part is the same as when it was read. Before
-/// the end they are the first of them.
+/// If the part is the same as when it was read, a cursor over a stretch shows, up to its end, the rows of the stretch. Before the end it has
+/// shown the first of them.
 pub fn stretch_cursors_show_stretches<R: Source + Drop>()
     ensures all { (old new : StretchCursor R) (rows shown : List ByteRow) → ComesTo R.left R.health R.pulls old rows
         → Shows stretch_shown (GoesOn R.left R.health R.pulls) old shown new → stretch_shown new ≡ None → shown ≡ rows }

@@ -18,11 +18,11 @@ returns-then-step-clause-from g c = λ origin was given has.
     let pulls = g.R.Source.pulls in
     let read = subst (λ (r : Bool). IsReadTo left health pulls origin was its.part its.source its.reads_left its.outcome r
     (given ++ has.queued)) (sym c.step.ensures.failed) has.read in
-    let sized = subst (λ (b : Option IdSize). IsSized left health pulls origin was b (given ++ has.queued)) (sym c.step.ensures.begun) has.sized
-    in
+    let sized = subst (λ (b : Option IdSize). IsSized left health pulls origin was b (given ++ has.queued)) (sym c.step.ensures.begun)
+    has.sized in
     let it = gives_first left health pulls origin was its.part its.source its.reads_left its.outcome (has_refused c.step.new.self)
-    (IsSized left health pulls origin was (begun_with c.step.new.self)) given has.queued its.queue c.step.new.self c.step.result c.if-step.true
-    has.holds c.step.ensures.some c.step.ensures.none read sized in (
+    (IsSized left health pulls origin was (begun_with c.step.new.self)) given has.queued its.queue c.step.new.self c.step.result
+    c.if-step.true has.holds c.step.ensures.some c.step.ensures.none read sized in (
       it.fact,
       record {
         queued = it.rest;

@@ -21,8 +21,8 @@ returns-clause-given g c = λ limits front told read.
     let reading : IsReading left health pulls origin c.args.source part c.args.source c.args.reads_left [] =
     record { came = []; turns = 0; pulled = none; read = all; spent = omega arith } in
     let ready = subst (IsReady part) (sym c.new.ensures.begun) c.size_read-begun.ensures in
-    let sized = reading_sized left health pulls origin c.args.source part c.args.source c.args.reads_left [] (begun_with c.new.result) reading
-    ready in
+    let sized = reading_sized left health pulls origin c.args.source part c.args.source c.args.reads_left [] (begun_with c.new.result)
+    reading ready in
     record {
       queued = [];
       holds = c.new.ensures.holds;
