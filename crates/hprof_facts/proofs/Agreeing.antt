@@ -1,6 +1,7 @@
 -- Pulled and pushed, the same bytes come to the same result, and state the same facts.
-use Rattle.std.proofs.Common.{◌≡◌, ℕ, ◌<◌, ◌≤◌, Bool, true, false, List, [], ◌++◌, length, take, Option, Some, None, Result, Ok, Err, inl, inr, refl, sym, ap, subst}
-use Rattle.std.proofs.Common.{◌∙◌, append_assoc, append-nil, arith}
+use Rattle.std.proofs.Common.{◌≡◌, ℕ, ◌≤◌, Bool, true, false, List, [], ◌++◌, length, take, Option, Some, None, Result, Ok, Err, inl, inr}
+use Rattle.std.proofs.Common.{refl, sym, ap, subst}
+use Rattle.std.proofs.Common.{◌∙◌, append_assoc, append-nil}
 use Rattle.std.proofs.lemmas.Bool.{both_ways, cases_Bool}
 use Rattle.std.proofs.lemmas.List.{take_all}
 use Rattle.std.proofs.KnownBytes.{Consumes-trans}
@@ -17,13 +18,12 @@ use Rattle.hprof_stream.specs.declared.part_reader.PartReader.{PartReader}
 use Rattle.hprof_stream.specs.declared.sink.SinkFault.{SinkFault}
 use Rattle.hprof_stream.specs.declared.summary.PartSummary.{PartSummary}
 use Rattle.hprof_stream.specs.Part.{IsPart, IsSummary}
-use Rattle.hprof_stream.specs.Fault.{HasNoFault, IsFirstFault, StatesSoFar, is_settled}
+use Rattle.hprof_stream.specs.Fault.{HasNoFault, IsFirstFault, StatesSoFar}
 use Rattle.hprof_stream.specs.Reader.{Feeds, Finishes, HasRead, IsSettledFault, RanOver, ReadsPart, header_of}
-use Rattle.hprof_stream.specs.Run.{Run}
 use Rattle.hprof_stream.proofs.Faults.{states_once}
 use Rattle.hprof_stream.proofs.FedRuns.{Pulled-consumes, StatesSoFar-read}
 use Rattle.hprof_stream.proofs.Parts.{states_one}
-use Rattle.hprof_facts.specs.FactReader.{Ends, EndsFrom, HasGivenFrom, IsReading, Origin, comes_to_end, is_refused, reads_are_spent, source_fails}
+use Rattle.hprof_facts.specs.FactReader.{Ends, EndsFrom, HasGivenFrom, Origin, comes_to_end, is_refused, reads_are_spent, source_fails}
 use Rattle.hprof_facts.specs.Listing as listing
 use Rattle.hprof_facts.specs.OfBytes.{IsOfBytes, IsResultOf, RunBefore, StatesBefore, is_of_bytes}
 use Rattle.hprof_facts.specs.declared.fact_reader.FactReader.{FactReader}
@@ -31,7 +31,8 @@ use Rattle.hprof_facts.proofs.GivenFirst.{given_first, known_all, known_first, k
 use Rattle.hprof_facts.proofs.Results.{first_result, never_both, part_states, result_once, settled_result, settled_states}
 
 -- what the bytes state before a result is determined
-pub states_before_once : (limits : Limits) (bytes : List ℕ) (one two : Result PartSummary PartFault) (facts others : List FactValue) → one ≡ two
+pub states_before_once : (limits : Limits) (bytes : List ℕ) (one two : Result PartSummary PartFault) (facts others : List FactValue)
+    → one ≡ two
     → StatesBefore limits bytes one facts → StatesBefore limits bytes two others → facts ≡ others
 states_before_once limits bytes (Ok one) (Ok two) facts others same comes comes_too =
     (states_one bytes one.header.ids two.header.ids one.header.millis two.header.millis facts others comes comes_too).2
@@ -43,7 +44,8 @@ states_before_once limits bytes (Err one) (Err two) facts others same comes come
 -- ---- pushed
 
 module _ {R : Type 0} (left : R → Option (List ℕ)) (health : R → Health) (pulls : R → ℕ)
-    {S : Type 0} (begins : S → Header → S → Type 0) (steps : S → FactValue → S → Type 0) (refuses : S → List FactValue → SinkFault → S → Type 0)
+    {S : Type 0} (begins : S → Header → S → Type 0) (steps : S → FactValue → S → Type 0) (refuses : S → List FactValue → SinkFault → S
+    → Type 0)
     (failed : S → Bool) where
   -- what is said of a result that the bytes decide
   pub record Pushed (limits : Limits) (bytes : List ℕ) (result : Result PartSummary PartFault) (old new : S) : Type 0 where
@@ -67,7 +69,8 @@ module _ {R : Type 0} (left : R → Option (List ℕ)) (health : R → Health) (
           ran = (ran.0, over.ran);
         }
 
-    pub pushed : (result : Result PartSummary PartFault) → ReadsPart left health pulls begins steps refuses failed limits was came is old result new
+    pub pushed : (result : Result PartSummary PartFault) → ReadsPart left health pulls begins steps refuses failed limits was came is old
+        result new
         → IsOfBytes result → Pushed limits bytes result old new
     pushed (Ok summary) reads of_bytes =
         let same = known_all (left was) (left is) bytes came tells gave reads.1 in
@@ -126,7 +129,8 @@ refuses : (limits : Limits) (bytes more whole : List ℕ) (told given all : List
 refuses limits bytes more whole told given all part next piece fault same of_bytes fed = by fault of_bytes fed
   where
     by : (f : PartFault) → is_of_bytes f ≡ true
-        → Feeds {S = List FactValue} listing.begins listing.steps listing.refuses listing.failed limits bytes (told ++ given) part piece given
+        → Feeds {S = List FactValue} listing.begins listing.steps listing.refuses listing.failed limits bytes (told ++ given) part piece
+        given
         (Err f) next all
         → IsResultOf limits whole (Err f) × StatesBefore limits whole (Err f) (told ++ all)
     by faults.OutOfMemory never lacks = absurd cc
@@ -134,7 +138,8 @@ refuses limits bytes more whole told given all part next piece fault same of_byt
     by f of_bytes is_fault =
         let over = is_fault.1 in
         let facts : (told ++ given) ++ over.handed ≡ told ++ all =
-        append_assoc told given over.handed ∙ ap (λ (l : List FactValue). told ++ l) (sym (run_listed given _ over.handed all over.ran)) in (
+        append_assoc told given over.handed
+        ∙ ap (λ (l : List FactValue). told ++ l) (sym (run_listed given _ over.handed all over.ran)) in (
           settled_result limits (bytes ++ piece) more whole f same is_fault.0,
           (
             header_of next,
@@ -148,7 +153,8 @@ module _ {R : Type 0} (left : R → Option (List ℕ)) (health : R → Health) (
     (tells : left was ≡ Some rest) where
   pub pulled : (is : R) (result : Result PartSummary PartFault) (facts : List FactValue)
       → EndsFrom left health pulls origin was is result facts → IsOfBytes result
-      → IsResultOf origin.limits (origin.front ++ rest) result × StatesBefore origin.limits (origin.front ++ rest) result (origin.told ++ facts)
+      → IsResultOf origin.limits (origin.front ++ rest) result × StatesBefore origin.limits (origin.front ++ rest) result (origin.told ++
+      facts)
   pulled is result facts (comes_to_end {part = part} {before = before} {allowed = allowed} reading can last end well finishes) of_bytes =
       let came = reading.came in
       let gave = Consumes-trans (left was) (left before) (left is) came []
@@ -158,7 +164,8 @@ module _ {R : Type 0} (left : R → Option (List ℕ)) (health : R → Health) (
       subst (λ (b : List ℕ). IsResultOf origin.limits b result × StatesBefore origin.limits b result (origin.told ++ facts)) (sym same)
       (ended origin.limits (origin.front ++ came) (origin.told ++ facts) part result reading.read finishes)
   pulled is result facts
-      (is_refused {part = part} next {before = before} {allowed = allowed} {piece = piece} {fault = fault} {facts = given} reading can last some
+      (is_refused {part = part} next {before = before} {allowed = allowed} {piece = piece} {fault = fault} {facts = given} reading can last
+      some
       well feeds) of_bytes =
       let known = known_with left health pulls origin was rest tells before is reading.came reading.turns piece
       (Pulled-consumes left pulls was reading.came reading.turns before reading.pulled) last.gave in
@@ -200,7 +207,8 @@ module _ {R : Type 0} (left : R → Option (List ℕ)) (health : R → Health) (
 
 module _ {R : Type 0} (left : R → Option (List ℕ)) (health : R → Health) (pulls : R → ℕ)
     {Q : Type 0} (left_too : Q → Option (List ℕ)) (health_too : Q → Health) (pulls_too : Q → ℕ)
-    {S : Type 0} (begins : S → Header → S → Type 0) (steps : S → FactValue → S → Type 0) (refuses : S → List FactValue → SinkFault → S → Type 0)
+    {S : Type 0} (begins : S → Header → S → Type 0) (steps : S → FactValue → S → Type 0) (refuses : S → List FactValue → SinkFault → S
+    → Type 0)
     (failed : S → Bool) where
   pub agree : (origin : Origin) (rest : List ℕ) (was is : R) (result : Result PartSummary PartFault) (given : List FactValue)
       (was_too is_too : Q) (came : List ℕ) (other : Result PartSummary PartFault) (old new : S)
@@ -215,7 +223,8 @@ module _ {R : Type 0} (left : R → Option (List ℕ)) (health : R → Health) (
       let two = pushed left_too health_too pulls_too begins steps refuses failed origin.limits was_too came is_too old new
       (origin.front ++ rest) tells_too gave other reads of_bytes_too in
       let same = result_once origin.limits (origin.front ++ rest) result other one.0 two.is in
-      let facts = states_before_once origin.limits (origin.front ++ rest) result other (origin.told ++ given) two.facts same one.1 two.states in (
+      let facts = states_before_once origin.limits (origin.front ++ rest) result other (origin.told ++ given) two.facts same one.1
+      two.states in (
         same,
         subst (λ (l : List FactValue). RunBefore begins steps other old l new) (sym facts) two.ran,
       )
@@ -232,10 +241,13 @@ module _ {R : Type 0} (left : R → Option (List ℕ)) (health : R → Health) (
       → Consumes (left_too was_too) (left_too is_too) came
       → ReadsPart left_too health_too pulls_too begins steps refuses failed limits was_too came is_too old other new
       → IsOfBytes result → IsOfBytes other → (result ≡ other) × RunBefore begins steps other old given new
-  agree_from_start limits bytes was is result given was_too is_too came other old new tells tells_too ends gave reads of_bytes of_bytes_too =
-      let one = pushed left health pulls {S = List FactValue} listing.begins listing.steps listing.refuses listing.failed limits was ends.0 is
+  agree_from_start limits bytes was is result given was_too is_too came other old new tells tells_too ends gave reads of_bytes of_bytes_too
+      =
+      let one = pushed left health pulls {S = List FactValue} listing.begins listing.steps listing.refuses listing.failed limits was ends.0
+      is
       [] given bytes tells ends.1 result ends.2 of_bytes in
-      let two = pushed left_too health_too pulls_too begins steps refuses failed limits was_too came is_too old new bytes tells_too gave other
+      let two = pushed left_too health_too pulls_too begins steps refuses failed limits was_too came is_too old new bytes tells_too gave
+      other
       reads of_bytes_too in
       let same = result_once limits bytes result other one.is two.is in
       let facts = states_before_once limits bytes result other one.facts two.facts same one.states two.states in (

@@ -1,5 +1,6 @@
 -- A reader from the first byte on ends as `read_part` does.
-use Rattle.std.proofs.Common.{◌≡◌, ℕ, ◌-◌, ◌<◌, Bool, true, false, List, [], ◌++◌, length, take, Option, Some, None, Result, Ok, Err, inl, inr}
+use Rattle.std.proofs.Common.{◌≡◌, ℕ, ◌-◌, ◌<◌, Bool, true, false, List, [], ◌++◌, length, take, Option, Some, None, Result, Ok, Err, inl}
+use Rattle.std.proofs.Common.{inr}
 use Rattle.std.proofs.Common.{refl, sym, subst, ◌∙◌, append-nil, arith}
 use Rattle.std.proofs.KnownBytes.{Consumes-trans}
 use Rattle.std.specs.Io.KnownBytes.{Consumes}
@@ -118,7 +119,8 @@ module _ {R : Type 0} (left : R → Option (List ℕ)) (health : R → Health) (
       bare = no_header_no_fact limits bytes facts part read
 
       by : (f : PartFault)
-          → Feeds {S = List FactValue} listing.begins listing.steps listing.refuses listing.failed limits bytes facts part piece facts (Err f)
+          → Feeds {S = List FactValue} listing.begins listing.steps listing.refuses listing.failed limits bytes facts part piece facts (Err
+          f)
           next all
           → ReadsPart left health pulls {S = List FactValue} listing.begins listing.steps listing.refuses listing.failed limits was
           (bytes ++ piece) is [] (Err f) all
@@ -144,7 +146,8 @@ module _ {R : Type 0} (left : R → Option (List ℕ)) (health : R → Health) (
                 refused.1.mid read refused.0 refused.1.ran;
           },
         ),
-        RefusesLast-from {S = List FactValue} listing.begins listing.steps listing.refuses listing.failed refused.0 facts (header_of part) []
+        RefusesLast-from {S = List FactValue} listing.begins listing.steps listing.refuses listing.failed refused.0 facts (header_of part)
+            []
             facts all why (run_lists [] (header_of part) facts) bare refused.1,
       )
       by f is_fault = settled_ends limits was (bytes ++ piece) is (header_of next) all f last well is_fault.0
@@ -153,7 +156,8 @@ module _ {R : Type 0} (left : R → Option (List ℕ)) (health : R → Health) (
           (λ header e. stays limits bytes facts part next piece read facts all fault header feeds e) is_fault.1)
 
   -- what the part came to is told of all that it states
-  finishes_all : (limits : Limits) (bytes : List ℕ) (facts others : List FactValue) (part : PartReader) (result : Result PartSummary PartFault)
+  finishes_all : (limits : Limits) (bytes : List ℕ) (facts others : List FactValue) (part : PartReader) (result : Result PartSummary
+      PartFault)
       → HasRead limits bytes facts part → HasRead limits bytes others part → Finishes limits bytes facts (header_of part) result
       → Finishes limits bytes others (header_of part) result
   finishes_all limits bytes facts others part result read read_too finishes =
@@ -164,7 +168,8 @@ module _ {R : Type 0} (left : R → Option (List ℕ)) (health : R → Health) (
   -- a list was fed what was read
   fed_of : (limits : Limits) (was is : R) (part : PartReader) (allowed : ℕ) (facts : List FactValue)
       → (reading : IsReading left health pulls (start_of limits) was part is allowed facts)
-      → HasFed left health pulls {S = List FactValue} listing.begins listing.steps listing.refuses listing.failed limits reading.turns was is
+      → HasFed left health pulls {S = List FactValue} listing.begins listing.steps listing.refuses listing.failed limits reading.turns was
+      is
       part [] facts
   fed_of limits was is part allowed facts reading = record {
     came = reading.came;
@@ -189,7 +194,8 @@ module _ {R : Type 0} (left : R → Option (List ℕ)) (health : R → Health) (
       let spent = reading.spent in (
         came,
         came_all was before is came reading.turns reading.pulled last,
-        ReadsPart-finished left health pulls {S = List FactValue} listing.begins listing.steps listing.refuses listing.failed limits was came
+        ReadsPart-finished left health pulls {S = List FactValue} listing.begins listing.steps listing.refuses listing.failed limits was
+            came
             is part [] facts tt result (
               record {
                 before = before;
@@ -204,7 +210,8 @@ module _ {R : Type 0} (left : R → Option (List ℕ)) (health : R → Health) (
             ) (λ others read. finishes_all limits came facts others part result reading.read read finishes),
       )
   from_start limits was is result facts
-      (is_refused {part = part} next {before = before} {allowed = allowed} {piece = piece} {fault = fault} {facts = given} reading can last some
+      (is_refused {part = part} next {before = before} {allowed = allowed} {piece = piece} {fault = fault} {facts = given} reading can last
+      some
       well feeds) = (
         reading.came ++ piece,
         Consumes-trans (left was) (left before) (left is) reading.came piece
@@ -213,11 +220,13 @@ module _ {R : Type 0} (left : R → Option (List ℕ)) (health : R → Health) (
       )
   from_start limits was is result facts (source_fails {part = part} {before = before} {allowed = allowed} reading can last ill) =
       let spent = reading.spent in
-      HasFed-failed left health pulls {S = List FactValue} listing.begins listing.steps listing.refuses listing.failed limits reading.turns was
+      HasFed-failed left health pulls {S = List FactValue} listing.begins listing.steps listing.refuses listing.failed limits reading.turns
+      was
       before is part [] facts last ill (fed_of limits was before part allowed facts reading) (omega (arith, spent, can))
   from_start limits was is result facts (reads_are_spent {part = part} reading well) =
       let spent = reading.spent in
-      HasFed-spent left health pulls {S = List FactValue} listing.begins listing.steps listing.refuses listing.failed limits reading.turns was
+      HasFed-spent left health pulls {S = List FactValue} listing.begins listing.steps listing.refuses listing.failed limits reading.turns
+      was
       is part [] facts well (fed_of limits was is part 0 facts reading) (omega (arith, spent))
 
   pub advances_from_start : (limits : Limits) (was : R) (given : List FactValue) (result : Result Bool PartFault) (reader : FactReader R)

@@ -1,5 +1,6 @@
 -- What a reader that is pulled has given, as pieces come and facts go.
-use Rattle.std.proofs.Common.{◌≡◌, ℕ, ◌+◌, ◌<◌, Bool, true, false, List, [], ◌∷◌, ◌++◌, length, Option, Some, None, Result, Ok, Err, is_some, refl, sym, subst, ap}
+use Rattle.std.proofs.Common.{◌≡◌, ℕ, ◌+◌, ◌<◌, Bool, true, false, List, [], ◌∷◌, ◌++◌, length, Option, Some, None, Result, Ok, Err}
+use Rattle.std.proofs.Common.{is_some, refl, sym, subst, ap}
 use Rattle.std.proofs.Common.{append_assoc, append-nil, arith, ◌∙◌}
 use Rattle.std.proofs.lemmas.Bool.{both_ways}
 use Rattle.hprof_devices.specs.declared.health.Health.{Health}
@@ -87,25 +88,27 @@ module _ {R : Type 0} (left : R → Option (List ℕ)) (health : R → Health) (
       (subst (λ (p : Option PartReader). IsReadTo left health pulls origin was p is allowed outcome full (given ++ queued)) some read)
 
   -- the first that is queued is given
+  --   Kept: what holds of the facts that were given, and of those that are queued behind them
   pub record GivesFirst (part : Option PartReader) (is : R) (allowed : ℕ) (outcome : Result PartSummary PartFault) (full : Bool)
-      (given : List FactValue) (old new : Queue) : Type 0 where
+      (Kept : List FactValue → Type 0) (given : List FactValue) (old new : Queue) : Type 0 where
     pub fact : FactValue
     pub rest : List FactValue
     pub holds : Holds new rest
     pub read : IsReadTo left health pulls origin was part is allowed outcome full ((given ++ fact ∷ []) ++ rest)
+    pub kept : Kept ((given ++ fact ∷ []) ++ rest)
     pub current : HasCurrent new fact
     pub one_more : given_of new ≡ given_of old + 1
 
   pub gives_first : (part : Option PartReader) (is : R) (allowed : ℕ) (outcome : Result PartSummary PartFault) (full : Bool)
-      (given queued : List FactValue) (old new : Queue) (more : Bool) → more ≡ true → Holds old queued
+      (Kept : List FactValue → Type 0) (given queued : List FactValue) (old new : Queue) (more : Bool) → more ≡ true → Holds old queued
       → ((fact : FactValue) (facts : List FactValue) → Holds old (fact ∷ facts)
       → (more ≡ true) × Holds new facts × HasCurrent new fact × (given_of new ≡ given_of old + 1))
       → (Holds old [] → (more ≡ false) × (new ≡ old))
-      → IsReadTo left health pulls origin was part is allowed outcome full (given ++ queued)
-      → GivesFirst part is allowed outcome full given old new
-  gives_first part is allowed outcome full given [] old new more is_more holds some none read =
+      → IsReadTo left health pulls origin was part is allowed outcome full (given ++ queued) → Kept (given ++ queued)
+      → GivesFirst part is allowed outcome full Kept given old new
+  gives_first part is allowed outcome full Kept given [] old new more is_more holds some none read kept =
       absurd (both_ways more (none holds).0 is_more)
-  gives_first part is allowed outcome full given (fact ∷ rest) old new more is_more holds some none read =
+  gives_first part is allowed outcome full Kept given (fact ∷ rest) old new more is_more holds some none read kept =
       let it = some fact rest holds in
       record {
         fact = fact;
@@ -113,6 +116,7 @@ module _ {R : Type 0} (left : R → Option (List ℕ)) (health : R → Health) (
         holds = it.1;
         read = subst (λ (l : List FactValue). IsReadTo left health pulls origin was part is allowed outcome full l)
             (sym (append_assoc given (fact ∷ []) rest)) read;
+        kept = subst Kept (sym (append_assoc given (fact ∷ []) rest)) kept;
         current = it.2;
         one_more = it.3;
       }

@@ -1,5 +1,5 @@
 -- What a reader gives are the first facts that the bytes state, where the source tells them.
-use Rattle.std.proofs.Common.{◌≡◌, ◌⊎◌, ℕ, ◌-◌, ◌<◌, ◌≤◌, Bool, List, [], ◌∷◌, ◌++◌, length, take, Option, Some, None, Result, Err, inl, inr}
+use Rattle.std.proofs.Common.{◌≡◌, ℕ, ◌-◌, Bool, List, [], ◌∷◌, ◌++◌, length, take, Option, Some, None, Result, Err, inl, inr}
 use Rattle.std.proofs.Common.{refl, sym, ap, subst, ◌∙◌, append-nil, append_assoc, arith}
 use Rattle.std.proofs.KnownBytes.{Consumes-trans}
 use Rattle.std.proofs.lemmas.Bool.{cases_lt}
@@ -166,7 +166,8 @@ module _ {R : Type 0} (left : R → Option (List ℕ)) (health : R → Health) (
   ends_first is result facts (comes_to_end {part = part} {before = before} {allowed = allowed} reading can last end well finishes) =
       reading_first part before allowed facts reading
   ends_first is result facts
-      (is_refused {part = part} next {before = before} {allowed = allowed} {piece = piece} {fault = fault} {facts = given} reading can last some
+      (is_refused {part = part} next {before = before} {allowed = allowed} {piece = piece} {fault = fault} {facts = given} reading can last
+      some
       well feeds) =
       let limits = origin.limits in
       let bytes : List ℕ = origin.front ++ reading.came in

@@ -21,7 +21,8 @@ steps_list old [] = sym (append-nil old)
 steps_list old (fact ∷ facts) = (
   old ++ fact ∷ [],
   refl,
-  subst (λ (l : List FactValue). Steps {S = List FactValue} listing.begins listing.steps (old ++ fact ∷ []) facts l) (append_assoc old (fact ∷ []) facts)
+  subst (λ (l : List FactValue). Steps {S = List FactValue} listing.begins listing.steps (old ++ fact ∷ []) facts l) (append_assoc old
+      (fact ∷ []) facts)
       (steps_list (old ++ fact ∷ []) facts),
 )
 
@@ -91,7 +92,8 @@ module _ (limits : Limits) (before facts : List FactValue) (from to : Option Hea
 
   refuses_lists : {longest : ℕ} {bytes : List ℕ} (whole : BeginsWhole longest bytes to) (fault : SinkFault)
       → RefusesLast {S = Queue} queue_begins queue_steps queue_refuses has_refused whole facts from old fault new
-      → IsListed (RefusesLast {S = List FactValue} listing.begins listing.steps listing.refuses listing.failed whole facts from before fault)
+      → IsListed (RefusesLast {S = List FactValue} listing.begins listing.steps listing.refuses listing.failed whole facts from before
+      fault)
       before new
   refuses_lists whole fault refuses =
       let ran = refuses.ran in
@@ -115,8 +117,10 @@ pub feeds_lists : (limits : Limits) (bytes : List ℕ) (before facts : List Fact
     (Err fault) to) before new
 feeds_lists limits bytes before facts from piece old fault to new filled fed = by fault fed
   where
-    by : (f : PartFault) → Feeds {S = Queue} queue_begins queue_steps queue_refuses has_refused limits bytes facts from piece old (Err f) to new
-        → IsListed (Feeds {S = List FactValue} listing.begins listing.steps listing.refuses listing.failed limits bytes facts from piece before
+    by : (f : PartFault) → Feeds {S = Queue} queue_begins queue_steps queue_refuses has_refused limits bytes facts from piece old (Err f)
+        to new
+        → IsListed (Feeds {S = List FactValue} listing.begins listing.steps listing.refuses listing.failed limits bytes facts from piece
+        before
         (Err f) to) before new
     by faults.OutOfMemory lacks =
         let it = unheld_lists limits before facts (header_of from) (header_of to) old new filled bytes piece lacks.1.0 lacks.1.1 in

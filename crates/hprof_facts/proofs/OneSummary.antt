@@ -15,7 +15,7 @@ use Rattle.hprof_items.specs.Header.{header_bytes}
 use Rattle.hprof_items.specs.RecordBody.{record_body}
 use Rattle.hprof_items.specs.SubRecord.{dump_bytes}
 use Rattle.hprof_stream.specs.declared.summary.PartSummary.{PartSummary}
-use Rattle.hprof_stream.specs.Part.{Stated, all_bytes, all_facts, is_end, IsSummary}
+use Rattle.hprof_stream.specs.Part.{Stated, all_bytes, is_end, IsSummary}
 use Rattle.hprof_stream.specs.Item.{Place, Start, Between, Within, place_in, IsItem, is_fact, is_dump_end, is_dump, is_skipped}
 use Rattle.hprof_stream.specs.Record.{IsFactRecord, IsRecord, states, ends, dumps, skips}
 use Rattle.hprof_stream.proofs.Faults.{item_once}

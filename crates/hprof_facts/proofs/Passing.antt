@@ -18,7 +18,8 @@ module _ {R : Type 0} (left : R → Option (List ℕ)) (health : R → Health) (
       → AdvancesFrom left health pulls origin was given result reader)
       → HasGone count before → HasGone (count + 1) reader
   goes_past count before reader result is advances gone =
-      let next = subst (λ (r : Result Bool PartFault). AdvancesFrom left health pulls origin was gone.0 r reader) is (advances gone.0 gone.1)
+      let next = subst (λ (r : Result Bool PartFault). AdvancesFrom left health pulls origin was gone.0 r reader) is (advances gone.0
+      gone.1)
       in
       let same = gone.2 in
       (gone.0 ++ next.0 ∷ [], next.1, omega (arith, same, length-append gone.0 (next.0 ∷ [])))

@@ -15,7 +15,8 @@ use Rattle.hprof_facts.specs.FactReader.{IsPlacedBy, Origin}
 
 -- what `PartReader::place` answers
 abbrev pub IsPlaceOf : PartReader → Option PartPlace → Type 0
-IsPlaceOf part answer = IfSome answer (λ place. (limits : Limits) (bytes : List ℕ) (facts : List FactValue) → HasRead limits bytes facts part
+IsPlaceOf part answer = IfSome answer (λ place. (limits : Limits) (bytes : List ℕ) (facts : List FactValue)
+    → HasRead limits bytes facts part
     → (front rest : List ℕ) × (bytes ≡ front ++ rest) × IsPlaceBehind limits front facts place)
 
 module _ {R : Type 0} (left : R → Option (List ℕ)) (health : R → Health) (pulls : R → ℕ) (origin : Origin) (was : R) where

@@ -1,10 +1,8 @@
 -- What reading a part comes to is what its bytes come to, where neither memory nor reads, the source or the sink are wanting.
-use Rattle.std.proofs.Common.{◌≡◌, ◌⊎◌, ℕ, ◌<◌, ◌≤◌, Bool, true, false, List, [], ◌++◌, length, take, Option, Some, None, Result, Ok, Err, inl, inr}
-use Rattle.std.proofs.Common.{refl, sym, ap, subst, ◌∙◌, append_assoc, append-nil, arith, is_ok}
+use Rattle.std.proofs.Common.{◌≡◌, ◌⊎◌, ℕ, ◌<◌, ◌≤◌, true, false, List, [], ◌++◌, length, take, Option, Some, Result, Ok, Err, inl, inr}
+use Rattle.std.proofs.Common.{refl, sym, ap, subst, ◌∙◌, append-nil, arith, is_ok}
 use Rattle.std.proofs.lemmas.Bool.{both_ways}
 use Rattle.std.proofs.lemmas.List.{length-append, take-append-le, take_all}
-use Rattle.std.specs.Io.KnownBytes.{Consumes, IsAtEnd}
-use Rattle.hprof_devices.specs.declared.health.Health.{Health}
 use Rattle.hprof_values.specs.declared.ids.IdSize.{IdSize}
 use Rattle.hprof_values.specs.declared.reason.Reason.TheVariants.{Truncated}
 use Rattle.hprof_values.specs.declared.stop.Stop.{Stop}
@@ -14,23 +12,18 @@ use Rattle.hprof_items.specs.FactValue.{FactValue}
 use Rattle.hprof_stream.specs.declared.limits.Limits.{Limits}
 use Rattle.hprof_stream.specs.declared.part_fault.PartFault.{PartFault}
 use Rattle.hprof_stream.specs.declared.part_fault.PartFault.TheVariants as faults
-use Rattle.hprof_stream.specs.declared.sink.SinkFault.{SinkFault}
 use Rattle.hprof_stream.specs.declared.summary.PartSummary.{PartSummary}
 use Rattle.hprof_stream.specs.Part.{IsPart, IsWritten, all_bytes, all_facts}
 use Rattle.hprof_stream.specs.Item.{Found, Place, item_at}
 use Rattle.hprof_stream.specs.Fault.{HasNoFault, HasNoSettledFault, IsFirstFault, StatesSoFar, fault_at, is_settled}
-use Rattle.hprof_stream.specs.Reader.{Feeds, IsSettledFault, RanOver, ReadsPart, header_of}
-use Rattle.hprof_stream.specs.Run.{Run}
+use Rattle.hprof_stream.specs.Reader.{IsSettledFault}
 use Rattle.hprof_stream.proofs.Faults.{first_fault_once, no_fault_no_first, none_stops, splits_once}
-use Rattle.hprof_stream.proofs.FedRuns.{Pulled-consumes, StatesSoFar-read}
 use Rattle.hprof_stream.proofs.Grammar.{items_spelled}
 use Rattle.hprof_stream.proofs.Longer.{longer_input, Splits-more}
 use Rattle.hprof_stream.proofs.Parts.{states_one}
 use Rattle.hprof_stream.proofs.Refusals.{item_stays, item_stays_long}
-use Rattle.hprof_facts.specs.FactReader.{EndsFrom, Origin, comes_to_end, is_refused, reads_are_spent, source_fails}
-use Rattle.hprof_facts.specs.Listing as listing
-use Rattle.hprof_facts.specs.OfBytes.{IsOfBytes, IsResultOf, is_of_bytes}
-use Rattle.hprof_facts.proofs.GivenFirst.{known_all, known_first, known_with, run_listed, taken_first}
+use Rattle.hprof_facts.specs.OfBytes.{IsResultOf}
+use Rattle.hprof_facts.proofs.GivenFirst.{taken_first}
 use Rattle.hprof_facts.proofs.OneSummary.{one_summary}
 
 -- ---- bytes come to one result

@@ -1,5 +1,6 @@
 -- A reader of the facts of a part that is pulled: which facts it has given, and how it ends.
-use Rattle.std.specs.Prelude.{◌≡◌, ℕ, ◌+◌, ◌≤◌, ◌<◌, Bool, true, false, List, [], ◌∷◌, ◌++◌, length, Option, Some, None, Result, Ok, Err}
+use Rattle.std.specs.Prelude.{◌≡◌, ◌⊎◌, ℕ, ◌+◌, ◌≤◌, ◌<◌, Bool, true, false, List, [], ◌∷◌, ◌++◌, length, take, Option, Some, None, Result}
+use Rattle.std.specs.Prelude.{Ok, Err}
 use Rattle.std.specs.Io.KnownBytes.{Consumes, IsAtEnd}
 use Rattle.hprof_values.specs.declared.ids.IdSize.{IdSize}
 use Rattle.hprof_items.specs.FactValue.{FactValue}
@@ -16,7 +17,9 @@ use Rattle.hprof_facts.specs.declared.fact_place.FactPlace.{FactPlace}
 use Rattle.hprof_facts.specs.declared.fact_reader.FactReader.{FactReader}
 use Rattle.hprof_facts.specs.FactPlaces.{IsBehindFacts}
 use Rattle.hprof_facts.specs.Listing as listing
-use Rattle.hprof_facts.specs.Queues.{HasCurrent, Holds, begun_with, given_of, has_refused}
+use Rattle.hprof_facts.specs.OfBytes.{is_of_bytes}
+use Rattle.hprof_facts.specs.Sizes.{StatesUnder}
+use Rattle.hprof_facts.specs.Queues.{HasCurrent, Holds, begun_with, given_of, has_refused, spelled_last}
 
 -- the source that it reads from
 abbrev pub source_of : {R : Type 0} → FactReader R → R
@@ -29,6 +32,10 @@ IsCurrent reader fact = HasCurrent reader.queue fact
 -- the size of the identifiers of the facts that are given
 abbrev pub ids_of : {R : Type 0} → FactReader R → Option IdSize
 ids_of reader = begun_with reader.queue
+
+-- the bytes of the sub-record that states the fact that was given last
+abbrev pub spelled_of : {R : Type 0} → FactReader R → List ℕ
+spelled_of reader = spelled_last reader.queue
 
 -- what the part came to, once it is over and was not refused
 abbrev pub summary_by : Option PartReader → Result PartSummary PartFault → Option PartSummary
@@ -99,7 +106,8 @@ module _ {R : Type 0} (left : R → Option (List ℕ)) (health : R → Health) (
         → Finishes origin.limits (origin.front ++ reading.came) (origin.told ++ facts) (header_of part) result
         → EndsFrom origin was is result facts
     -- a piece came, and the part was refused with it
-    is_refused : {part : PartReader} (next : PartReader) {before : R} {allowed : ℕ} {piece : List ℕ} {fault : PartFault} {facts all : List FactValue}
+    is_refused : {part : PartReader} (next : PartReader) {before : R} {allowed : ℕ} {piece : List ℕ} {fault : PartFault} {facts all : List
+        FactValue}
         → (reading : IsReading origin was part before allowed facts) → 0 < allowed → IsPull left pulls before piece is → 0 < length piece
         → health is ≡ Well
         → Feeds listing.begins listing.steps listing.refuses listing.failed origin.limits (origin.front ++ reading.came)
@@ -139,12 +147,18 @@ module _ {R : Type 0} (left : R → Option (List ℕ)) (health : R → Health) (
 
   -- ---- what was given
 
+  -- where the source tells its bytes, these facts come behind the origin, and the size that was begun is that of the part
+  abbrev pub IsSized : Origin → R → Option IdSize → List FactValue → Type 0
+  IsSized origin was begun facts = (rest : List ℕ) → left was ≡ Some rest
+      → StatesUnder origin.limits.max_item (take origin.limits.max_bytes (origin.front ++ rest)) (origin.told ++ facts) begun
+
   -- of the part that comes from the source, as it was, it has given these facts behind the origin, from the first on
   pub record HasGivenFrom (origin : Origin) (was : R) (given : List FactValue) (reader : FactReader R) : Type 0 where
     pub queued : List FactValue
     pub holds : Holds reader.queue queued
     pub read : IsReadTo origin was reader.part reader.source reader.reads_left reader.outcome (has_refused reader.queue) (given ++ queued)
     pub placed : IsPlacedBy origin was reader.source given reader.before (given_of reader.queue)
+    pub sized : IsSized origin was (begun_with reader.queue) (given ++ queued)
 
   -- the same from the first fact of the part on
   abbrev pub HasGiven : Limits → R → List FactValue → FactReader R → Type 0
@@ -156,6 +170,11 @@ module _ {R : Type 0} (left : R → Option (List ℕ)) (health : R → Health) (
     pub given : HasGivenFrom origin was passed reader
     pub few : length passed ≤ count
     pub over : length passed < count → IsOver reader
+
+  -- it has given these facts; or it is over, and answers a fault that the bytes do not decide
+  abbrev pub HasGivenOrFails : Origin → R → List FactValue → FactReader R → Type 0
+  HasGivenOrFails origin was given reader = HasGivenFrom origin was given reader
+      ⊎ (IsOver reader × ((fault : PartFault) × (answer_of reader ≡ Err fault) × (is_of_bytes fault ≡ false)))
 
   -- it goes on to the fact behind those; or reading the part came to its end, and all facts before that were given
   abbrev pub AdvancesFrom : Origin → R → List FactValue → Result Bool PartFault → FactReader R → Type 0

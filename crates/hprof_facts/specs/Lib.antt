@@ -2,5 +2,6 @@ pub mod Kept
 pub mod Queues
 pub mod Listing
 pub mod FactPlaces
-pub mod FactReader
 pub mod OfBytes
+pub mod Sizes
+pub mod FactReader

@@ -49,9 +49,9 @@ impl<R: Source + Drop> FactReader<R> {
     ghost use Rattle.hprof_stream.specs.Run.{SpellsBegun};
     ghost use Rattle.hprof_facts.specs.declared.fact_place.FactPlace.{FactPlace};
     ghost use Rattle.hprof_facts.specs.FactPlaces.{begins_at, passed_of};
-    ghost use Rattle.hprof_facts.specs.FactReader.{Advances, AdvancesFrom, CanAdvance, HasGiven, HasGivenFrom, HasPassed, IsCurrent, IsOver};
-    ghost use Rattle.hprof_facts.specs.FactReader.{IsPlaced, IsPlacedBy, IsReading, Origin, answer_of, ids_of, reads_to_come, source_of};
-    ghost use Rattle.hprof_facts.specs.FactReader.{summary_of};
+    ghost use Rattle.hprof_facts.specs.FactReader.{Advances, AdvancesFrom, CanAdvance, HasGiven, HasGivenFrom, HasPassed, IsCurrent};
+    ghost use Rattle.hprof_facts.specs.FactReader.{IsOver, IsPlaced, IsPlacedBy, IsReading, Origin, answer_of, ids_of, reads_to_come};
+    ghost use Rattle.hprof_facts.specs.FactReader.{source_of, spelled_of, summary_of};
     ghost use Rattle.hprof_facts.specs.Queues.{Holds, begun_with, given_of, has_refused};
 
     /// Returns a reader of the part that the source gives. It reads nothing yet. If memory runs out, the fault is `OutOfMemory`.
@@ -72,8 +72,8 @@ impl<R: Source + Drop> FactReader<R> {
     /// Returns a reader of the facts behind a place. The source must give the bytes of the part from `place.offset()` on. The reader makes
     /// at most `max_reads` reads.
     ///
-    /// It reads up to the place, and skips the facts before it. If the part ends or is refused before the place, the first `advance` returns
-    /// that. If memory runs out for the reader itself, the fault is `OutOfMemory`.
+    /// It reads up to the place and skips the facts before it. If the part ends or is refused before the place, the first `advance` returns
+    /// so. If memory runs out for the reader itself, the fault is `OutOfMemory`.
     pub fn resume(
         alloc: Global,
         source: R,
@@ -183,7 +183,8 @@ impl<R: Source + Drop> FactReader<R> {
         requires can { CanAdvance R.health self.old }
         requires empty { Holds self.old.queue [] }
         ensures can { CanAdvance R.health self.new }
-        ensures given { (origin : Origin) (was : R) (given : List FactValue) → HasGivenFrom R.left R.health R.pulls origin was given self.old
+        ensures given { (origin : Origin) (was : R) (given : List FactValue)
+            → HasGivenFrom R.left R.health R.pulls origin was given self.old
             → HasGivenFrom R.left R.health R.pulls origin was given self.new }
         ensures less { 0 < reads_to_come self.old → reads_to_come self.new < reads_to_come self.old }
     {
@@ -196,8 +197,8 @@ impl<R: Source + Drop> FactReader<R> {
 
     /// Goes on to the next fact, and returns whether there is one.
     ///
-    /// All facts before a fault are given first. The fault is the one with which `read_part` refuses the part; at the end, or behind a fault,
-    /// the answer stays the same.
+    /// All facts before a fault are given first. The fault is the one with which `read_part` refuses the part. At the end, or behind a
+    /// fault, the answer stays the same.
     pub fn advance(&mut self) -> Result<bool, PartFault>
         requires { CanAdvance R.health self.old }
         ensures can { CanAdvance R.health self.new }
@@ -251,7 +252,8 @@ impl<R: Source + Drop> FactReader<R> {
 
     /// Returns the bytes of the sub-record that states the fact. They are empty for the fact of a record.
     pub fn spelled(&self) -> &[u8]
-        ensures { (fact : FactValue) → IsCurrent self.now fact → SpellsBegun (ids_of self.now) fact result.now }
+        ensures spells { (fact : FactValue) → IsCurrent self.now fact → SpellsBegun (ids_of self.now) fact result.now }
+        ensures is { result.now ≡ spelled_of self.now }
     {
         self.queue.spelled()
     }

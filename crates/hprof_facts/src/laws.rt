@@ -12,24 +12,34 @@ ghost use Rattle.hprof_stream.specs.Part.{IsPart, IsSummary};
 ghost use Rattle.hprof_stream.specs.Fault.{HasNoFault, StatesSoFar};
 ghost use Rattle.hprof_stream.specs.Reader.{ReadsPart};
 ghost use Rattle.hprof_facts.specs.declared.fact_reader.FactReader.{FactReader};
-ghost use Rattle.hprof_facts.specs.FactReader.{Ends, EndsFrom, HasGivenFrom, Origin, start_of};
+ghost use Rattle.hprof_facts.specs.FactReader.{Ends, EndsFrom, HasGivenFrom, HasGivenOrFails, HasPassed, Origin, start_of};
 ghost use Rattle.hprof_facts.specs.OfBytes.{IsOfBytes, IsResultOf, RunBefore, StatesBefore, is_of_bytes};
 
 use hprof_devices::Source;
 use hprof_stream::Sink;
 
-/// A reader that began before the first byte ends as `read_part` does, with a sink that lists the facts.
+/// A reader that began at the first byte ends as `read_part` does with a sink that lists the facts.
 pub fn from_the_start_it_ends_as_read_part<R: Source + Drop>()
     ensures { (limits : Limits) (was is : R) (result : Result PartSummary PartFault) (given : List FactValue)
         → EndsFrom R.left R.health R.pulls (start_of limits) was is result given → Ends R.left R.health R.pulls limits was is result given }
 {}
 
-/// The facts before the place at which a reader began, and those that it has given, are the first facts that the bytes state.
+/// The facts before the place at which a reader began, and then those that it has given, are the first facts that the bytes state.
 pub fn given_facts_are_the_first<R: Source + Drop>()
     ensures { (origin : Origin) (rest : List ℕ) (was : R) (given : List FactValue) (reader : FactReader R) (header : Option Header)
         (all : List FactValue) → R.left was ≡ Some rest → HasGivenFrom R.left R.health R.pulls origin was given reader
         → StatesSoFar origin.limits.max_item (take origin.limits.max_bytes (origin.front ++ rest)) header all
         → (more : List FactValue) × (all ≡ origin.told ++ (given ++ more)) }
+{}
+
+/// If the bytes state the facts before a place, a reader that resumes there has skipped exactly these. Or it fails: memory ran out, there
+/// were too many reads, or the source failed.
+pub fn a_resumed_reader_stands_at_its_place<R: Source + Drop>()
+    ensures { (origin : Origin) (rest : List ℕ) (was : R) (passed others : List FactValue) (reader : FactReader R) (header : Option Header)
+        → R.left was ≡ Some rest → HasPassed R.left R.health R.pulls origin was (length passed) reader
+        → StatesSoFar origin.limits.max_item (take origin.limits.max_bytes (origin.front ++ rest)) header
+        ((origin.told ++ passed) ++ others)
+        → HasGivenOrFails R.left R.health R.pulls origin was passed reader }
 {}
 
 /// Bytes have one result, and state one list of facts before it.
@@ -40,7 +50,7 @@ pub fn bytes_have_one_result()
         → StatesBefore limits bytes result facts → StatesBefore limits bytes result others → facts ≡ others }
 {}
 
-/// A reader that ends by the bytes has their result, and has given all facts before it, from the place on at which it began.
+/// A reader whose result is decided by the bytes has the result of the bytes. It has given all facts before that, from its place on.
 pub fn pulled_by_the_bytes<R: Source + Drop>()
     ensures { (origin : Origin) (rest : List ℕ) (was is : R) (result : Result PartSummary PartFault) (given : List FactValue)
         → R.left was ≡ Some rest → EndsFrom R.left R.health R.pulls origin was is result given → IsOfBytes result
@@ -48,8 +58,8 @@ pub fn pulled_by_the_bytes<R: Source + Drop>()
         × StatesBefore origin.limits (origin.front ++ rest) result (origin.told ++ given) }
 {}
 
-/// A reader of facts and `read_part` agree on the same bytes, if both results are decided by the bytes: the results are equal, and the sink
-/// ran over the facts that the reader gave. For a reader that began at a place, the facts before the place come first.
+/// A reader of facts and `read_part` agree on the same bytes, if the bytes decide both results: the results are equal, and the sink ran
+/// over the facts that the reader gave. If the reader began at a place, the facts before the place come first.
 pub fn pull_and_push_agree<R: Source + Drop, Q: Source, S: Sink>()
     ensures start { (limits : Limits) (bytes : List ℕ) (was is : R) (result : Result PartSummary PartFault) (given : List FactValue)
         (pushed behind : Q) (came : List ℕ) (other : Result PartSummary PartFault) (old new : S)
@@ -66,14 +76,19 @@ pub fn pull_and_push_agree<R: Source + Drop, Q: Source, S: Sink>()
         → (result ≡ other) × RunBefore S.begins S.steps other old (origin.told ++ given) new }
 {}
 
-/// In a part with no fault a reader that begins at a place finds none: it gives the facts behind the place, no fault is one of the bytes, and
-/// at the end all facts were given.
+/// In a part with no fault, a reader that resumes at a place finds none. It skips the facts before the place, gives the facts behind it, in
+/// order, and has given all of them at the end. A fault that it answers is none of the bytes.
 pub fn no_false_alarm_behind_a_place<R: Source + Drop>()
     ensures given { (origin : Origin) (bytes rest : List ℕ) (ids : IdSize) (millis : ℕ) (facts : List FactValue) (was : R)
         (given : List FactValue) (reader : FactReader R) → HasNoFault origin.limits.max_item bytes → length bytes ≤ origin.limits.max_bytes
         → IsPart bytes ids millis facts → bytes ≡ origin.front ++ rest → R.left was ≡ Some rest
         → HasGivenFrom R.left R.health R.pulls origin was given reader
         → (more : List FactValue) × (facts ≡ origin.told ++ (given ++ more)) }
+    ensures passed { (origin : Origin) (bytes rest : List ℕ) (ids : IdSize) (millis : ℕ) (passed others : List FactValue) (was : R)
+        (reader : FactReader R) → HasNoFault origin.limits.max_item bytes → length bytes ≤ origin.limits.max_bytes
+        → IsPart bytes ids millis ((origin.told ++ passed) ++ others) → bytes ≡ origin.front ++ rest → R.left was ≡ Some rest
+        → HasPassed R.left R.health R.pulls origin was (length passed) reader
+        → HasGivenOrFails R.left R.health R.pulls origin was passed reader }
     ensures faults { (origin : Origin) (bytes rest : List ℕ) (ids : IdSize) (millis : ℕ) (facts : List FactValue) (was is : R)
         (given : List FactValue) (fault : PartFault) → HasNoFault origin.limits.max_item bytes → length bytes ≤ origin.limits.max_bytes
         → IsPart bytes ids millis facts → bytes ≡ origin.front ++ rest → R.left was ≡ Some rest

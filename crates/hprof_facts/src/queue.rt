@@ -1,6 +1,7 @@
 //! The queue of the facts of one piece.
 
-ghost use Rattle.std.specs.Prelude.{◌≡◌, ◌∷◌, ◌++◌, ◌<◌, ◌≤◌, ◌-◌, ◌+◌, ℕ, List, [], length, take, drop, slice_get, Some, Err, true, false, OnOk, OnErr};
+ghost use Rattle.std.specs.Prelude.{◌≡◌, ◌∷◌, ◌++◌, ◌<◌, ◌≤◌, ◌-◌, ◌+◌, ℕ, List, [], length, take, drop, slice_get, Some, Err, true, false};
+ghost use Rattle.std.specs.Prelude.{OnOk, OnErr};
 ghost use Rattle.hprof_items.specs.FactValue.{FactValue, ListsHave, value_of};
 ghost use Rattle.hprof_facts.specs.Kept.{Keeps};
 
@@ -27,7 +28,7 @@ impl Queue {
     ghost use Rattle.hprof_stream.specs.Run.{SpellsBegun};
     ghost use Rattle.hprof_stream.specs.declared.sink.SinkFault.{SinkFault};
     ghost use Rattle.hprof_facts.specs.declared.kept.Slot.{Slot};
-    ghost use Rattle.hprof_facts.specs.Queues.{Holds, HasCurrent, has_refused, begun_with, given_of};
+    ghost use Rattle.hprof_facts.specs.Queues.{Holds, HasCurrent, has_refused, begun_with, given_of, held_at, last_slot, spelled_last};
 
     /// Returns a queue that keeps nothing, begun with a size of identifiers, if there is one. It takes no memory yet.
     pub(crate) fn new(alloc: Global, begun: Option<IdSize>) -> Self
@@ -126,8 +127,7 @@ impl Queue {
     /// Returns the slot of the fact that was given last.
     #[inline(always)]
     fn last(&self) -> Option<&Slot>
-        ensures { (slot : Slot) → 0 < self.now.given → slice_get self.now.slots.items (self.now.given - 1) ≡ Some slot
-            → option_map (λ one. one.now) result ≡ Some slot }
+        ensures { option_map (λ one. one.now) result ≡ last_slot self.now }
     {
         self.slots.get(self.given.checked_sub(1)?)
     }
@@ -135,8 +135,7 @@ impl Queue {
     /// Returns the bytes that are kept in a slot.
     #[inline(always)]
     fn bytes_of(&self, slot: &Slot) -> Option<&[u8]>
-        ensures { slot.now.at + slot.now.len ≤ length self.now.bytes.items
-            → option_map (λ bytes. bytes.now) result ≡ Some (take slot.now.len (drop slot.now.at self.now.bytes.items)) }
+        ensures { option_map (λ bytes. bytes.now) result ≡ held_at self.now.bytes.items slot.now }
     {
         let (_, behind) = self.bytes.split_at_checked(slot.at)?;
         let (bytes, _) = behind.split_at_checked(slot.len)?;
@@ -145,7 +144,7 @@ impl Queue {
 
     /// Returns the bytes of the sub-record that states the fact that was given last. They are empty for the fact of a record.
     pub(crate) fn spelled(&self) -> &[u8]
-        ensures { (fact : FactValue) → HasCurrent self.now fact → SpellsBegun (begun_with self.now) fact result.now }
+        ensures { result.now ≡ spelled_last self.now }
     {
         match self.last() {
             Some(slot) if slot.form == Form::Spelled => self.bytes_of(slot).unwrap_or(&[]),

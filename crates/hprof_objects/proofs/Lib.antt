@@ -7,3 +7,5 @@ mod Spilled
 mod Logged
 mod Parts
 mod Settled
+mod ReadingAgain
+mod StretchCursors

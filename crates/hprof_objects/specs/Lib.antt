@@ -7,3 +7,6 @@ pub mod Whole
 pub mod Store
 pub mod Reserved
 pub mod Log
+pub mod ReadAgain
+pub mod StretchFault
+pub mod StretchCursor

@@ -19,5 +19,6 @@ returns-in-Some-clause-given g c = λ origin was given has.
     let now = reading.0 in
     let gave = Pulled-consumes left pulls was now.came now.turns its.source now.pulled in
     c.read_piece.ensures.given origin was given now (c.clear.ensures.failed ∙ reading.1) c.clear.ensures.given
-    (placed_now left health pulls origin was c.in-Some.part its.source now.came given c.place-self.result gave now.read c.place-self.ensures.some
+    (placed_now left health pulls origin was c.in-Some.part its.source now.came given c.place-self.result gave now.read
+    c.place-self.ensures.some
     c.place-self.ensures.behind)

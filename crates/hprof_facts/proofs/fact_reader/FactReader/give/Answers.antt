@@ -1,9 +1,10 @@
-use Rattle.std.proofs.Common.{◌≡◌, ◌++◌, Bool, List, [], None, Result, subst, sym}
+use Rattle.std.proofs.Common.{◌≡◌, ◌++◌, Bool, List, [], Option, None, Result, subst, sym}
+use Rattle.hprof_values.specs.declared.ids.IdSize.{IdSize}
 use Rattle.hprof_items.specs.FactValue.{FactValue}
 use Rattle.hprof_stream.specs.declared.part_fault.PartFault.{PartFault}
 use Rattle.hprof_stream.specs.declared.summary.PartSummary.{PartSummary}
-use Rattle.hprof_facts.specs.FactReader.{EndsFrom, HasGivenFrom, IsReadTo}
-use Rattle.hprof_facts.specs.Queues.{Holds, given_of, has_refused}
+use Rattle.hprof_facts.specs.FactReader.{EndsFrom, HasGivenFrom, IsReadTo, IsSized}
+use Rattle.hprof_facts.specs.Queues.{Holds, begun_with, given_of, has_refused}
 use Rattle.hprof_facts.specs.declared.queue.Queue.{Queue}
 use Rattle.hprof_facts.proofs.Given.{gives_first, none_queued, over_ends, over_summary}
 use Rattle.hprof_facts.proofs.Placed.{placed_past}
@@ -17,8 +18,11 @@ returns-then-step-clause-from g c = λ origin was given has.
     let pulls = g.R.Source.pulls in
     let read = subst (λ (r : Bool). IsReadTo left health pulls origin was its.part its.source its.reads_left its.outcome r
     (given ++ has.queued)) (sym c.step.ensures.failed) has.read in
-    let it = gives_first left health pulls origin was its.part its.source its.reads_left its.outcome (has_refused c.step.new.self) given
-    has.queued its.queue c.step.new.self c.step.result c.if-step.true has.holds c.step.ensures.some c.step.ensures.none read in (
+    let sized = subst (λ (b : Option IdSize). IsSized left health pulls origin was b (given ++ has.queued)) (sym c.step.ensures.begun)
+    has.sized in
+    let it = gives_first left health pulls origin was its.part its.source its.reads_left its.outcome (has_refused c.step.new.self)
+    (IsSized left health pulls origin was (begun_with c.step.new.self)) given has.queued its.queue c.step.new.self c.step.result
+    c.if-step.true has.holds c.step.ensures.some c.step.ensures.none read sized in (
       it.fact,
       record {
         queued = it.rest;
@@ -26,6 +30,7 @@ returns-then-step-clause-from g c = λ origin was given has.
         read = it.read;
         placed = placed_past left health pulls origin was its.source given it.fact its.before (given_of its.queue)
             (given_of c.step.new.self) it.one_more has.placed;
+        sized = it.kept;
       },
       it.current,
     )

@@ -4,14 +4,16 @@ use Rattle.std.proofs.Math.Seq.{take-append_seam}
 use Rattle.std.proofs.lemmas.List.{length-take-le}
 use Rattle.std.specs.Io.KnownBytes.{Consumes}
 use Rattle.hprof_items.specs.FactValue.{FactValue}
-use Rattle.hprof_stream.specs.Reader.{Feeds, HasRead, header_of}
+use Rattle.hprof_stream.specs.Reader.{Feeds, HasRead, IsPull, header_of}
 use Rattle.hprof_stream.specs.Run.{became}
 use Rattle.hprof_stream.specs.declared.part_fault.PartFault.TheVariants as faults
 use Rattle.hprof_facts.specs.FactReader.{IsReading, comes_to_end, reads_are_spent, source_fails}
-use Rattle.hprof_facts.specs.Queues.{given_of, has_refused, queue_begins, queue_refuses, queue_steps}
+use Rattle.hprof_facts.specs.Queues.{begun_with, given_of, has_refused, queue_begins, queue_refuses, queue_steps}
+use Rattle.hprof_facts.specs.declared.queue.Queue.{Queue}
 use Rattle.hprof_facts.proofs.Given.{ends_refused, read_over, read_over_none, reading_on}
-use Rattle.hprof_facts.proofs.Listed.{run_holds}
+use Rattle.hprof_facts.proofs.Listed.{IsFilled, run_holds}
 use Rattle.hprof_facts.proofs.Placed.{placed_on, placed_same}
+use Rattle.hprof_facts.proofs.Sizes.{reading_sized, sized_none, sized_refused}
 use Rattle.hprof_facts.proofs.fact_reader.FactReader.read_piece.Goals as goal
 
 pub returns-then-self-eq0-clause-given : goal.returns-then-self-eq0-clause-given
@@ -27,6 +29,8 @@ returns-then-self-eq0-clause-given g c = λ origin was facts reading sound none 
       read = read_over_none left health pulls origin was its.part its.source its.reads_left (Err faults.ReadsExceeded)
           (has_refused its.queue) facts c.requires.none (reads_are_spent spent c.requires.well);
       placed = placed_same left health pulls origin was its.source facts its.before (given_of its.queue) none placed;
+      sized = sized_none left health pulls origin was c.args.part its.source its.reads_left facts (begun_with its.queue) reading
+          c.requires.ready;
     }
 
 pub returns-in_default-clause-given : goal.returns-in_default-clause-given
@@ -48,6 +52,8 @@ returns-in_default-clause-given g c = λ origin was facts reading sound none pla
           c.in_default.ensures.health);
       placed = placed_on left health pulls origin was its.source c.pull.new.self [] facts its.before (given_of its.queue) nothing
           (placed_same left health pulls origin was its.source facts its.before (given_of its.queue) none placed);
+      sized = sized_none left health pulls origin was c.args.part its.source its.reads_left facts (begun_with its.queue) reading
+          c.requires.ready;
     }
 
 pub returns-then-count-eq0-clause-given : goal.returns-then-count-eq0-clause-given
@@ -74,6 +80,8 @@ returns-then-count-eq0-clause-given g c = λ origin was facts reading sound none
           (c.finish-self.ensures.finished origin.limits (origin.front ++ reading.came) (origin.told ++ facts) reading.read));
       placed = placed_on left health pulls origin was its.source c.pull.new.self [] facts its.before (given_of its.queue) nothing
           (placed_same left health pulls origin was its.source facts its.before (given_of its.queue) none placed);
+      sized = sized_none left health pulls origin was c.args.part its.source its.reads_left facts (begun_with its.queue) reading
+          c.requires.ready;
     }
 
 whole : (len : ℕ) (bytes rest : List ℕ) → len ≡ length bytes → take len (bytes ++ rest) ≡ bytes
@@ -114,20 +122,20 @@ returns-in-Ok-feed-clause-given g c = λ origin was facts reading sound none pla
     (record { sound = sound; holds = c.requires.empty; none = none }) fed.2 in
     let more = c.if-self-eq0.false in
     let one_more : its.reads_left ≡ its.reads_left - 1 + 1 = omega (arith, more) in
+    let now = reading_on left health pulls origin was c.args.part c.feed.new.self its.source c.pull.new.self its.reads_left
+    (its.reads_left - 1) facts fed.0 (take c.in-Ok.count piece) one_more
+    (record { gave = c.in-Ok.ensures.bytes; one = c.in-Ok.ensures.pulls; few = few }) some reading
+    (subst (λ (l : List ℕ). HasRead origin.limits (bytes ++ take c.in-Ok.count l) (told ++ fed.0) c.feed.new.self)
+    (c.deref.ensures.value ∙ back) fed.1) in
     record {
       queued = fed.0;
       holds = held.holds;
-      read = (
-        reading_on left health pulls origin was c.args.part c.feed.new.self its.source c.pull.new.self its.reads_left
-            (its.reads_left - 1) facts fed.0 (take c.in-Ok.count piece) one_more
-            (record { gave = c.in-Ok.ensures.bytes; one = c.in-Ok.ensures.pulls; few = few }) some reading
-            (subst (λ (l : List ℕ). HasRead origin.limits (bytes ++ take c.in-Ok.count l) (told ++ fed.0) c.feed.new.self)
-            (c.deref.ensures.value ∙ back) fed.1),
-        held.sound,
-      );
+      read = (now, held.sound);
       placed = placed_on left health pulls origin was its.source c.pull.new.self (take c.in-Ok.count piece) facts its.before
           (given_of c.feed.new.sink) c.in-Ok.ensures.bytes
           (placed_same left health pulls origin was its.source facts its.before (given_of c.feed.new.sink) held.none placed);
+      sized = reading_sized left health pulls origin was c.feed.new.self c.pull.new.self (its.reads_left - 1) (facts ++ fed.0)
+          (begun_with c.feed.new.sink) now c.in-Ok-feed.ensures.ready;
     }
 
 pub returns-in-Err-clause-given : goal.returns-in-Err-clause-given
@@ -147,13 +155,17 @@ returns-in-Err-clause-given g c = λ origin was facts reading sound none placed.
     whole its.piece.len piece (drop (length piece) its.piece.items) all in
     let more = c.if-self-eq0.false in
     let can : 0 < its.reads_left = omega (arith, more) in
-    let ends = ends_refused left health pulls origin was c.args.part c.feed.new.self its.source c.pull.new.self its.reads_left facts
-    (take c.in-Ok.count piece) c.in-Err.fault its.queue c.feed.new.sink
-    (record { gave = c.in-Ok.ensures.bytes; one = c.in-Ok.ensures.pulls; few = few }) some c.in-Ok.ensures.health
-    (record { sound = sound; holds = c.requires.empty; none = none })
-    (λ bytes others read. subst (λ (l : List ℕ). Feeds queue_begins queue_steps queue_refuses has_refused origin.limits bytes others
+    let filled : IsFilled [] its.queue = record { sound = sound; holds = c.requires.empty; none = none } in
+    let last : IsPull left pulls its.source (take c.in-Ok.count piece) c.pull.new.self =
+    record { gave = c.in-Ok.ensures.bytes; one = c.in-Ok.ensures.pulls; few = few } in
+    let feeds : (bytes : List ℕ) (others : List FactValue) → HasRead origin.limits bytes others c.args.part
+    → Feeds {S = Queue} queue_begins queue_steps queue_refuses has_refused origin.limits bytes others c.args.part (take c.in-Ok.count piece)
+    its.queue (Err c.in-Err.fault) c.feed.new.self c.feed.new.sink =
+    λ bytes others read. subst (λ (l : List ℕ). Feeds queue_begins queue_steps queue_refuses has_refused origin.limits bytes others
     c.args.part (take c.in-Ok.count l) its.queue (Err c.in-Err.fault) c.feed.new.self c.feed.new.sink) (c.deref.ensures.value ∙ back)
-    (c.in-Err.ensures.fed origin.limits bytes others read)) reading can in
+    (c.in-Err.ensures.fed origin.limits bytes others read) in
+    let ends = ends_refused left health pulls origin was c.args.part c.feed.new.self its.source c.pull.new.self its.reads_left facts
+    (take c.in-Ok.count piece) c.in-Err.fault its.queue c.feed.new.sink last some c.in-Ok.ensures.health filled feeds reading can in
     record {
       queued = ends.handed;
       holds = ends.holds;
@@ -162,4 +174,7 @@ returns-in-Err-clause-given g c = λ origin was facts reading sound none placed.
       placed = placed_on left health pulls origin was its.source c.pull.new.self (take c.in-Ok.count piece) facts its.before
           (given_of c.feed.new.sink) c.in-Ok.ensures.bytes
           (placed_same left health pulls origin was its.source facts its.before (given_of c.feed.new.sink) ends.none placed);
+      sized = sized_refused left health pulls origin was c.args.part c.feed.new.self its.source c.pull.new.self its.reads_left facts
+          ends.handed (take c.in-Ok.count piece) c.in-Err.fault its.queue c.feed.new.sink last filled c.requires.ready
+          c.in-Err.ensures.kept feeds ends.holds reading;
     }
