@@ -1,0 +1,3 @@
+pub mod Handing
+pub mod Pieces
+pub mod Parts

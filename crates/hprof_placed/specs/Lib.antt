@@ -1,0 +1,2 @@
+pub mod Handed
+pub mod Reading

@@ -1,0 +1,56 @@
+-- Reading a part into a sink that is told places of it.
+use Rattle.std.specs.Prelude.{◌≡◌, ℕ, ◌≤◌, Bool, List, [], ◌++◌, length, Option, None, Result, Ok, Err}
+use Rattle.std.specs.Io.KnownBytes.{IsAtEnd}
+use Rattle.hprof_items.specs.declared.header.Header.{Header}
+use Rattle.hprof_items.specs.FactValue.{FactValue}
+use Rattle.hprof_devices.specs.declared.health.Health.{Health}
+use Rattle.hprof_devices.specs.declared.health.Health.TheVariants as healths
+use Rattle.hprof_stream.specs.declared.limits.Limits.{Limits}
+use Rattle.hprof_stream.specs.declared.part_fault.PartFault.{PartFault}
+use Rattle.hprof_stream.specs.declared.part_fault.PartFault.TheVariants as faults
+use Rattle.hprof_stream.specs.declared.part_reader.PartReader.{PartReader}
+use Rattle.hprof_stream.specs.declared.sink.SinkFault.{SinkFault}
+use Rattle.hprof_stream.specs.declared.summary.PartSummary.{PartSummary}
+use Rattle.hprof_stream.specs.Reader.{HasRead, PulledOut, ReadsPart, header_of}
+use Rattle.hprof_stream.specs.Walking.{Refuses}
+use Rattle.hprof_placed.specs.Handed.{Handed, nothing_handed}
+use Rattle.hprof_placed.specs.Handed as listing
+
+module _ {S : Type 0} (holds : S → Limits → Option Header → List ℕ → List FactValue → Type 0) where
+  -- of these bytes the sink holds all but the last piece, with this header and these facts
+  pub record HoldsFront (limits : Limits) (came : List ℕ) (header : Option Header) (facts : List FactValue) (sink : S) : Type 0 where
+    pub before : List ℕ
+    pub piece : List ℕ
+    pub parts : came ≡ before ++ piece
+    pub few : length piece ≤ 65536
+    pub held : holds sink limits header before facts
+
+module _ {S : Type 0} (holds : S → Limits → Option Header → List ℕ → List FactValue → Type 0) (refuses : S → List FactValue → SinkFault
+    → S → Type 0) (failed : S → Bool) where
+  -- the sink holds what was handed to it where reading came to that result; or it held that, and refused the header or the fact that
+  -- came then
+  abbrev pub HoldsHanded : Limits → List ℕ → Result PartSummary PartFault → Handed → S → Type 0
+  HoldsHanded limits came (Err (faults.Sink fault)) handed new =
+      (mid : S) × HoldsFront holds limits came handed.header handed.facts mid × Refuses refuses failed mid handed.refused fault new
+  HoldsHanded limits came result handed new = HoldsFront holds limits came handed.header handed.facts new
+
+module _ {R : Type 0} (left : R → Option (List ℕ)) (health : R → Health) (pulls : R → ℕ)
+    {S : Type 0} (holds : S → Limits → Option Header → List ℕ → List FactValue → Type 0) (refuses : S → List FactValue → SinkFault
+    → S → Type 0) (failed : S → Bool) where
+  -- what reading a part to its end comes to, where these bytes came from a source: what it comes to for a sink that lists what it is
+  -- handed, and a sink that held no byte of a part holds just that
+  --   was, is: the source, before and afterwards
+  abbrev pub ReadsPlaced : Limits → R → List ℕ → R → S → Result PartSummary PartFault → S → Type 0
+  ReadsPlaced limits was came is old result new =
+      (handed : Handed)
+      × ReadsPart left health pulls listing.begins listing.steps listing.refuses listing.failed limits was came is nothing_handed result
+      handed
+      × (holds old limits None [] [] → HoldsHanded holds refuses failed limits came result handed new)
+
+  -- feeding a new reader all pieces of a source
+  abbrev pub FeedsPlaced : Limits → R → List ℕ → R → S → Result (Unit {0}) PartFault → PartReader → S → Type 0
+  FeedsPlaced limits was came is old (Ok _) to new =
+      PulledOut left pulls limits was came is × IsAtEnd (left is) × (health is ≡ healths.Well)
+      × ((facts : List FactValue) × HasRead limits came facts to
+      × (holds old limits None [] [] → HoldsFront holds limits came (header_of to) facts new))
+  FeedsPlaced limits was came is old (Err fault) to new = ReadsPlaced limits was came is old (Err fault) new

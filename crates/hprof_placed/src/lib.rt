@@ -1,0 +1,8 @@
+//! Reads a part of a heap dump into a sink that is told places of the part while it is read, so that some of it can be read again later.
+#![tactic(auto)]
+
+mod placed_sink;
+mod reading;
+
+pub use placed_sink::PlacedSink;
+pub use reading::read_placed;
