@@ -1,3 +1,4 @@
 pub mod Handing
 pub mod Pieces
 pub mod Parts
+pub mod Listing

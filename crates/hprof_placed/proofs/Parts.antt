@@ -1,5 +1,5 @@
 -- Reading a part into a sink that is told places: what the reader was fed so far, and what that comes to.
-use Rattle.std.proofs.Common.{◌≡◌, ℕ, Bool, true, false, ◌+◌, ◌≤◌, ◌<◌, List, [], ◌∷◌, ◌++◌, length, take, Option, Some, None, Result, Ok}
+use Rattle.std.proofs.Common.{◌≡◌, ℕ, Bool, true, false, ◌+◌, ◌<◌, List, [], ◌∷◌, ◌++◌, length, take, Option, Some, None, Result, Ok}
 use Rattle.std.proofs.Common.{Err, IfOk, inl, inr, refl, sym, subst, append-nil, arith}
 use Rattle.std.proofs.KnownBytes.{Consumes-nil, Consumes-trans}
 use Rattle.std.specs.Io.KnownBytes.{Consumes, IsAtEnd}
@@ -17,7 +17,7 @@ use Rattle.hprof_stream.specs.declared.sink.SinkFault.{SinkFault}
 use Rattle.hprof_stream.specs.declared.summary.PartSummary.{PartSummary}
 use Rattle.hprof_stream.specs.Run.{Run}
 use Rattle.hprof_stream.specs.Walking.{IsBegun}
-use Rattle.hprof_stream.specs.Reader.{CameLast, Feeds, Finishes, HasRead, IsPull, IsReady, IsSettledFault, Pulled, PulledOut, RanOver, ReadsPart}
+use Rattle.hprof_stream.specs.Reader.{CameLast, Feeds, Finishes, HasRead, IsPull, IsReady, IsSettledFault, Pulled, RanOver}
 use Rattle.hprof_stream.specs.Reader.{header_of, none, once_more}
 use Rattle.hprof_stream.proofs.FedRuns.{CameLast-read, IsAcceptedSoFar-read, Pulled-consumes, RanOver-from, RanOver-read, RanOver-taken}
 use Rattle.hprof_stream.proofs.FedRuns.{RefusesLast-from, no_header_no_fact}
@@ -26,23 +26,17 @@ use Rattle.hprof_stream.proofs.Sources.{ReadsPart-finished}
 use Rattle.hprof_facts.proofs.Judged.{no_other}
 use Rattle.hprof_placed.specs.Handed.{Handed, handed_so, nothing_handed}
 use Rattle.hprof_placed.specs.Handed as listing
-use Rattle.hprof_placed.specs.Reading.{FeedsPlaced, HoldsFront, HoldsHanded, ReadsPlaced}
+use Rattle.hprof_placed.specs.Reading.{FeedsPlaced, HoldsFront, HoldsHanded, ListsPart, ReadsPlaced}
 use Rattle.hprof_placed.proofs.Handing.{hands_run}
 use Rattle.hprof_placed.proofs.Pieces.{feeds_hands, holds_fed}
 
 -- ---- a piece that was refused, for a sink that lists
 
 module _ {R : Type 0} (left : R → Option (List ℕ)) (health : R → Health) (pulls : R → ℕ) where
-  -- what reading comes to for a sink that lists
-  abbrev pub Lists : Limits → R → List ℕ → R → Result PartSummary PartFault → Handed → Type 0
-  Lists limits was came is result handed =
-      ReadsPart left health pulls {S = Handed} listing.begins listing.steps listing.refuses listing.failed limits was came is nothing_handed
-      result handed
-
   settled_ends : (limits : Limits) (was : R) (came : List ℕ) (is : R) (header : Option Header) (handed : Handed) (fault : PartFault)
       → CameLast left pulls limits was came is → health is ≡ healths.Well → IsSettledFault limits came fault
       → RanOver {S = Handed} listing.begins listing.steps limits.max_item (take limits.max_bytes came) [] None header nothing_handed handed
-      → Lists limits was came is (Err fault) handed
+      → ListsPart left health pulls limits was came is (Err fault) handed
   settled_ends limits was came is header handed (faults.Malformed at Truncated) last well why over = let no : false ≡ true = why.1 in absurd cc
   settled_ends limits was came is header handed faults.OutOfMemory last well why over =
       absurd (no_other limits came faults.OutOfMemory refl why)
@@ -62,7 +56,7 @@ module _ {R : Type 0} (left : R → Option (List ℕ)) (health : R → Health) (
       → Pulled left pulls was bytes count before → IsPull left pulls before piece is → 0 < length piece → count < limits.max_reads
       → Feeds {S = Handed} listing.begins listing.steps listing.refuses listing.failed limits bytes facts from piece
       (handed_so (header_of from) facts) (Err fault) to handed
-      → Lists limits was (bytes ++ piece) is (Err fault) handed
+      → ListsPart left health pulls limits was (bytes ++ piece) is (Err fault) handed
   unfolding CameLast-read RanOver-read
   refused_ends limits bytes facts from to piece count was before is handed fault well read stays pulled one some allowed fed = by fault fed
     where
@@ -81,7 +75,7 @@ module _ {R : Type 0} (left : R → Option (List ℕ)) (health : R → Health) (
       by : (f : PartFault)
           → Feeds {S = Handed} listing.begins listing.steps listing.refuses listing.failed limits bytes facts from piece
           (handed_so (header_of from) facts) (Err f) to handed
-          → Lists limits was (bytes ++ piece) is (Err f) handed
+          → ListsPart left health pulls limits was (bytes ++ piece) is (Err f) handed
       by faults.OutOfMemory lacks = (
         (well, inr (last, lacks.1.0)),
         record {

@@ -34,17 +34,21 @@ module _ {S : Type 0} (holds : S → Limits → Option Header → List ℕ → L
       (mid : S) × HoldsFront holds limits came handed.header handed.facts mid × Refuses refuses failed mid handed.refused fault new
   HoldsHanded limits came result handed new = HoldsFront holds limits came handed.header handed.facts new
 
+module _ {R : Type 0} (left : R → Option (List ℕ)) (health : R → Health) (pulls : R → ℕ) where
+  -- what reading a part to its end comes to for a sink that lists what it is handed, by the definition of `read_part`
+  abbrev pub ListsPart : Limits → R → List ℕ → R → Result PartSummary PartFault → Handed → Type 0
+  ListsPart limits was came is result handed =
+      ReadsPart left health pulls listing.begins listing.steps listing.refuses listing.failed limits was came is nothing_handed result handed
+
 module _ {R : Type 0} (left : R → Option (List ℕ)) (health : R → Health) (pulls : R → ℕ)
     {S : Type 0} (holds : S → Limits → Option Header → List ℕ → List FactValue → Type 0) (refuses : S → List FactValue → SinkFault
     → S → Type 0) (failed : S → Bool) where
   -- what reading a part to its end comes to, where these bytes came from a source: what it comes to for a sink that lists what it is
-  -- handed, and a sink that held no byte of a part holds just that
+  -- handed, and a sink that held nothing of the part holds just that
   --   was, is: the source, before and afterwards
   abbrev pub ReadsPlaced : Limits → R → List ℕ → R → S → Result PartSummary PartFault → S → Type 0
   ReadsPlaced limits was came is old result new =
-      (handed : Handed)
-      × ReadsPart left health pulls listing.begins listing.steps listing.refuses listing.failed limits was came is nothing_handed result
-      handed
+      (handed : Handed) × ListsPart left health pulls limits was came is result handed
       × (holds old limits None [] [] → HoldsHanded holds refuses failed limits came result handed new)
 
   -- feeding a new reader all pieces of a source

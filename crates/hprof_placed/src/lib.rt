@@ -1,6 +1,7 @@
 //! Reads a part of a heap dump into a sink that is told places of the part while it is read, so that some of it can be read again later.
 #![tactic(auto)]
 
+pub mod laws;
 mod placed_sink;
 mod reading;
 

@@ -1,0 +1,32 @@
+//! Laws of the definitions. The contract of each function is a theorem; its body is empty.
+
+ghost use Rattle.std.specs.Prelude.{◌≡◌, ℕ, true, List, take, Option, Some, Ok, Err};
+ghost use Rattle.hprof_items.specs.declared.header.Header.{Header};
+ghost use Rattle.hprof_items.specs.FactValue.{FactValue};
+ghost use Rattle.hprof_stream.specs.declared.limits.Limits.{Limits};
+ghost use Rattle.hprof_stream.specs.declared.part_fault.PartFault.{PartFault};
+ghost use Rattle.hprof_stream.specs.declared.part_fault.PartFault.TheVariants.{Sink};
+ghost use Rattle.hprof_stream.specs.declared.sink.SinkFault.{SinkFault};
+ghost use Rattle.hprof_stream.specs.declared.summary.PartSummary.{PartSummary};
+ghost use Rattle.hprof_stream.specs.Fault.{StatesSoFar};
+ghost use Rattle.hprof_stream.specs.Part.{IsPart};
+ghost use Rattle.hprof_placed.specs.Handed.{Handed, IsUpTo, handed_so, is_of_input};
+ghost use Rattle.hprof_placed.specs.Reading.{ListsPart};
+
+use hprof_devices::Source;
+
+/// A sink was handed the header and all facts of a part that is read to its end; all that the bytes state before a fault of the bytes, the
+/// source or the limits; or all before the item that it refused.
+pub fn what_a_sink_is_handed<R: Source>()
+    ensures whole { (limits : Limits) (was is : R) (came : List ℕ) (summary : PartSummary) (handed : Handed)
+        → ListsPart R.left R.health R.pulls limits was came is (Ok summary) handed
+        → (facts : List FactValue) × (handed ≡ handed_so (Some summary.header) facts)
+        × IsPart came summary.header.ids summary.header.millis facts }
+    ensures fault { (limits : Limits) (was is : R) (came : List ℕ) (fault : PartFault) (handed : Handed)
+        → ListsPart R.left R.health R.pulls limits was came is (Err fault) handed → is_of_input fault ≡ true
+        → (header : Option Header) × ((facts : List FactValue) × (handed ≡ handed_so header facts)
+        × StatesSoFar limits.max_item (take limits.max_bytes came) header facts) }
+    ensures refused { (limits : Limits) (was is : R) (came : List ℕ) (fault : SinkFault) (handed : Handed)
+        → (reads : ListsPart R.left R.health R.pulls limits was came is (Err (Sink fault)) handed)
+        → IsUpTo reads.0.1.whole handed }
+{}
