@@ -2,3 +2,4 @@ pub mod Handing
 pub mod Pieces
 pub mod Parts
 pub mod Listing
+pub mod Lasting

@@ -43,24 +43,24 @@ up_to whole fault handed last =
     }
 
 module _ {R : Type 0} (left : R → Option (List ℕ)) (health : R → Health) (pulls : R → ℕ) (limits : Limits) (was is : R) (came : List ℕ)
-    where
-  pub handed_whole : (summary : PartSummary) (handed : Handed) → ListsPart left health pulls limits was came is (Ok summary) handed
-      → (facts : List FactValue) × (handed ≡ handed_so (Some summary.header) facts)
-      × IsPart came summary.header.ids summary.header.millis facts
-  handed_whole summary handed reads =
-      let stated = reads.6 in (stated.0, run_hands (Some summary.header) stated.0 handed stated.2, stated.1)
+  where
+    pub handed_whole : (summary : PartSummary) (handed : Handed) → ListsPart left health pulls limits was came is (Ok summary) handed
+        → (facts : List FactValue) × (handed ≡ handed_so (Some summary.header) facts)
+        × IsPart came summary.header.ids summary.header.millis facts
+    handed_whole summary handed reads =
+        let stated = reads.6 in (stated.0, run_hands (Some summary.header) stated.0 handed stated.2, stated.1)
 
-  pub handed_before : (fault : PartFault) (handed : Handed) → ListsPart left health pulls limits was came is (Err fault) handed
-      → is_of_input fault ≡ true → StatesHanded limits came handed
-  handed_before (faults.Malformed at reason) handed reads of_input = ran_over limits came handed reads.1
-  handed_before (faults.ItemTooLong at) handed reads of_input = ran_over limits came handed reads.1
-  handed_before faults.OutOfMemory handed reads of_input = absurd cc
-  handed_before (faults.Sink fault) handed reads of_input = absurd cc
-  handed_before faults.Failed handed reads of_input = absurd cc
-  handed_before faults.Read handed reads of_input = ran_over limits came handed reads.1
-  handed_before faults.ReadsExceeded handed reads of_input = ran_over limits came handed reads.1
-  handed_before faults.BytesExceeded handed reads of_input = ran_over limits came handed reads.1
+    pub handed_before : (fault : PartFault) (handed : Handed) → ListsPart left health pulls limits was came is (Err fault) handed
+        → is_of_input fault ≡ true → StatesHanded limits came handed
+    handed_before (faults.Malformed at reason) handed reads of_input = ran_over limits came handed reads.1
+    handed_before (faults.ItemTooLong at) handed reads of_input = ran_over limits came handed reads.1
+    handed_before faults.OutOfMemory handed reads of_input = absurd cc
+    handed_before (faults.Sink fault) handed reads of_input = absurd cc
+    handed_before faults.Failed handed reads of_input = absurd cc
+    handed_before faults.Read handed reads of_input = ran_over limits came handed reads.1
+    handed_before faults.ReadsExceeded handed reads of_input = ran_over limits came handed reads.1
+    handed_before faults.BytesExceeded handed reads of_input = ran_over limits came handed reads.1
 
-  pub handed_up_to : (fault : SinkFault) (handed : Handed)
-      → (reads : ListsPart left health pulls limits was came is (Err (faults.Sink fault)) handed) → IsUpTo reads.0.1.whole handed
-  handed_up_to fault handed reads = up_to reads.0.1.whole fault handed reads.1
+    pub handed_up_to : (fault : SinkFault) (handed : Handed)
+        → (reads : ListsPart left health pulls limits was came is (Err (faults.Sink fault)) handed) → IsUpTo reads.0.1.whole handed
+    handed_up_to fault handed reads = up_to reads.0.1.whole fault handed reads.1

@@ -1,16 +1,19 @@
 //! Laws of the definitions. The contract of each function is a theorem; its body is empty.
 
-ghost use Rattle.std.specs.Prelude.{◌≡◌, ℕ, true, List, take, Option, Some, Ok, Err};
+ghost use Rattle.std.specs.Prelude.{◌≡◌, ◌+◌, ◌++◌, ◌∷◌, [], ℕ, true, List, take, Option, Some, Ok, Err};
 ghost use Rattle.hprof_items.specs.declared.header.Header.{Header};
 ghost use Rattle.hprof_items.specs.FactValue.{FactValue};
 ghost use Rattle.hprof_stream.specs.declared.limits.Limits.{Limits};
 ghost use Rattle.hprof_stream.specs.declared.part_fault.PartFault.{PartFault};
 ghost use Rattle.hprof_stream.specs.declared.part_fault.PartFault.TheVariants.{Sink};
+ghost use Rattle.hprof_stream.specs.declared.part_place.PartPlace.{PartPlace};
 ghost use Rattle.hprof_stream.specs.declared.sink.SinkFault.{SinkFault};
 ghost use Rattle.hprof_stream.specs.declared.summary.PartSummary.{PartSummary};
 ghost use Rattle.hprof_stream.specs.Fault.{StatesSoFar};
 ghost use Rattle.hprof_stream.specs.Part.{IsPart};
+ghost use Rattle.hprof_stream.specs.PartPlaces.{IsPlaceBehind};
 ghost use Rattle.hprof_placed.specs.Handed.{Handed, IsUpTo, handed_so, is_of_input};
+ghost use Rattle.hprof_placed.specs.LastPlaces.{IsLast};
 ghost use Rattle.hprof_placed.specs.Reading.{ListsPart};
 
 use hprof_devices::Source;
@@ -29,4 +32,13 @@ pub fn what_a_sink_is_handed<R: Source>()
     ensures refused { (limits : Limits) (was is : R) (came : List ℕ) (fault : SinkFault) (handed : Handed)
         → (reads : ListsPart R.left R.health R.pulls limits was came is (Err (Sink fault)) handed)
         → IsUpTo reads.0.1.whole handed }
+{}
+
+/// A place that a sink is told is behind all facts that it was given, and each further fact is one more since. So a sink that keeps the last
+/// place and counts the facts has a `FactPlace` behind each of them.
+pub fn a_place_goes_on_with_the_facts()
+    ensures noted { (limits : Limits) (bytes more front rest : List ℕ) (facts : List FactValue) (part : PartPlace)
+        → bytes ++ more ≡ front ++ rest → IsPlaceBehind limits front facts part → IsLast limits (bytes ++ more) facts (Some part) 0 }
+    ensures taken { (limits : Limits) (bytes : List ℕ) (facts : List FactValue) (fact : FactValue) (last : Option PartPlace) (since : ℕ)
+        → IsLast limits bytes facts last since → IsLast limits bytes (facts ++ fact ∷ []) last (since + 1) }
 {}

@@ -4,6 +4,8 @@
 pub mod laws;
 mod placed_sink;
 mod reading;
+#[cfg(test)]
+mod tests;
 
 pub use placed_sink::PlacedSink;
 pub use reading::read_placed;
