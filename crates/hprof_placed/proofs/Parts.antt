@@ -26,7 +26,8 @@ use Rattle.hprof_stream.proofs.Sources.{ReadsPart-finished}
 use Rattle.hprof_facts.proofs.Judged.{no_other}
 use Rattle.hprof_placed.specs.Handed.{Handed, handed_so, nothing_handed}
 use Rattle.hprof_placed.specs.Handed as listing
-use Rattle.hprof_placed.specs.Reading.{FeedsPlaced, HoldsFront, HoldsHanded, ListsPart, ReadsPlaced}
+use Rattle.hprof_placed.specs.Feeding.{FeedsPlaced}
+use Rattle.hprof_placed.specs.Reading.{HoldsFront, HoldsHanded, ListsPart, ReadsPlaced}
 use Rattle.hprof_placed.proofs.Handing.{hands_run}
 use Rattle.hprof_placed.proofs.Pieces.{feeds_hands, holds_fed}
 

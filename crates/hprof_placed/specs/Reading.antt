@@ -1,23 +1,20 @@
 -- Reading a part into a sink that is told places of it.
-use Rattle.std.specs.Prelude.{◌≡◌, ℕ, ◌≤◌, Bool, List, [], ◌++◌, length, Option, None, Result, Ok, Err}
-use Rattle.std.specs.Io.KnownBytes.{IsAtEnd}
+use Rattle.std.specs.Prelude.{◌≡◌, ℕ, ◌≤◌, Bool, List, [], ◌++◌, length, Option, None, Result, Err}
 use Rattle.hprof_items.specs.declared.header.Header.{Header}
 use Rattle.hprof_items.specs.FactValue.{FactValue}
 use Rattle.hprof_devices.specs.declared.health.Health.{Health}
-use Rattle.hprof_devices.specs.declared.health.Health.TheVariants as healths
 use Rattle.hprof_stream.specs.declared.limits.Limits.{Limits}
 use Rattle.hprof_stream.specs.declared.part_fault.PartFault.{PartFault}
 use Rattle.hprof_stream.specs.declared.part_fault.PartFault.TheVariants as faults
-use Rattle.hprof_stream.specs.declared.part_reader.PartReader.{PartReader}
 use Rattle.hprof_stream.specs.declared.sink.SinkFault.{SinkFault}
 use Rattle.hprof_stream.specs.declared.summary.PartSummary.{PartSummary}
-use Rattle.hprof_stream.specs.Reader.{HasRead, PulledOut, ReadsPart, header_of}
+use Rattle.hprof_stream.specs.Reader.{ReadsPart}
 use Rattle.hprof_stream.specs.Walking.{Refuses}
 use Rattle.hprof_placed.specs.Handed.{Handed, nothing_handed}
 use Rattle.hprof_placed.specs.Handed as listing
 
 module _ {S : Type 0} (holds : S → Limits → Option Header → List ℕ → List FactValue → Type 0) where
-  -- of these bytes the sink holds all but the last piece, with this header and these facts
+  -- the sink holds that it was given this header and these facts, and of the bytes that came all but the last piece
   pub record HoldsFront (limits : Limits) (came : List ℕ) (header : Option Header) (facts : List FactValue) (sink : S) : Type 0 where
     pub before : List ℕ
     pub piece : List ℕ
@@ -27,8 +24,8 @@ module _ {S : Type 0} (holds : S → Limits → Option Header → List ℕ → L
 
 module _ {S : Type 0} (holds : S → Limits → Option Header → List ℕ → List FactValue → Type 0) (refuses : S → List FactValue → SinkFault
     → S → Type 0) (failed : S → Bool) where
-  -- the sink holds what was handed to it where reading came to that result; or it held that, and refused the header or the fact that
-  -- came then
+  -- where reading came to that result, the sink holds what was handed to it; where the sink is the reason, it held that, and refused the
+  -- header or the fact that came then
   abbrev pub HoldsHanded : Limits → List ℕ → Result PartSummary PartFault → Handed → S → Type 0
   HoldsHanded limits came (Err (faults.Sink fault)) handed new =
       (mid : S) × HoldsFront holds limits came handed.header handed.facts mid × Refuses refuses failed mid handed.refused fault new
@@ -50,11 +47,3 @@ module _ {R : Type 0} (left : R → Option (List ℕ)) (health : R → Health) (
   ReadsPlaced limits was came is old result new =
       (handed : Handed) × ListsPart left health pulls limits was came is result handed
       × (holds old limits None [] [] → HoldsHanded holds refuses failed limits came result handed new)
-
-  -- feeding a new reader all pieces of a source
-  abbrev pub FeedsPlaced : Limits → R → List ℕ → R → S → Result (Unit {0}) PartFault → PartReader → S → Type 0
-  FeedsPlaced limits was came is old (Ok _) to new =
-      PulledOut left pulls limits was came is × IsAtEnd (left is) × (health is ≡ healths.Well)
-      × ((facts : List FactValue) × HasRead limits came facts to
-      × (holds old limits None [] [] → HoldsFront holds limits came (header_of to) facts new))
-  FeedsPlaced limits was came is old (Err fault) to new = ReadsPlaced limits was came is old (Err fault) new

@@ -7,7 +7,8 @@ ghost use Rattle.hprof_items.specs.FactValue.{FactValue};
 ghost use Rattle.hprof_devices.specs.declared.health.Health.TheVariants.{Well};
 ghost use Rattle.hprof_stream.specs.declared.limits.Limits.{Limits};
 ghost use Rattle.hprof_stream.specs.Reader.{HasRead, IsReady};
-ghost use Rattle.hprof_placed.specs.Reading.{FeedsPlaced, ReadsPlaced};
+ghost use Rattle.hprof_placed.specs.Feeding.{FeedsPlaced};
+ghost use Rattle.hprof_placed.specs.Reading.{ReadsPlaced};
 
 use crate::placed_sink::PlacedSink;
 use hprof_devices::Source;
