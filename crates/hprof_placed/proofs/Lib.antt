@@ -3,3 +3,4 @@ pub mod Pieces
 pub mod Parts
 pub mod Listing
 pub mod Lasting
+pub mod Again

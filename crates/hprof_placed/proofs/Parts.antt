@@ -38,7 +38,8 @@ module _ {R : Type 0} (left : R → Option (List ℕ)) (health : R → Health) (
       → CameLast left pulls limits was came is → health is ≡ healths.Well → IsSettledFault limits came fault
       → RanOver {S = Handed} listing.begins listing.steps limits.max_item (take limits.max_bytes came) [] None header nothing_handed handed
       → ListsPart left health pulls limits was came is (Err fault) handed
-  settled_ends limits was came is header handed (faults.Malformed at Truncated) last well why over = let no : false ≡ true = why.1 in absurd cc
+  settled_ends limits was came is header handed (faults.Malformed at Truncated) last well why over =
+      let no : false ≡ true = why.1 in absurd cc
   settled_ends limits was came is header handed faults.OutOfMemory last well why over =
       absurd (no_other limits came faults.OutOfMemory refl why)
   settled_ends limits was came is header handed (faults.Sink fault) last well why over =
@@ -61,9 +62,6 @@ module _ {R : Type 0} (left : R → Option (List ℕ)) (health : R → Health) (
   unfolding CameLast-read RanOver-read
   refused_ends limits bytes facts from to piece count was before is handed fault well read stays pulled one some allowed fed = by fault fed
     where
-      mid : Handed
-      mid = handed_so (header_of from) facts
-
       last : CameLast left pulls limits was (bytes ++ piece) is
       last = CameLast-read left pulls limits bytes facts from piece count was before is read pulled one some allowed
 
@@ -259,16 +257,20 @@ module _ {R : Type 0} (left : R → Option (List ℕ)) (health : R → Health) (
 
   -- ---- a piece
 
-  -- the sink was told a place, and holds all bytes that came before it
-  holds_noted : (limits : Limits) (reader : PartReader) (header : Option Header) (came : List ℕ) (facts : List FactValue) (mid noted : S)
-      → ((header : Option Header) (bytes more : List ℕ) (facts : List FactValue) → HasRead limits (bytes ++ more) facts reader
-      → holds mid limits header bytes facts → holds noted limits header (bytes ++ more) facts)
-      → HasRead limits came facts reader → HoldsFront holds limits came header facts mid → holds noted limits header came facts
-  holds_noted limits reader header came facts mid noted notes read front =
-      let before = front.before in
-      let piece = front.piece in
-      subst (λ (b : List ℕ). holds noted limits header b facts) (sym front.parts)
-      (notes header before piece facts (subst (λ (b : List ℕ). HasRead limits b facts reader) front.parts read) front.held)
+  -- the sink was told a place of what was read, and holds all bytes that came before it
+  abbrev pub Notes : Limits → PartReader → S → S → Type 0
+  Notes limits reader mid noted = (header : Option Header) (bytes more : List ℕ) (facts : List FactValue)
+      → HasRead limits (bytes ++ more) facts reader → holds mid limits header bytes facts → holds noted limits header (bytes ++ more) facts
+
+  holds_noted : (limits : Limits) (turns : ℕ) (was is : R) (reader : PartReader) (old mid noted : S) → Notes limits reader mid noted
+      → (placed : HasPlaced limits turns was is reader old mid) → holds old limits None [] []
+      → holds noted limits (header_of reader) placed.came placed.facts
+  holds_noted limits turns was is reader old mid noted notes placed held =
+      let front = placed.held held in
+      let parts = front.parts in
+      subst (λ (b : List ℕ). holds noted limits (header_of reader) b placed.facts) (sym parts)
+      (notes (header_of reader) front.before front.piece placed.facts
+      (subst (λ (b : List ℕ). HasRead limits b placed.facts reader) parts placed.read) front.held)
 
   module _ (begins : S → Header → S → Type 0) (steps : S → FactValue → S → Type 0)
       (begins_part : (old : S) (header : Header) (new : S) → begins old header new → (limits : Limits) (bytes : List ℕ)
@@ -279,8 +281,7 @@ module _ {R : Type 0} (left : R → Option (List ℕ)) (health : R → Health) (
     -- a piece came; the sink was told the place before it, and was handed what was whole then
     pub placed_more : (limits : Limits) (turns : ℕ) (was before is : R) (reader next : PartReader) (old mid noted new : S)
         (piece : List ℕ) (done : Unit {0}) → IsPull left pulls before piece is → 0 < length piece
-        → ((header : Option Header) (bytes more : List ℕ) (facts : List FactValue) → HasRead limits (bytes ++ more) facts reader
-        → holds mid limits header bytes facts → holds noted limits header (bytes ++ more) facts)
+        → Notes limits reader mid noted
         → ((bytes : List ℕ) (facts : List FactValue) → HasRead limits bytes facts reader
         → Feeds begins steps refuses failed limits bytes facts reader piece noted (Ok done) next new)
         → ((header : Header) → header_of reader ≡ Some header → header_of next ≡ Some header)
@@ -297,24 +298,22 @@ module _ {R : Type 0} (left : R → Option (List ℕ)) (health : R → Health) (
             piece = piece;
             parts = refl;
             few = last.few;
-            held = holds_fed begins steps refuses failed holds begins_part takes_fact limits placed.came placed.facts reader placed.read next
-                piece on.0 noted new on.1 stays on.2 (holds_noted limits reader (header_of reader) placed.came placed.facts mid noted notes
-                placed.read (placed.held held));
+            held = holds_fed begins steps refuses failed holds begins_part takes_fact limits placed.came placed.facts reader placed.read
+                next piece on.0 noted new on.1 stays on.2 (holds_noted limits turns was before reader old mid noted notes placed held);
           };
         }
 
     -- a piece came, and feeding it was refused
     pub placed_fault : (limits : Limits) (turns : ℕ) (was before is : R) (reader next : PartReader) (old mid noted new : S)
         (piece : List ℕ) (fault : PartFault) → IsPull left pulls before piece is → 0 < length piece
-        → ((header : Option Header) (bytes more : List ℕ) (facts : List FactValue) → HasRead limits (bytes ++ more) facts reader
-        → holds mid limits header bytes facts → holds noted limits header (bytes ++ more) facts)
+        → Notes limits reader mid noted
         → ((bytes : List ℕ) (facts : List FactValue) → HasRead limits bytes facts reader
         → Feeds begins steps refuses failed limits bytes facts reader piece noted (Err fault) next new)
         → ((header : Header) → header_of reader ≡ Some header → header_of next ≡ Some header) → health is ≡ healths.Well
         → HasPlaced limits turns was before reader old mid → turns < limits.max_reads → CameOf limits was is old (Err fault) next new
     placed_fault limits turns was before is reader next old mid noted new piece fault last some notes feeds stays well placed allowed =
-        let it = feeds_hands begins steps refuses failed holds begins_part takes_fact limits placed.came placed.facts reader placed.read next
-        piece last.few noted new stays fault (feeds placed.came placed.facts placed.read) in (
+        let it = feeds_hands begins steps refuses failed holds begins_part takes_fact limits placed.came placed.facts reader placed.read
+        next piece last.few noted new stays fault (feeds placed.came placed.facts placed.read) in (
           placed.came ++ piece,
           Consumes-trans (left was) (left before) (left is) placed.came piece
               (Pulled-consumes left pulls was placed.came turns before placed.pulled) last.gave,
@@ -322,7 +321,6 @@ module _ {R : Type 0} (left : R → Option (List ℕ)) (health : R → Health) (
             it.handed,
             refused_ends left health pulls limits placed.came placed.facts reader next piece turns was before is it.handed fault well
                 placed.read stays placed.pulled last some allowed it.comes,
-            λ held. it.takes (holds_noted limits reader (header_of reader) placed.came placed.facts mid noted notes placed.read
-                (placed.held held)),
+            λ held. it.takes (holds_noted limits turns was before reader old mid noted notes placed held),
           ),
         )

@@ -35,7 +35,8 @@ module _ {R : Type 0} (left : R → Option (List ℕ)) (health : R → Health) (
   -- what reading a part to its end comes to for a sink that lists what it is handed, by the definition of `read_part`
   abbrev pub ListsPart : Limits → R → List ℕ → R → Result PartSummary PartFault → Handed → Type 0
   ListsPart limits was came is result handed =
-      ReadsPart left health pulls listing.begins listing.steps listing.refuses listing.failed limits was came is nothing_handed result handed
+      ReadsPart left health pulls listing.begins listing.steps listing.refuses listing.failed limits was came is nothing_handed result
+      handed
 
 module _ {R : Type 0} (left : R → Option (List ℕ)) (health : R → Health) (pulls : R → ℕ)
     {S : Type 0} (holds : S → Limits → Option Header → List ℕ → List FactValue → Type 0) (refuses : S → List FactValue → SinkFault

@@ -15,7 +15,9 @@ pub trait PlacedSink: Sink {
     // header, if one came, and these facts.
     ghost holds: { Self → Limits → Option Header → List ℕ → List FactValue → Type 0 };
 
-    /// Takes the place behind all that it was given of the part, before the next piece is read.
+    /// Is told the place behind all that it was given of the part, before the next piece is read.
+    ///
+    /// It cannot refuse. A sink that runs out of memory here refuses the next fact.
     fn note(&mut self, place: PartPlace)
         ensures holds { (limits : Limits) (header : Option Header) (bytes more front rest : List ℕ) (facts : List FactValue)
             → holds self.old limits header bytes facts → bytes ++ more ≡ front ++ rest → IsPlaceBehind limits front facts place
