@@ -1,6 +1,6 @@
 //! Laws of the definitions. The contract of each function is a theorem; its body is empty.
 
-ghost use Rattle.std.specs.Prelude.{◌≡◌, ◌≤◌, ◌++◌, ℕ, List, length, take, Option, Some, Result, Ok, Err, false};
+ghost use Rattle.std.specs.Prelude.{◌≡◌, ◌≤◌, ◌++◌, ◌∷◌, [], ℕ, List, length, take, Option, Some, Result, Ok, Err, false};
 ghost use Rattle.std.specs.Io.KnownBytes.{Consumes};
 ghost use Rattle.hprof_values.specs.declared.ids.IdSize.{IdSize};
 ghost use Rattle.hprof_items.specs.declared.header.Header.{Header};
@@ -12,7 +12,7 @@ ghost use Rattle.hprof_stream.specs.Part.{IsPart, IsSummary};
 ghost use Rattle.hprof_stream.specs.Fault.{HasNoFault, StatesSoFar};
 ghost use Rattle.hprof_stream.specs.Reader.{ReadsPart};
 ghost use Rattle.hprof_facts.specs.declared.fact_reader.FactReader.{FactReader};
-ghost use Rattle.hprof_facts.specs.FactReader.{Ends, EndsFrom, HasGivenFrom, HasGivenOrFails, HasPassed, Origin, start_of};
+ghost use Rattle.hprof_facts.specs.FactReader.{Ends, EndsFrom, HasGivenFrom, HasGivenOrFails, HasPassed, Origin, ids_of, start_of};
 ghost use Rattle.hprof_facts.specs.OfBytes.{IsOfBytes, IsResultOf, RunBefore, StatesBefore, is_of_bytes};
 
 use hprof_devices::Source;
@@ -98,4 +98,12 @@ pub fn no_false_alarm_behind_a_place<R: Source + Drop>()
         → IsPart bytes ids millis facts → bytes ≡ origin.front ++ rest → R.left was ≡ Some rest
         → EndsFrom R.left R.health R.pulls origin was is (Ok summary) given
         → (facts ≡ origin.told ++ given) × IsSummary bytes summary }
+{}
+
+/// In a part with no fault the facts that a reader gives are kept under the size of identifiers of the part, wherever the reader began.
+pub fn facts_have_the_size_of_their_part<R: Source + Drop>()
+    ensures { (origin : Origin) (bytes rest : List ℕ) (ids : IdSize) (millis : ℕ) (facts : List FactValue) (was : R)
+        (given : List FactValue) (fact : FactValue) (reader : FactReader R) → HasNoFault origin.limits.max_item bytes
+        → length bytes ≤ origin.limits.max_bytes → IsPart bytes ids millis facts → bytes ≡ origin.front ++ rest → R.left was ≡ Some rest
+        → HasGivenFrom R.left R.health R.pulls origin was (given ++ fact ∷ []) reader → ids_of reader ≡ Some ids }
 {}
