@@ -35,8 +35,7 @@ pub struct ObjectLog<S> {
     pub(crate) piece: Option<Piece>,
     pub(crate) growing: Option<Growing>,
     // There is room for a growing stretch that stays.
-    ghost reserved: { IsReserved growing (vec_len stretches) (vec_capacity stretches) }
-        by { IsReserved-prop growing (vec_len stretches) (vec_capacity stretches) },
+    ghost reserved: { IsReserved growing (vec_len stretches) (vec_capacity stretches) } by { IsReserved-prop growing (vec_len stretches) (vec_capacity stretches) },
 }
 
 /// Adds the growing stretch to those that stay, if it stays. There is room for it.
@@ -44,11 +43,13 @@ fn keep(stretches: &mut Vec<Stretch>, growing: Option<Growing>)
     requires { IsReserved growing (vec_len stretches.old) (vec_capacity stretches.old) }
     ensures { stretches.new.items ≡ stretches.old.items ++ staying growing }
 {
-    if let Some(Growing {
-        stretch,
-        stands: Stands::InPart,
-        ..
-    }) = growing
+    if let Some(
+        Growing {
+            stretch,
+            stands: Stands::InPart,
+            ..
+        },
+    ) = growing
     {
         stretches.push_reserved(stretch);
     }
