@@ -8,7 +8,8 @@ ghost use Rattle.hprof_objects.specs.StretchCursor.{ComesTo, GoesOn, stretch_sho
 
 use hprof_devices::Source;
 
-/// If the part is the same as when it was read, a cursor over a stretch shows, up to its end, the rows of the stretch. Before the end it has
+/// If the part is the same as when it was read, a cursor over a stretch shows, up to its end, the rows of the stretch. Before the end it
+/// has
 /// shown the first of them.
 pub fn stretch_cursors_show_stretches<R: Source + Drop>()
     ensures all { (old new : StretchCursor R) (rows shown : List ByteRow) → ComesTo R.left R.health R.pulls old rows
