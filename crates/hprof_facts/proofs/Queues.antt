@@ -108,7 +108,8 @@ held_under begun ids bytes more after slots slots_after at facts slot fact is sa
     (held_more ids bytes more slots at facts slot fact within under begins long keeps)))
 
 -- going on to the first that is left
-pub record IsGoneTo (begun : Option IdSize) (bytes : List ℕ) (slots : List Slot) (at : ℕ) (fact : FactValue) (facts : List FactValue) : Type 0 where
+pub record IsGoneTo (begun : Option IdSize) (bytes : List ℕ) (slots : List Slot) (at : ℕ) (fact : FactValue) (facts : List FactValue) :
+    Type 0 where
   pub ids : IdSize
   pub is : begun ≡ Some ids
   pub first : IsFirst ids bytes slots at fact facts

@@ -1,4 +1,7 @@
 pub mod Kept
 pub mod Queues
 pub mod Listing
+pub mod FactPlaces
+pub mod OfBytes
+pub mod Sizes
 pub mod FactReader

@@ -66,7 +66,8 @@ pub(crate) struct Slot {
 /// Returns what is kept of a fact: its form, and bytes.
 #[inline(always)]
 pub(crate) fn form_of<'a>(fact: &Fact<'a>, spelled: &'a [u8]) -> (Form, &'a [u8])
-    ensures keeps { (ids : IdSize) → Fits ids (value_of fact.now) → ListsHave ids fact.now → spelled.now ≡ dump_bytes ids (value_of fact.now)
+    ensures keeps { (ids : IdSize) → Fits ids (value_of fact.now) → ListsHave ids fact.now
+        → spelled.now ≡ dump_bytes ids (value_of fact.now)
         → Keeps ids result.0 result.1.now (value_of fact.now) }
 {
     match *fact {

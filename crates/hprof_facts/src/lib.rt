@@ -2,10 +2,13 @@
 //! them to a sink.
 #![tactic(auto)]
 
+mod fact_place;
 mod fact_reader;
 mod kept;
+pub mod laws;
 mod queue;
 #[cfg(test)]
 mod tests;
 
+pub use fact_place::FactPlace;
 pub use fact_reader::FactReader;

@@ -1,6 +1,7 @@
 //! The queue of the facts of one piece.
 
-ghost use Rattle.std.specs.Prelude.{◌≡◌, ◌∷◌, ◌++◌, ◌<◌, ◌≤◌, ◌-◌, ◌+◌, ℕ, List, [], length, take, drop, slice_get, Some, Err, true, false, OnOk, OnErr};
+ghost use Rattle.std.specs.Prelude.{◌≡◌, ◌∷◌, ◌++◌, ◌<◌, ◌≤◌, ◌-◌, ◌+◌, ℕ, List, [], length, take, drop, slice_get, Some, Err, true, false};
+ghost use Rattle.std.specs.Prelude.{OnOk, OnErr};
 ghost use Rattle.hprof_items.specs.FactValue.{FactValue, ListsHave, value_of};
 ghost use Rattle.hprof_facts.specs.Kept.{Keeps};
 
@@ -27,18 +28,20 @@ impl Queue {
     ghost use Rattle.hprof_stream.specs.Run.{SpellsBegun};
     ghost use Rattle.hprof_stream.specs.declared.sink.SinkFault.{SinkFault};
     ghost use Rattle.hprof_facts.specs.declared.kept.Slot.{Slot};
-    ghost use Rattle.hprof_facts.specs.Queues.{Holds, HasCurrent, has_refused, begun_with};
+    ghost use Rattle.hprof_facts.specs.Queues.{Holds, HasCurrent, has_refused, begun_with, given_of, held_at, last_slot, spelled_last};
 
-    /// Returns a queue that keeps nothing. It takes no memory yet.
-    pub(crate) fn new(alloc: Global) -> Self
+    /// Returns a queue that keeps nothing, begun with a size of identifiers, if there is one. It takes no memory yet.
+    pub(crate) fn new(alloc: Global, begun: Option<IdSize>) -> Self
         ensures holds { Holds result [] }
+        ensures begun { begun_with result ≡ begun }
         ensures well { has_refused result ≡ false }
+        ensures given { given_of result ≡ 0 }
     {
         Queue {
             bytes: Vec::new(alloc),
             slots: Vec::new(alloc),
             given: 0,
-            begun: None,
+            begun,
             failed: false,
         }
     }
@@ -48,6 +51,7 @@ impl Queue {
         ensures holds { Holds self.new [] }
         ensures begun { begun_with self.new ≡ begun_with self.old }
         ensures failed { has_refused self.new ≡ has_refused self.old }
+        ensures given { given_of self.new ≡ 0 }
     {
         self.bytes.clear();
         self.slots.clear();
@@ -61,6 +65,7 @@ impl Queue {
             → Keeps ids form bytes.now fact → Holds self.old facts → Holds self.new (facts ++ fact ∷ [])) }
         ensures begun { self.new.begun ≡ self.old.begun }
         ensures failed { self.new.failed ≡ self.old.failed }
+        ensures given { self.new.given ≡ self.old.given }
         ensures err { OnErr result (result ≡ Err SinkFault.OutOfMemory) }
         ensures kept { OnErr result ((facts : List FactValue) → Holds self.old facts → Holds self.new facts) }
     {
@@ -86,11 +91,18 @@ impl Queue {
         self.given < self.slots.len()
     }
 
+    /// Returns the number of facts that were given since it was emptied.
+    pub(crate) fn given_count(&self) -> usize
+        ensures { result ≡ given_of self.now }
+    {
+        self.given
+    }
+
     /// Goes on to the next fact, if there is one.
     #[inline(always)]
     pub(crate) fn step(&mut self) -> bool
         ensures some { (fact : FactValue) (facts : List FactValue) → Holds self.old (fact ∷ facts)
-            → (result ≡ true) × Holds self.new facts × HasCurrent self.new fact }
+            → (result ≡ true) × Holds self.new facts × HasCurrent self.new fact × (given_of self.new ≡ given_of self.old + 1) }
         ensures none { Holds self.old [] → (result ≡ false) × (self.new ≡ self.old) }
         ensures begun { begun_with self.new ≡ begun_with self.old }
         ensures failed { has_refused self.new ≡ has_refused self.old }
@@ -115,8 +127,7 @@ impl Queue {
     /// Returns the slot of the fact that was given last.
     #[inline(always)]
     fn last(&self) -> Option<&Slot>
-        ensures { (slot : Slot) → 0 < self.now.given → slice_get self.now.slots.items (self.now.given - 1) ≡ Some slot
-            → option_map (λ one. one.now) result ≡ Some slot }
+        ensures { option_map (λ one. one.now) result ≡ last_slot self.now }
     {
         self.slots.get(self.given.checked_sub(1)?)
     }
@@ -124,8 +135,7 @@ impl Queue {
     /// Returns the bytes that are kept in a slot.
     #[inline(always)]
     fn bytes_of(&self, slot: &Slot) -> Option<&[u8]>
-        ensures { slot.now.at + slot.now.len ≤ length self.now.bytes.items
-            → option_map (λ bytes. bytes.now) result ≡ Some (take slot.now.len (drop slot.now.at self.now.bytes.items)) }
+        ensures { option_map (λ bytes. bytes.now) result ≡ held_at self.now.bytes.items slot.now }
     {
         let (_, behind) = self.bytes.split_at_checked(slot.at)?;
         let (bytes, _) = behind.split_at_checked(slot.len)?;
@@ -134,7 +144,7 @@ impl Queue {
 
     /// Returns the bytes of the sub-record that states the fact that was given last. They are empty for the fact of a record.
     pub(crate) fn spelled(&self) -> &[u8]
-        ensures { (fact : FactValue) → HasCurrent self.now fact → SpellsBegun (begun_with self.now) fact result.now }
+        ensures { result.now ≡ spelled_last self.now }
     {
         match self.last() {
             Some(slot) if slot.form == Form::Spelled => self.bytes_of(slot).unwrap_or(&[]),

@@ -10,7 +10,8 @@ pub returns-in-Trace : goal.returns-in-Trace
 returns-in-Trace c = record {
   keeps = λ ids fits lists spelled.
       let frames = identifiers_of c.in-Trace.frames in
-      let list = subst (λ (i : IdSize). IsIdList i frames c.bytes.result.now) (subst (λ (f : Fact). ListsHave ids f) c.in-Trace.is lists) c.bytes.ensures.spelled in
+      let list = subst (λ (i : IdSize). IsIdList i frames c.bytes.result.now) (subst (λ (f : Fact). ListsHave ids f) c.in-Trace.is lists)
+      c.bytes.ensures.spelled in
       let again = ids_again ids frames c.bytes.result.now list in
       (again.0, ap value_of c.in-Trace.is ∙ sym (ap (Trace c.in-Trace.serial c.in-Trace.thread) again.1));
 }

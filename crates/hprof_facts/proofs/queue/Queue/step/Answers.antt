@@ -21,6 +21,7 @@ returns-then-self-len-clause-some c = λ fact facts holds.
         stands = subst (λ (n : ℕ). slice_get its.slots.items n ≡ Some gone.first.slot) back gone.first.stands;
         keeps = gone.first.keeps;
       },
+      refl,
     )
 
 pub returns-then-self-len-clause-none : goal.returns-then-self-len-clause-none

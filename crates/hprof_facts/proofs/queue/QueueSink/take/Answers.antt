@@ -10,4 +10,6 @@ returns-in-Ok-clause-steps c =
       c.hold.ensures.failed ∙ well,
       λ facts holds. c.in-Ok.ensures.holds it.ids facts (value_of c.args.fact.now) it.is
           (c.form_of-form.ensures.keeps it.ids it.fits it.lists it.spells) holds,
+      c.hold.ensures.given,
+      c.hold.ensures.begun,
     )

@@ -1,0 +1,12 @@
+//! Parts that can be opened again: slices in memory, and files that were opened once.
+#![tactic(auto)]
+
+mod files;
+mod parts;
+mod slices;
+#[cfg(test)]
+mod tests;
+
+pub use files::{FileAt, OpenFiles};
+pub use parts::Parts;
+pub use slices::Slices;

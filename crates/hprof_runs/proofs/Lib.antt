@@ -1,0 +1,11 @@
+pub mod Lying
+pub mod Picked
+pub mod Sending
+pub mod Spelled
+pub mod PickedCursors
+pub mod Added
+pub mod Bringing
+pub mod Reading
+pub mod Going
+pub mod Groups
+pub mod AllRows

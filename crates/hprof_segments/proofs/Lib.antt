@@ -1,0 +1,9 @@
+pub mod Behind
+pub mod Held
+pub mod Takes
+pub mod Mapped
+pub mod Viewed
+pub mod OverSame
+pub mod IntoWriter
+pub mod RowRuns
+pub mod FactSubs

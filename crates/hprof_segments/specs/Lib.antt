@@ -1,0 +1,4 @@
+pub mod ByteSegments
+pub mod Taking
+pub mod Writer
+pub mod Sink
