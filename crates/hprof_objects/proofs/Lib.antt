@@ -1,0 +1,11 @@
+mod Enough
+mod Rows
+mod Stretches
+mod Whole
+mod WholeHeap
+mod Spilled
+mod Logged
+mod Parts
+mod Settled
+mod ReadingAgain
+mod StretchCursors

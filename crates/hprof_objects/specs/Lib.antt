@@ -1,0 +1,12 @@
+pub mod ObjectRows
+pub mod PartsRead
+pub mod Enough
+pub mod Growing
+pub mod Stretches
+pub mod Whole
+pub mod Store
+pub mod Reserved
+pub mod Log
+pub mod ReadAgain
+pub mod StretchFault
+pub mod StretchCursor

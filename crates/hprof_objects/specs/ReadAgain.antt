@@ -1,0 +1,48 @@
+-- A part that is read again, and the objects that come next.
+use Rattle.std.specs.Prelude.{◌≡◌, ◌≤◌, ℕ, List, ◌++◌, length, Option, Some, slice_get}
+use Rattle.hprof_values.specs.declared.ids.IdSize.{IdSize}
+use Rattle.hprof_items.specs.FactValue.{FactValue}
+use Rattle.hprof_devices.specs.declared.health.Health.{Health}
+use Rattle.hprof_stream.specs.declared.limits.Limits.{Limits}
+use Rattle.hprof_stream.specs.Part.{IsPart}
+use Rattle.hprof_stream.specs.Fault.{HasNoFault}
+use Rattle.hprof_facts.specs.declared.fact_reader.FactReader.{FactReader}
+use Rattle.hprof_facts.specs.FactReader.{HasGivenOrFails, Origin}
+use Rattle.hprof_parts.specs.Parts.{bytes_at}
+use Rattle.hprof_merge.specs.Rows.{ByteRow}
+use Rattle.hprof_objects.specs.ObjectRows.{object_rows}
+use Rattle.hprof_objects.specs.PartsRead.{PartRead}
+
+-- the bytes are a part with no fault, within the limits, and state these facts
+pub record IsWhole (limits : Limits) (bytes : List ℕ) (ids : IdSize) (facts : List FactValue) : Type 0 where
+  pub sound : HasNoFault limits.max_item bytes
+  pub within : length bytes ≤ limits.max_bytes
+  pub millis : ℕ
+  pub states : IsPart bytes ids millis facts
+
+-- the part tells its bytes, which are those that were read before: all of a part with no fault
+pub record IsSame (limits : Limits) (told : Option (List ℕ)) (part : PartRead) : Type 0 where
+  pub tells : told ≡ Some part.bytes
+  pub whole : IsWhole limits part.bytes part.ids part.facts
+
+-- the part of that number is the same as when it was read
+--   told: the bytes of each part, where they are told
+abbrev pub IsSameAt : Limits → List (Option (List ℕ)) → List PartRead → ℕ → Type 0
+IsSameAt limits told parts number = (part : PartRead) → slice_get parts number ≡ Some part → IsSame limits (bytes_at told number) part
+
+module _ {R : Type 0} (left : R → Option (List ℕ)) (health : R → Health) (pulls : R → ℕ) where
+  -- of a part that is read again, and whose source tells its bytes, these are the next objects; or reading it fails, for a reason that the
+  -- bytes do not decide
+  --   rest: the bytes behind the origin;  given, behind: the facts that were given behind it, and those that come
+  pub record HasObjects (reader : FactReader R) (rows : List ByteRow) : Type 0 where
+    pub origin : Origin
+    pub was : R
+    pub rest : List ℕ
+    pub tells : left was ≡ Some rest
+    pub ids : IdSize
+    pub given : List FactValue
+    pub behind : List FactValue
+    pub whole : IsWhole origin.limits (origin.front ++ rest) ids ((origin.told ++ given) ++ behind)
+    pub more : List ByteRow
+    pub are : object_rows ids behind ≡ rows ++ more
+    pub stands : HasGivenOrFails left health pulls origin was given reader

@@ -1,0 +1,80 @@
+//! The stretch that goes on.
+
+ghost use Rattle.std.specs.Prelude.{◌≡◌, ◌<◌, ◌-◌, ◌^◌};
+
+use crate::stretch::Stretch;
+use hprof_stream::PartPlace;
+
+/// Where the piece begins that is being read, and how many facts came since.
+#[derive(Clone, Copy)]
+pub(crate) struct Piece {
+    pub(crate) place: PartPlace,
+    pub(crate) passed: u64,
+}
+
+/// Where the objects of a stretch are.
+#[derive(Clone, Copy)]
+pub(crate) enum Stands {
+    /// They are the last rows in memory, from this one on.
+    InMemory(usize),
+    /// They stay in the part.
+    InPart,
+}
+
+/// A stretch to which the next object belongs if it is above the last.
+#[derive(Clone, Copy)]
+pub(crate) struct Growing {
+    pub(crate) stretch: Stretch,
+    /// The identifier of its last object.
+    pub(crate) last: u64,
+    /// The number of bytes of its objects. It saturates.
+    pub(crate) size: u64,
+    pub(crate) stands: Stands,
+}
+
+impl Growing {
+    ghost use Rattle.hprof_objects.specs.Growing.{extended, grown_first, grown_in_part};
+
+    /// Returns the stretch with one object more.
+    pub(crate) fn with(self, id: u64, len: usize) -> Growing
+        requires { self.stretch.count < 2 ^ 64 - 1 }
+        ensures { result ≡ extended self id len }
+    {
+        Growing {
+            stretch: Stretch {
+                count: self.stretch.count + 1,
+                ..self.stretch
+            },
+            last: id,
+            size: self.size.saturating_add(len as u64),
+            stands: self.stands,
+        }
+    }
+
+    /// Returns the stretch of one object: the next one behind what came of a piece, and the row in memory at that place.
+    pub(crate) fn first(part: usize, piece: Piece, id: u64, len: usize, from: usize) -> Growing
+        ensures { result ≡ grown_first part piece id len from }
+    {
+        Growing {
+            stretch: Stretch {
+                part,
+                place: piece.place,
+                passed: piece.passed,
+                count: 1,
+            },
+            last: id,
+            size: len as u64,
+            stands: Stands::InMemory(from),
+        }
+    }
+
+    /// Returns the stretch as one that stays in its part.
+    pub(crate) fn in_part(self) -> Growing
+        ensures { result ≡ grown_in_part self }
+    {
+        Growing {
+            stands: Stands::InPart,
+            ..self
+        }
+    }
+}

@@ -1,0 +1,34 @@
+//! Laws of the definitions. The contract of each function is a theorem; its body is empty.
+
+ghost use Rattle.std.specs.Prelude.{◌≡◌, ℕ, List, map, Ok, Err};
+ghost use Rattle.std.specs.List.{AllByRecursion};
+ghost use Rattle.hprof_values.specs.declared.ids.IdSize.{IdSize};
+ghost use Rattle.hprof_items.specs.FactValue.{FactValue};
+ghost use Rattle.hprof_rows.specs.declared.key.Key.TheVariants.{Object};
+ghost use Rattle.hprof_rows.specs.HeapValue.{HeapValue};
+ghost use Rattle.hprof_heap.specs.declared.standing.Refusal.{Refusal};
+ghost use Rattle.hprof_heap.specs.declared.standing.Refusal.TheVariants.{Conflict};
+ghost use Rattle.hprof_heap.specs.Gathering.{Given, Tells};
+ghost use Rattle.hprof_merge.specs.Rows.{ByteRow};
+ghost use Rattle.hprof_merge.specs.TwoContents.{IsLeastWithTwoContents};
+ghost use Rattle.hprof_merge.specs.Union.{IsUnion};
+ghost use Rattle.hprof_objects.specs.Whole.{AreObjects, FitGiven, rows_given, with_objects, without_objects};
+
+/// The union of the rows of all objects is that of objects, and they stand behind the facts that are no objects: together they are the heap
+/// of the parts.
+pub fn objects_stand_behind()
+    ensures objects { (parts : List Given) (ids : IdSize) (rows : List ByteRow) → AllByRecursion (λ part. part.header.ids ≡ ids) parts
+        → FitGiven parts → IsUnion (map rows_given parts) rows → (objects : List FactValue) × AreObjects ids rows objects }
+    ensures heap { (parts : List Given) (heap : HeapValue) (rows : List ByteRow) (objects : List FactValue)
+        → Tells (map without_objects parts) (Ok heap) → FitGiven parts → IsUnion (map rows_given parts) rows
+        → AreObjects heap.ids rows objects → Tells parts (Ok (with_objects heap objects)) }
+{}
+
+/// If the facts that are no objects have a heap, the least key of which objects have two contents is the least conflict of the parts. If
+/// they have none, neither do all, for the same reason.
+pub fn conflicts_of_objects_come_last()
+    ensures objects { (parts : List Given) (heap : HeapValue) (key : ℕ) → Tells (map without_objects parts) (Ok heap) → FitGiven parts
+        → IsLeastWithTwoContents (map rows_given parts) key → Tells parts (Err (Conflict (Object key))) }
+    ensures others { (parts : List Given) (refusal : Refusal) → Tells (map without_objects parts) (Err refusal)
+        → Tells parts (Err refusal) }
+{}

@@ -1,0 +1,26 @@
+//! The objects of parts that are larger than the memory: those that ascend in their part stay there, and the others are kept in memory or
+//! in
+//! scratch, in sorted runs.
+#![tactic(auto)]
+
+mod growing;
+mod identifying;
+mod keeping;
+pub mod laws;
+mod next_object;
+mod object_log;
+mod row_store;
+mod stretch;
+mod stretch_cursor;
+mod stretch_fault;
+pub mod stretch_laws;
+#[cfg(test)]
+mod stretch_tests;
+
+pub use identifying::object_id;
+pub use keeping::Keeping;
+pub use object_log::ObjectLog;
+pub use row_store::RowStore;
+pub use stretch::Stretch;
+pub use stretch_cursor::StretchCursor;
+pub use stretch_fault::StretchFault;

@@ -1,0 +1,44 @@
+//! The next object of a part.
+
+ghost use Rattle.std.specs.Prelude.{◌≡◌, ◌∷◌, List, IfOk, IfErr, OnOk};
+ghost use Rattle.hprof_items.specs.FactValue.{FactValue};
+ghost use Rattle.hprof_facts.specs.FactReader.{CanAdvance, IsCurrent, spelled_of};
+ghost use Rattle.hprof_merge.specs.Rows.{ByteRow};
+ghost use Rattle.hprof_objects.specs.ObjectRows.{object_key};
+ghost use Rattle.hprof_objects.specs.ReadAgain.{HasObjects};
+ghost use Rattle.hprof_objects.specs.StretchFault.{IfChanged};
+
+use crate::identifying::object_id;
+use crate::stretch_fault::StretchFault;
+use hprof_devices::Source;
+use hprof_facts::FactReader;
+
+/// Returns the identifier of the object that was given last, or `None` if the fact is no object.
+fn current_id<R: Source + Drop>(reader: &FactReader<R>) -> Option<u64>
+    ensures { (fact : FactValue) → IsCurrent reader.now fact → result ≡ object_key fact }
+{
+    object_id(&reader.current()?)
+}
+
+/// Goes past the facts that are no objects to the next object, and returns its identifier.
+pub(crate) fn next_object<R: Source + Drop>(reader: &mut FactReader<R>) -> Result<u64, StretchFault>
+    requires { CanAdvance R.health reader.old }
+    ensures can { OnOk result (CanAdvance R.health reader.new) }
+    ensures next { IfOk result (λ id. (row : ByteRow) (rows : List ByteRow) → HasObjects R.left R.health R.pulls reader.old (row ∷ rows)
+        → (row ≡ (id, spelled_of reader.new)) × HasObjects R.left R.health R.pulls reader.new rows) }
+    ensures fault { IfErr result (λ fault. IfChanged fault ((row : ByteRow) (rows : List ByteRow)
+        → HasObjects R.left R.health R.pulls reader.old (row ∷ rows) → ⊥)) }
+{
+    for _ in 0..u64::MAX {
+        match reader.advance() {
+            Ok(true) => {
+                if let Some(id) = current_id(reader) {
+                    return Ok(id);
+                }
+            }
+            Ok(false) => return Err(StretchFault::Changed),
+            Err(fault) => return Err(StretchFault::of(fault)),
+        }
+    }
+    Err(StretchFault::Read)
+}

@@ -1,0 +1,121 @@
+//! Cursors over stretches.
+
+ghost use Rattle.std.specs.Prelude.{◌≡◌, ◌<◌, List, length, IfOk, IfErr, OnOk};
+ghost use Rattle.hprof_merge.specs.Rows.{ByteRow};
+ghost use Rattle.hprof_objects.specs.ReadAgain.{HasObjects};
+ghost use Rattle.hprof_objects.specs.StretchFault.{IfChanged};
+
+use crate::next_object::next_object;
+use crate::stretch::Stretch;
+use crate::stretch_fault::StretchFault;
+use hprof_devices::Source;
+use hprof_facts::{FactPlace, FactReader};
+use hprof_merge::{AscendingCursor, RowCursor};
+use hprof_parts::Parts;
+use hprof_stream::Limits;
+use std::alloc::Global;
+
+/// A cursor over the objects of a stretch, which are read again without trust in the part. A row is the identifier of an object and the
+/// bytes of its sub-record. The cursor holds the facts of one piece of 64 KiB, and an item that is not whole.
+#[derive(Drop)]
+pub struct StretchCursor<R: Source + Drop> {
+    reader: FactReader<R>,
+    /// The identifier of the object that is shown.
+    shown: Option<u64>,
+    /// The number of objects behind it.
+    left: u64,
+}
+
+impl<R: Source + Drop> StretchCursor<R> {
+    ghost use Rattle.hprof_objects.specs.StretchCursor.{CanGoOn, OpensStretch, RefusesStretch, StandsAt};
+
+    /// Opens the part of a stretch at its place, and returns a cursor that shows the first object. The limits are those of the first
+    /// reading; the reads are counted anew.
+    pub fn new<P: Parts<Reader = R>>(
+        alloc: Global,
+        parts: &P,
+        stretch: &Stretch,
+        limits: Limits,
+    ) -> Result<Self, StretchFault>
+        requires { stretch.now.part < length (P.bytes parts.now) }
+        ensures can { IfOk result (CanGoOn R.health) }
+        ensures rows { IfOk result (OpensStretch R.left R.health R.pulls limits (P.bytes parts.now) stretch.now) }
+        ensures fault { IfErr result (RefusesStretch limits (P.bytes parts.now) stretch.now) }
+    {
+        let place = FactPlace::behind(stretch.place, stretch.passed);
+        let source = parts.open(stretch.part, place.offset());
+        let Ok(reader) = FactReader::resume(alloc, source, place, limits.max_reads) else {
+            return Err(StretchFault::OutOfMemory);
+        };
+        let mut cursor = StretchCursor {
+            reader,
+            shown: None,
+            left: stretch.count,
+        };
+        match cursor.go_on() {
+            Ok(()) => Ok(cursor),
+            Err(fault) => Err(fault),
+        }
+    }
+
+    /// Goes on to the next object, or to the end.
+    fn go_on(&mut self) -> Result<(), StretchFault>
+        requires { CanGoOn R.health self.old }
+        ensures can { OnOk result (CanGoOn R.health self.new) }
+        ensures rows { OnOk result ((rows : List ByteRow) → HasObjects R.left R.health R.pulls self.old.reader rows
+            → self.old.left ≡ length rows → StandsAt R.left R.health R.pulls self.new rows) }
+        ensures fault { IfErr result (λ fault. IfChanged fault ((rows : List ByteRow)
+            → HasObjects R.left R.health R.pulls self.old.reader rows → self.old.left ≡ length rows → ⊥)) }
+    {
+        self.shown = None;
+        if self.left == 0 {
+            return Ok(());
+        }
+        self.left -= 1;
+        match next_object(&mut self.reader) {
+            Ok(id) => {
+                self.shown = Some(id);
+                Ok(())
+            }
+            Err(fault) => Err(fault),
+        }
+    }
+}
+
+impl<R: Source + Drop> RowCursor for StretchCursor<R> {
+    ghost use Rattle.hprof_objects.specs.StretchCursor.{CanGoOn, FailsAt, GoesOn, stretch_shown};
+
+    ghost shown = { stretch_shown };
+
+    ghost goes = { GoesOn R.left R.health R.pulls };
+
+    ghost fails = { FailsAt R.left R.health R.pulls };
+
+    ghost well = { CanGoOn R.health };
+
+    type Fault = StretchFault;
+
+    fn current(&self) -> Option<(u64, &[u8])> {
+        match self.shown {
+            Some(id) => Some((id, self.reader.spelled())),
+            None => None,
+        }
+    }
+
+    fn advance(&mut self) -> Result<(), StretchFault> {
+        let Some(before) = self.shown else {
+            return Ok(());
+        };
+        if let Err(fault) = self.go_on() {
+            return Err(fault);
+        }
+        match self.shown {
+            Some(id) if id <= before => Err(StretchFault::Changed),
+            _ => Ok(()),
+        }
+    }
+}
+
+impl<R: Source + Drop> AscendingCursor for StretchCursor<R> {
+    ghost rises = { λ old new row next goes is next_is. goes.above row next is next_is };
+}
