@@ -4,5 +4,8 @@ mod Stretches
 mod Whole
 mod WholeHeap
 mod Spilled
+mod Logged
+mod Parts
+mod Settled
 mod ReadingAgain
 mod StretchCursors

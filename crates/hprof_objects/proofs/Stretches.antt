@@ -1,19 +1,37 @@
 -- Stretches, as facts and bytes of their part come.
 use Rattle.std.proofs.Common.{◌≡◌, ◌<◌, ◌+◌, ℕ, List, [], ◌∷◌, ◌++◌, Option, Some, refl, sym, ap, subst, ◌∙◌}
-use Rattle.std.proofs.Common.{append_assoc, append-nil, length-append}
+use Rattle.std.proofs.Common.{append_assoc, append-nil, length-append, arith, ◌≤◌, inl, inr}
 use Rattle.hprof_items.specs.FactValue.{FactValue}
 use Rattle.hprof_stream.specs.declared.limits.Limits.{Limits}
 use Rattle.hprof_stream.specs.declared.part_place.PartPlace.{PartPlace}
-use Rattle.hprof_merge.specs.Rows.{ByteRow, Has}
+use Rattle.hprof_merge.specs.Rows.{ByteRow, Has, IsAscending}
 use Rattle.hprof_merge.specs.Showing.{only}
-use Rattle.hprof_merge.proofs.Lists.{append-ascending}
+use Rattle.hprof_merge.proofs.Lists.{append-ascending, append-last}
 use Rattle.hprof_objects.specs.declared.growing.Piece.{Piece}
 use Rattle.hprof_objects.specs.declared.stretch.Stretch.{Stretch}
 use Rattle.hprof_objects.specs.ObjectRows.{object_row, object_rows}
 use Rattle.hprof_objects.specs.PartsRead.{PartRead, with_bytes, with_fact}
 use Rattle.hprof_objects.specs.Growing.{longer}
-use Rattle.hprof_objects.specs.Stretches.{IsPiece, IsPlaceIn, StandsIn}
+use Rattle.hprof_objects.specs.Stretches.{EndsAt, IsPiece, IsPlaceIn, StandsIn}
 use Rattle.hprof_objects.proofs.Rows.{object_rows-append}
+
+-- the last of ascending rows is the highest
+at_most_last : (before : List ByteRow) (last : ByteRow) → IsAscending (before ++ last ∷ []) → (row : ByteRow)
+    → Has (before ++ last ∷ []) row
+    → row.0 ≤ last.0
+at_most_last [] last up row (inl is) = subst (λ (r : ByteRow). r.0 ≤ last.0) (sym is) (omega arith)
+at_most_last [] last up row (inr never) = absurd never
+at_most_last (first ∷ before) last up row (inl is) =
+    let lt = up.0 last (append-last before last) in
+    subst (λ (r : ByteRow). r.0 ≤ last.0) (sym is) (omega (arith, lt))
+at_most_last (first ∷ before) last up row (inr h) = at_most_last before last up.1 row h
+
+-- all rows are below a key that is above the last
+pub all_below : (last : ℕ) (rows : List ByteRow) (key : ℕ) → IsAscending rows → EndsAt rows last → last < key
+    → (row : ByteRow) → Has rows row → row.0 < key
+all_below last rows key up ends lt row h =
+    let le = at_most_last ends.0 (last, ends.1) (subst IsAscending ends.2 up) row (subst (λ (l : List ByteRow). Has l row) ends.2 h) in
+    omega (arith, le, lt)
 
 module _ (limits : Limits) (part : PartRead) where
   -- a place stays one as facts come
@@ -86,7 +104,13 @@ module _ (limits : Limits) (part : PartRead) where
   -- an object alone, behind what came of a piece
   pub stands_alone : (fact : FactValue) (row : ByteRow) (number : ℕ) (piece : Piece) → IsPiece limits part piece
       → object_row part.ids fact ≡ Some row
-      → StandsIn limits (with_fact part fact) (record { part = number; place = piece.place; passed = piece.passed; count = 1 }) (row ∷ []) []
+      → StandsIn limits (with_fact part fact) (record {
+        part = number;
+        place = piece.place;
+        passed = piece.passed;
+        count =
+            1;
+      }) (row ∷ []) []
   stands_alone fact row number piece is object = record {
     before = is.since;
     after = fact ∷ [];

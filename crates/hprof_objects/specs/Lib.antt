@@ -5,6 +5,8 @@ pub mod Growing
 pub mod Stretches
 pub mod Whole
 pub mod Store
+pub mod Reserved
+pub mod Log
 pub mod ReadAgain
 pub mod StretchFault
 pub mod StretchCursor

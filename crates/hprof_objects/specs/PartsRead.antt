@@ -27,3 +27,7 @@ with_fact part fact = record { ids = part.ids; bytes = part.bytes; facts = part.
 -- bytes of a part came
 abbrev pub with_bytes : PartRead → List ℕ → PartRead
 with_bytes part more = record { ids = part.ids; bytes = part.bytes ++ more; facts = part.facts }
+
+-- a part of which nothing came yet
+abbrev pub part_begun : IdSize → PartRead
+part_begun ids = record { ids = ids; bytes = []; facts = [] }

@@ -20,6 +20,11 @@ runs_of_store store = store.runs
 abbrev pub scratch_of_store : {S : Type 0} → RowStore S → S
 scratch_of_store store = scratch_of store.runs
 
+-- the row is the last one, behind those that were there; or alone, if they went to scratch
+abbrev pub StandsLast : Bool → List ByteRow → ByteRow → List ByteRow → Type 0
+StandsLast false memory row after = after ≡ memory ++ row ∷ []
+StandsLast true memory row after = after ≡ row ∷ []
+
 module _ {S : Type 0} (written : S → Option (List ℕ)) (health : S → Health) where
   -- of these rows enough went to scratch, behind the runs that were there
   pub record Spills (rows : List ByteRow) (old new : Runs S) : Type 0 where

@@ -33,7 +33,7 @@ pub(crate) struct Growing {
 }
 
 impl Growing {
-    ghost use Rattle.hprof_objects.specs.Growing.{extended};
+    ghost use Rattle.hprof_objects.specs.Growing.{extended, grown_first, grown_in_part};
 
     /// Returns the stretch with one object more.
     pub(crate) fn with(self, id: u64, len: usize) -> Growing
@@ -48,6 +48,33 @@ impl Growing {
             last: id,
             size: self.size.saturating_add(len as u64),
             stands: self.stands,
+        }
+    }
+
+    /// Returns the stretch of one object: the next one behind what came of a piece, and the row in memory at that place.
+    pub(crate) fn first(part: usize, piece: Piece, id: u64, len: usize, from: usize) -> Growing
+        ensures { result ≡ grown_first part piece id len from }
+    {
+        Growing {
+            stretch: Stretch {
+                part,
+                place: piece.place,
+                passed: piece.passed,
+                count: 1,
+            },
+            last: id,
+            size: len as u64,
+            stands: Stands::InMemory(from),
+        }
+    }
+
+    /// Returns the stretch as one that stays in its part.
+    pub(crate) fn in_part(self) -> Growing
+        ensures { result ≡ grown_in_part self }
+    {
+        Growing {
+            stands: Stands::InPart,
+            ..self
         }
     }
 }

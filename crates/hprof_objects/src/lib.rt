@@ -1,4 +1,5 @@
-//! The objects of parts that are larger than the memory: those that ascend in their part stay there, and the others are kept in memory or in
+//! The objects of parts that are larger than the memory: those that ascend in their part stay there, and the others are kept in memory or
+//! in
 //! scratch, in sorted runs.
 #![tactic(auto)]
 
@@ -7,6 +8,7 @@ mod identifying;
 mod keeping;
 pub mod laws;
 mod next_object;
+mod object_log;
 mod row_store;
 mod stretch;
 mod stretch_cursor;
@@ -17,6 +19,7 @@ mod stretch_tests;
 
 pub use identifying::object_id;
 pub use keeping::Keeping;
+pub use object_log::ObjectLog;
 pub use row_store::RowStore;
 pub use stretch::Stretch;
 pub use stretch_cursor::StretchCursor;

@@ -67,7 +67,8 @@ impl<S: Scratch + Drop> RowStore<S> {
         outcome
     }
 
-    /// Adds a row behind those in memory. Where these would take more than they may, or memory is refused, they go to scratch before. Returns
+    /// Adds a row behind those in memory. Where these would take more than they may, or memory is refused, they go to scratch before.
+    /// Returns
     /// whether they did.
     ///
     /// After an error no row is added.
@@ -77,7 +78,8 @@ impl<S: Scratch + Drop> RowStore<S> {
         ensures pushed { IfOk result (λ spilled. Pushes S.written S.health spilled self.old (key, bytes.now) self.new) }
         ensures health { LeavesScratch result (S.health (scratch_of_store self.new)) }
     {
-        let fits = self.rows.is_empty() || self.rows.size().saturating_add(bytes.len() as u64) < self.most;
+        let fits = self.rows.is_empty()
+            || self.rows.size().saturating_add(bytes.len() as u64) < self.most;
         if fits && self.rows.push(key, bytes).is_ok() {
             return Ok(false);
         }

@@ -4,3 +4,8 @@ pub mod Sending
 pub mod Spelled
 pub mod PickedCursors
 pub mod Added
+pub mod Bringing
+pub mod Reading
+pub mod Going
+pub mod Groups
+pub mod AllRows

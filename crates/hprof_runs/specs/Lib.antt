@@ -3,6 +3,7 @@ pub mod RowsIn
 pub mod Picked
 pub mod Other
 pub mod Picking
+pub mod PickedAscend
 pub mod PickedRise
 pub mod ReadBack
 pub mod MemoryScratch
@@ -11,3 +12,10 @@ pub mod ScratchFault
 pub mod ScratchWriter
 pub mod RunOf
 pub mod Runs
+pub mod RunFault
+pub mod RunBytes
+pub mod RunOpened
+pub mod Header
+pub mod RunCursor
+pub mod Known
+pub mod AnyRows

@@ -1,8 +1,8 @@
 //! The first row of each key.
 
-ghost use Rattle.std.specs.Prelude.{◌≡◌, ℕ, List, drop, ⊤};
+ghost use Rattle.std.specs.Prelude.{◌≡◌, ℕ, List, ⊤};
 ghost use Rattle.hprof_merge.specs.Late.{in_order_above};
-ghost use Rattle.hprof_runs.specs.Picked.{first_of, firsts_of};
+ghost use Rattle.hprof_runs.specs.Picked.{firsts_of};
 ghost use Rattle.hprof_runs.specs.Places.{rows_lying};
 
 use crate::place::{Place, bytes_at};
@@ -42,11 +42,11 @@ impl<'a> Firsts<'a> {
 }
 
 impl RowCursor for Firsts<'_> {
-    ghost use Rattle.hprof_runs.specs.Picking.{firsts_to_come};
+    ghost use Rattle.hprof_runs.specs.Picking.{FirstsGo, firsts_shown};
 
-    ghost shown = { λ it. first_of (firsts_to_come it) };
+    ghost shown = { firsts_shown };
 
-    ghost goes = { λ old new. firsts_to_come new ≡ drop 1 (firsts_to_come old) };
+    ghost goes = { FirstsGo };
 
     ghost fails = { λ old fault new. ⊥ };
 

@@ -3,23 +3,35 @@
 #![tactic(auto)]
 
 mod firsts;
+mod header;
+mod known_cursor;
 pub mod laws;
 mod memory_scratch;
+mod opening;
 mod others;
 mod place;
 mod rows;
 mod run;
+mod run_bytes;
+mod run_cursor;
+mod run_fault;
 mod run_writing;
 mod runs;
 mod scratch;
 mod scratch_fault;
 mod scratch_writer;
 mod sorted_rows;
+#[cfg(test)]
+mod tests;
 
 pub use firsts::Firsts;
+pub use known_cursor::KnownCursor;
 pub use memory_scratch::MemoryScratch;
+pub use opening::{AnyRows, open_all};
 pub use others::Others;
 pub use rows::Rows;
+pub use run_cursor::RunCursor;
+pub use run_fault::RunFault;
 pub use runs::Runs;
 pub use scratch::Scratch;
 pub use scratch_fault::ScratchFault;

@@ -7,7 +7,7 @@ use crate::scratch::Scratch;
 use hprof_devices::{Health, ReadFault, Target, WriteFault};
 use std::alloc::Global;
 
-/// Scratch in memory. A write fails if memory runs out.
+/// Scratch in memory. A write fails if memory runs out. A read never fails.
 #[derive(Drop)]
 pub struct MemoryScratch {
     bytes: Vec<u8>,
@@ -44,6 +44,8 @@ impl Target for MemoryScratch {
 }
 
 impl Scratch for MemoryScratch {
+    ghost unreadable = { λ it. ⊥ };
+
     fn read_back(&self, at: u64, piece: &mut [u8]) -> Result<usize, ReadFault> {
         let rest = self.bytes.get(at as usize..).unwrap_or(&[]);
         let count = rest.len().min(piece.len());

@@ -1,8 +1,8 @@
 //! One more row of each key with two contents.
 
-ghost use Rattle.std.specs.Prelude.{◌≡◌, ℕ, List, drop, take, ⊤, Some, None};
+ghost use Rattle.std.specs.Prelude.{◌≡◌, drop, take, ⊤};
 ghost use Rattle.hprof_runs.specs.Other.{content_at, others_from};
-ghost use Rattle.hprof_runs.specs.Picked.{differs_from, first_of, others_behind, others_of};
+ghost use Rattle.hprof_runs.specs.Picked.{differs_from, others_behind, others_of};
 ghost use Rattle.hprof_runs.specs.Places.{rows_lying};
 
 use crate::place::{Place, bytes_at};
@@ -35,7 +35,8 @@ fn next_other<'a>(
     mut key: u64,
     mut content: Option<Place>,
 ) -> (Option<Place>, &'a [Place])
-    ensures { others_from bytes.now result.0 result.1.now ≡ others_behind key (content_at bytes.now content) (rows_lying bytes.now places.now) }
+    ensures { others_from bytes.now result.0 result.1.now
+        ≡ others_behind key (content_at bytes.now content) (rows_lying bytes.now places.now) }
 {
     let mut rest = places;
     while let Some((place, behind)) = rest.split_first() {
@@ -66,11 +67,11 @@ impl<'a> Others<'a> {
 }
 
 impl RowCursor for Others<'_> {
-    ghost use Rattle.hprof_runs.specs.Picking.{others_to_come};
+    ghost use Rattle.hprof_runs.specs.Picking.{OthersGo, others_shown};
 
-    ghost shown = { λ it. first_of (others_to_come it) };
+    ghost shown = { others_shown };
 
-    ghost goes = { λ old new. others_to_come new ≡ drop 1 (others_to_come old) };
+    ghost goes = { OthersGo };
 
     ghost fails = { λ old fault new. ⊥ };
 

@@ -48,7 +48,10 @@ impl SortedRows {
     pub fn into_rows(self) -> Rows
         ensures { rows_in result ≡ [] }
     {
-        let SortedRows { mut bytes, mut places } = self;
+        let SortedRows {
+            mut bytes,
+            mut places,
+        } = self;
         bytes.clear();
         places.clear();
         Rows::of(bytes, places)

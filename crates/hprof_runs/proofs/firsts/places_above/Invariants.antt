@@ -4,7 +4,8 @@ use Rattle.hprof_runs.specs.Places.{rows_lying}
 use Rattle.hprof_runs.proofs.firsts.places_above.Given as goal
 
 abbrev pub invariant-loop-place : goal.invariant-loop-place
-invariant-loop-place l = (bytes : List ℕ) → in_order_above l.key (rows_lying bytes l.rest) ≡ in_order_above l.key (rows_lying bytes l.places)
+invariant-loop-place l = (bytes : List ℕ)
+    → in_order_above l.key (rows_lying bytes l.rest) ≡ in_order_above l.key (rows_lying bytes l.places)
 
 abbrev pub decreases-loop-place : goal.decreases-loop-place
 decreases-loop-place l = length l.rest

@@ -1,4 +1,4 @@
-use Rattle.hprof_runs.proofs.Picked.{firsts_of-ascends, others_of-ascends}
+use Rattle.hprof_runs.specs.PickedAscend.{firsts_of-ascends, others_of-ascends}
 use Rattle.hprof_runs.proofs.laws.firsts_and_others_ascend.Goals as goal
 
 pub returns-clause-firsts : goal.returns-clause-firsts

@@ -1,0 +1,330 @@
+//! The log of the objects of parts, as they are read.
+
+ghost use Rattle.std.specs.Prelude.{ℕ, ◌≡◌, ◌<◌, ◌-◌, ◌^◌, ◌∷◌, ◌++◌, [], List, length, vec_len, vec_capacity, true, Some, None, IfOk};
+ghost use Rattle.std.specs.Prelude.{OnOk, IsSome};
+ghost use Rattle.hprof_devices.specs.declared.health.Health.TheVariants.{Well};
+ghost use Rattle.hprof_items.specs.FactValue.{FactValue};
+ghost use Rattle.hprof_runs.specs.ReadBack.{HoldsNothing};
+ghost use Rattle.hprof_runs.specs.ScratchFault.{LeavesScratch};
+ghost use Rattle.hprof_stream.specs.declared.limits.Limits.{Limits};
+ghost use Rattle.hprof_values.specs.declared.ids.IdSize.{IdSize};
+ghost use Rattle.hprof_objects.specs.ObjectRows.{object_row};
+ghost use Rattle.hprof_objects.specs.PartsRead.{PartRead, part_begun, with_bytes, with_fact};
+ghost use Rattle.hprof_objects.specs.Growing.{piece_begun, staying};
+ghost use Rattle.hprof_objects.specs.Reserved.{IsReserved, IsReserved-prop};
+ghost use Rattle.hprof_objects.specs.Stretches.{IsPieceOf};
+
+use crate::growing::{Growing, Piece, Stands};
+use crate::keeping::Keeping;
+use crate::row_store::RowStore;
+use crate::stretch::Stretch;
+use hprof_runs::{Scratch, ScratchFault};
+use hprof_stream::PartPlace;
+use std::alloc::{AllocError, Global};
+
+/// The objects of parts, in the order in which they are read: which stretches stay in their part, and all others as rows.
+#[derive(Drop)]
+pub struct ObjectLog<S> {
+    keeping: Keeping,
+    pub(crate) store: RowStore<S>,
+    pub(crate) stretches: Vec<Stretch>,
+    /// The number of the part that is being read.
+    pub(crate) part: usize,
+    /// The number of stretches that stay in it.
+    staying: usize,
+    /// The piece that is being read, unless no stretch may begin in it.
+    pub(crate) piece: Option<Piece>,
+    pub(crate) growing: Option<Growing>,
+    // There is room for a growing stretch that stays.
+    ghost reserved: { IsReserved growing (vec_len stretches) (vec_capacity stretches) } by { IsReserved-prop growing (vec_len stretches)
+        (vec_capacity stretches) },
+}
+
+/// Adds the growing stretch to those that stay, if it stays. There is room for it.
+fn keep(stretches: &mut Vec<Stretch>, growing: Option<Growing>)
+    requires { IsReserved growing (vec_len stretches.old) (vec_capacity stretches.old) }
+    ensures { stretches.new.items ≡ stretches.old.items ++ staying growing }
+{
+    if let Some(
+        Growing {
+            stretch,
+            stands: Stands::InPart,
+            ..
+        },
+    ) = growing
+    {
+        stretches.push_reserved(stretch);
+    }
+}
+
+/// Returns the piece that begins at a place, of which no fact was taken.
+fn piece_at(place: Option<PartPlace>) -> Option<Piece>
+    ensures { result ≡ piece_begun place }
+{
+    match place {
+        Some(place) => Some(Piece { place, passed: 0 }),
+        None => None,
+    }
+}
+
+/// Returns the piece with one fact more that was taken of it. Where they cannot be counted, no stretch may begin behind them.
+fn with_one_more(piece: Option<Piece>) -> Option<Piece>
+    ensures { (limits : Limits) (part : PartRead) (fact : FactValue) → IsPieceOf limits part piece
+        → IsPieceOf limits (with_fact part fact) result }
+{
+    match piece {
+        Some(Piece { place, passed }) if passed < u64::MAX => Some(Piece {
+            place,
+            passed: passed + 1,
+        }),
+        _ => None,
+    }
+}
+
+impl<S: Scratch + Drop> ObjectLog<S> {
+    ghost use Rattle.hprof_objects.specs.Log.{HasLogged, HoldsParts, IsPlaceNow, KeepsLogged, KeepsUngrown, scratch_of_log};
+    ghost use Rattle.hprof_objects.specs.Store.{StandsLast, rows_of_store};
+    ghost use Rattle.hprof_objects.specs.Stretches.{IsGrowingStretch, IsPieceOf};
+    ghost use Rattle.hprof_objects.specs.declared.growing.Stands.TheVariants.{InMemory};
+    ghost use Rattle.hprof_merge.specs.Rows.{ByteRow};
+
+    /// Returns a log without objects.
+    pub fn new(alloc: Global, scratch: S, keeping: Keeping) -> Result<Self, AllocError>
+        requires { HoldsNothing (S.written scratch) }
+        ensures scratch { IfOk result (λ log. scratch_of_log log ≡ scratch) }
+        ensures holds { IfOk result (λ log. IsSome (S.written scratch) → (limits : Limits) → HoldsParts S.written S.health limits [] log) }
+    {
+        Ok(ObjectLog {
+            keeping,
+            store: RowStore::new(alloc, scratch, keeping.memory)?,
+            stretches: Vec::new(alloc),
+            part: 0,
+            staying: 0,
+            piece: None,
+            growing: None,
+        })
+    }
+
+    /// Ends the growing stretch.
+    fn close(&mut self)
+        ensures log { (limits : Limits) (parts : List PartRead) (part : PartRead) → HasLogged S.written S.health limits parts part self.old
+            → HasLogged S.written S.health limits parts part self.new }
+        ensures none { self.new.growing ≡ None }
+        ensures stretches { self.new.stretches.items ≡ self.old.stretches.items ++ staying self.old.growing }
+        ensures store { self.new.store ≡ self.old.store }
+        ensures piece { self.new.piece ≡ self.old.piece }
+        ensures part { self.new.part ≡ self.old.part }
+    {
+        let growing = self.growing;
+        self.growing = None;
+        keep(&mut self.stretches, growing);
+    }
+
+    /// Begins the part of that number. The parts before it have come to their ends.
+    pub fn begin(&mut self, part: usize)
+        ensures log { (limits : Limits) (parts : List PartRead) (ids : IdSize) → HoldsParts S.written S.health limits parts self.old
+            → part ≡ length parts → HasLogged S.written S.health limits parts (part_begun ids) self.new }
+        ensures scratch { scratch_of_log self.new ≡ scratch_of_log self.old }
+    {
+        self.close();
+        self.part = part;
+        self.staying = 0;
+        self.piece = None;
+    }
+
+    /// Ends the part that is being read.
+    pub fn end(&mut self)
+        ensures log { (limits : Limits) (parts : List PartRead) (part : PartRead) → HasLogged S.written S.health limits parts part self.old
+            → HoldsParts S.written S.health limits (parts ++ part ∷ []) self.new }
+        ensures scratch { scratch_of_log self.new ≡ scratch_of_log self.old }
+    {
+        self.close();
+    }
+
+    /// Notes where the next piece of the part begins: behind all facts that were taken. Without a place, no stretch begins in it.
+    pub fn note(&mut self, place: Option<PartPlace>)
+        ensures log { (limits : Limits) (parts : List PartRead) (part : PartRead) (more : List ℕ)
+            → HasLogged S.written S.health limits parts part self.old → IsPlaceNow limits (with_bytes part more) place
+            → HasLogged S.written S.health limits parts (with_bytes part more) self.new }
+        ensures scratch { scratch_of_log self.new ≡ scratch_of_log self.old }
+    {
+        self.piece = piece_at(place);
+    }
+
+    /// Goes past a fact that is no object.
+    pub fn skip(&mut self)
+        ensures log { (limits : Limits) (parts : List PartRead) (part : PartRead) (fact : FactValue)
+            → HasLogged S.written S.health limits parts part self.old → object_row part.ids fact ≡ None
+            → HasLogged S.written S.health limits parts (with_fact part fact) self.new }
+        ensures scratch { scratch_of_log self.new ≡ scratch_of_log self.old }
+    {
+        self.piece = with_one_more(self.piece);
+    }
+
+    /// Returns whether a stretch of so many bytes may stay in its part. Then there is room for it.
+    fn may_stay(&mut self, size: u64) -> bool
+        requires { self.old.growing ≡ None }
+        ensures room { result ≡ true → vec_len self.new.stretches < vec_capacity self.new.stretches }
+        ensures none { self.new.growing ≡ None }
+        ensures store { self.new.store ≡ self.old.store }
+        ensures stretches { self.new.stretches.items ≡ self.old.stretches.items }
+        ensures piece { self.new.piece ≡ self.old.piece }
+        ensures part { self.new.part ≡ self.old.part }
+    {
+        if size < self.keeping.stretch || self.staying >= self.keeping.stretches {
+            return false;
+        }
+        self.stretches.reserve(1).is_ok()
+    }
+
+    /// Goes on with a stretch whose rows are the last ones in memory, from this one on. If it is long enough, it stays in its part, and
+    /// they
+    /// leave the memory.
+    fn settle(&mut self, growing: Growing, from: usize)
+        requires { growing.stands ≡ InMemory from }
+        ensures log { (limits : Limits) (parts : List PartRead) (part : PartRead) (rows : List ByteRow)
+            → IsGrowingStretch limits self.old.part part growing (rows_of_store self.old.store) rows
+            → KeepsUngrown S.written S.health limits parts part self.old
+            → KeepsLogged S.written S.health limits parts part self.new }
+        ensures scratch { scratch_of_log self.new ≡ scratch_of_log self.old }
+        ensures piece { self.new.piece ≡ self.old.piece }
+    {
+        self.growing = None;
+        if self.may_stay(growing.size) {
+            self.store.truncate(from);
+            self.staying = self.staying.saturating_add(1);
+            self.growing = Some(growing.in_part());
+        } else {
+            self.growing = Some(growing);
+        }
+    }
+
+    /// Begins a stretch with an object whose row is the last one in memory, if the piece has a place.
+    fn begin_stretch(&mut self, id: u64, len: usize, from: usize)
+        requires { self.old.growing ≡ None }
+        ensures log { (limits : Limits) (parts : List PartRead) (part : PartRead) (fact : FactValue) (bytes : List ℕ) (front : List ByteRow)
+            → IsPieceOf limits part self.old.piece → object_row part.ids fact ≡ Some (id, bytes)
+            → rows_of_store self.old.store ≡ front ++ (id, bytes) ∷ [] → length front ≡ from
+            → KeepsUngrown S.written S.health limits parts (with_fact part fact) self.old
+            → KeepsLogged S.written S.health limits parts (with_fact part fact) self.new }
+        ensures scratch { scratch_of_log self.new ≡ scratch_of_log self.old }
+        ensures piece { self.new.piece ≡ self.old.piece }
+    {
+        if let Some(piece) = self.piece {
+            let growing = Growing::first(self.part, piece, id, len, from);
+            self.settle(growing, from);
+        }
+    }
+
+    /// Adds the row of an object, and returns whether the rows before it went to scratch.
+    fn push(&mut self, id: u64, spelled: &[u8]) -> Result<bool, ScratchFault>
+        requires short { length spelled.now < 2 ^ 32 }
+        requires well { S.health (scratch_of_log self.old) ≡ Well }
+        requires none { self.old.growing ≡ None }
+        ensures log { OnOk result ((limits : Limits) (parts : List PartRead) (part : PartRead) (fact : FactValue)
+            → KeepsUngrown S.written S.health limits parts part self.old → object_row part.ids fact ≡ Some (id, spelled.now)
+            → KeepsUngrown S.written S.health limits parts (with_fact part fact) self.new) }
+        ensures row { IfOk result (λ spilled. StandsLast spilled (rows_of_store self.old.store) (id, spelled.now)
+            (rows_of_store self.new.store)) }
+        ensures none { self.new.growing ≡ None }
+        ensures piece { self.new.piece ≡ self.old.piece }
+        ensures part { self.new.part ≡ self.old.part }
+        ensures health { LeavesScratch result (S.health (scratch_of_log self.new)) }
+    {
+        self.store.push(id, spelled)
+    }
+
+    /// Takes an object that does not belong to the growing stretch.
+    fn start(&mut self, id: u64, spelled: &[u8]) -> Result<(), ScratchFault>
+        requires short { length spelled.now < 2 ^ 32 }
+        requires well { S.health (scratch_of_log self.old) ≡ Well }
+        ensures log { OnOk result ((limits : Limits) (parts : List PartRead) (part : PartRead) (fact : FactValue)
+            → HasLogged S.written S.health limits parts part self.old → object_row part.ids fact ≡ Some (id, spelled.now)
+            → KeepsLogged S.written S.health limits parts (with_fact part fact) self.new) }
+        ensures piece { self.new.piece ≡ self.old.piece }
+        ensures health { LeavesScratch result (S.health (scratch_of_log self.new)) }
+    {
+        self.close();
+        let before = self.store.len();
+        match self.push(id, spelled) {
+            Ok(true) => self.begin_stretch(id, spelled.len(), 0),
+            Ok(false) => self.begin_stretch(id, spelled.len(), before),
+            Err(fault) => return Err(fault),
+        }
+        Ok(())
+    }
+
+    /// Takes an object behind those of the growing stretch, which are the last rows in memory, from this one on.
+    fn extend(
+        &mut self,
+        growing: Growing,
+        from: usize,
+        id: u64,
+        spelled: &[u8],
+    ) -> Result<(), ScratchFault>
+        requires short { length spelled.now < 2 ^ 32 }
+        requires well { S.health (scratch_of_log self.old) ≡ Well }
+        requires growing { self.old.growing ≡ Some growing }
+        requires from { growing.stands ≡ InMemory from }
+        requires above { growing.last < id }
+        requires count { growing.stretch.count < 2 ^ 64 - 1 }
+        ensures log { OnOk result ((limits : Limits) (parts : List PartRead) (part : PartRead) (fact : FactValue)
+            → HasLogged S.written S.health limits parts part self.old → object_row part.ids fact ≡ Some (id, spelled.now)
+            → KeepsLogged S.written S.health limits parts (with_fact part fact) self.new) }
+        ensures piece { self.new.piece ≡ self.old.piece }
+        ensures health { LeavesScratch result (S.health (scratch_of_log self.new)) }
+    {
+        self.growing = None;
+        match self.push(id, spelled) {
+            Ok(true) => self.begin_stretch(id, spelled.len(), 0),
+            Ok(false) => self.settle(growing.with(id, spelled.len()), from),
+            Err(fault) => return Err(fault),
+        }
+        Ok(())
+    }
+
+    /// Takes an object, with the bytes of its sub-record, and does not go on in the piece.
+    fn take_row(&mut self, id: u64, spelled: &[u8]) -> Result<(), ScratchFault>
+        requires short { length spelled.now < 2 ^ 32 }
+        requires well { S.health (scratch_of_log self.old) ≡ Well }
+        ensures log { OnOk result ((limits : Limits) (parts : List PartRead) (part : PartRead) (fact : FactValue)
+            → HasLogged S.written S.health limits parts part self.old → object_row part.ids fact ≡ Some (id, spelled.now)
+            → KeepsLogged S.written S.health limits parts (with_fact part fact) self.new) }
+        ensures piece { self.new.piece ≡ self.old.piece }
+        ensures health { LeavesScratch result (S.health (scratch_of_log self.new)) }
+    {
+        match self.growing {
+            Some(growing) if growing.last < id && growing.stretch.count < u64::MAX => {
+                match growing.stands {
+                    Stands::InPart => {
+                        self.growing = Some(growing.with(id, spelled.len()));
+                        Ok(())
+                    }
+                    Stands::InMemory(from) => self.extend(growing, from, id, spelled),
+                }
+            }
+            _ => self.start(id, spelled),
+        }
+    }
+
+    /// Takes an object, with the bytes of its sub-record.
+    ///
+    /// # Errors
+    ///
+    /// - `OutOfMemory`: memory ran out, also after the objects in memory had gone to scratch.
+    /// - `Full`, `Write`: the scratch took no more.
+    ///
+    /// The log is not used again then.
+    pub fn take(&mut self, id: u64, spelled: &[u8]) -> Result<(), ScratchFault>
+        requires short { length spelled.now < 2 ^ 32 }
+        requires well { S.health (scratch_of_log self.old) ≡ Well }
+        ensures log { OnOk result ((limits : Limits) (parts : List PartRead) (part : PartRead) (fact : FactValue)
+            → HasLogged S.written S.health limits parts part self.old → object_row part.ids fact ≡ Some (id, spelled.now)
+            → HasLogged S.written S.health limits parts (with_fact part fact) self.new) }
+        ensures health { LeavesScratch result (S.health (scratch_of_log self.new)) }
+    {
+        let outcome = self.take_row(id, spelled);
+        self.piece = with_one_more(self.piece);
+        outcome
+    }
+}

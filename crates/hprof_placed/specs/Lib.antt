@@ -1,0 +1,4 @@
+pub mod Handed
+pub mod LastPlaces
+pub mod Reading
+pub mod Feeding

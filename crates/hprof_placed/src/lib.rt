@@ -1,0 +1,11 @@
+//! Reads a part of a heap dump into a sink that is told places of the part while it is read, so that some of it can be read again later.
+#![tactic(auto)]
+
+pub mod laws;
+mod placed_sink;
+mod reading;
+#[cfg(test)]
+mod tests;
+
+pub use placed_sink::PlacedSink;
+pub use reading::read_placed;
