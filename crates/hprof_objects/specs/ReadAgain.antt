@@ -37,7 +37,7 @@ abbrev pub CannotRead : {R : Type 0} → (R → Health) → (R → ℕ) → ℕ 
 CannotRead health pulls reads is = (health is ≡ Failed) ⊎ (pulls is ≡ min reads (2 ^ 64 - 1))
 
 module _ {R : Type 0} (left : R → Option (List ℕ)) (health : R → Health) (pulls : R → ℕ) where
-  -- before so many facts were given it was over, with a fault
+  -- it is over behind some facts, and answers a fault
   pub record IsOverBefore (origin : Origin) (was : R) (reader : FactReader R) : Type 0 where
     pub given : List FactValue
     pub gave : HasGivenFrom left health pulls origin was given reader
