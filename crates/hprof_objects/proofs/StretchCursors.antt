@@ -22,11 +22,6 @@ use Rattle.hprof_objects.specs.ReadAgain.{HasObjects, IsOverBefore, IsSameAt, Is
 use Rattle.hprof_objects.specs.StretchCursor.{ComesTo, GoesOn, StandsAt, stretch_shown}
 use Rattle.hprof_objects.specs.Stretches.{IsStretch}
 
--- what is shown of an identifier that is shown
-shown_none : (A B : Type 0) (f : A → B) (shown : Option A) → option_map f shown ≡ None → shown ≡ None
-shown_none A B f None none = refl
-shown_none A B f (Some id) none = absurd cc
-
 module _ {R : Type 0} (left : R → Option (List ℕ)) (health : R → Health) (pulls : R → ℕ) (reads : ℕ) where
   -- ---- the next object
 
@@ -65,11 +60,9 @@ module _ {R : Type 0} (left : R → Option (List ℕ)) (health : R → Health) (
       ∙ ap (λ (shown : Option ℕ). only (option_map (λ (n : ℕ). (n, spelled_of it.reader)) shown) ++ stands.behind) is
 
   -- none is shown at the end
-  none_shown : (it : StretchCursor R) (rows : List ByteRow) → it.shown ≡ None → StandsAt left health pulls reads it rows → rows ≡ []
+  none_shown : (it : StretchCursor R) (rows : List ByteRow) → stretch_shown it ≡ None → StandsAt left health pulls reads it rows → rows ≡ []
   none_shown it rows is stands =
-      stands.are
-      ∙ (ap (λ (shown : Option ℕ). only (option_map (λ (n : ℕ). (n, spelled_of it.reader)) shown) ++ stands.behind) is
-      ∙ stands.none is)
+      stands.are ∙ (ap (λ (shown : Option ByteRow). only shown ++ stands.behind) is ∙ stands.none is)
 
   -- the next one is above it
   pub never_late : (old new : StretchCursor R) (before id : ℕ) → old.shown ≡ Some before → new.shown ≡ Some id → id ≤ before
@@ -86,24 +79,6 @@ module _ {R : Type 0} (left : R → Option (List ℕ)) (health : R → Health) (
       let ascends = subst IsAscending all comes.ascends in
       let above : before < id = ascends.0 (id, spelled_of new.reader) (inl refl) in
       omega (arith, above, late)
-
-  -- it goes past the row that it showed
-  pub goes_past : (old new : StretchCursor R) (before : ℕ) → old.shown ≡ Some before
-      → ((rows : List ByteRow) → HasObjects left health pulls reads old.reader rows → old.left ≡ length rows
-      → StandsAt left health pulls reads new rows)
-      → (row : ByteRow) (rest : List ByteRow) → ComesTo left health pulls reads old (row ∷ rest) → ComesTo left health pulls reads new rest
-  goes_past old new before is goes row rest comes =
-      let stands = comes.stands in
-      let first = first_shown old (row ∷ rest) before is stands in
-      let same : stands.behind ≡ rest = cc in
-      record {
-        stands = subst (StandsAt left health pulls reads new) same (goes stands.behind stands.objects stands.count);
-        ascends = comes.ascends.1;
-      }
-
-  pub never_past : (it : StretchCursor R) → it.shown ≡ None → (row : ByteRow) (rest : List ByteRow)
-      → ComesTo left health pulls reads it (row ∷ rest) → ⊥
-  never_past it is row rest comes = let never = none_shown it (row ∷ rest) is comes.stands in absurd cc
 
   -- ---- all that is shown
 
@@ -123,8 +98,7 @@ module _ {R : Type 0} (left : R → Option (List ℕ)) (health : R → Health) (
       → Shows stretch_shown (GoesOn left health pulls) old shown new → stretch_shown new ≡ None → shown ≡ rows
   shows_all old new rows shown comes shows ended =
       let it = shows_first old new rows shown comes shows in
-      let none = shown_none ℕ ByteRow (λ (id : ℕ). (id, spelled_of new.reader)) new.shown ended in
-      let nothing = none_shown new it.0 none it.2.stands in
+      let nothing = none_shown new it.0 ended it.2.stands in
       sym (it.1 ∙ ap (λ (l : List ByteRow). shown ++ l) nothing ∙ append-nil shown)
 
 module _ {R : Type 0} (left : R → Option (List ℕ)) (health : R → Health) (pulls : R → ℕ) where

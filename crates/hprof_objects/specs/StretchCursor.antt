@@ -31,7 +31,7 @@ module _ {R : Type 0} (left : R → Option (List ℕ)) (health : R → Health) (
   pub record StandsAt (reads : ℕ) (it : StretchCursor R) (rows : List ByteRow) : Type 0 where
     pub behind : List ByteRow
     pub are : rows ≡ only (stretch_shown it) ++ behind
-    pub none : it.shown ≡ None → behind ≡ []
+    pub none : stretch_shown it ≡ None → behind ≡ []
     pub count : it.left ≡ length behind
     pub objects : HasObjects left health pulls reads it.reader behind
 

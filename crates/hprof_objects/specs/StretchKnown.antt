@@ -1,20 +1,13 @@
 -- To which rows a cursor over a stretch comes.
 use Rattle.std.specs.Prelude.{◌≡◌, ℕ, List, [], ◌++◌, Option, Some, None, refl}
 use Rattle.std.proofs.Common.{sym, ap, ◌∙◌}
-use Rattle.std.specs.Option.{option_map}
 use Rattle.hprof_devices.specs.declared.health.Health.{Health}
-use Rattle.hprof_facts.specs.FactReader.{spelled_of}
 use Rattle.hprof_merge.specs.Rows.{ByteRow}
 use Rattle.hprof_merge.specs.Showing.{only}
 use Rattle.hprof_runs.specs.Known.{IsKnown}
 use Rattle.hprof_runs.specs.Picked.{first_of}
 use Rattle.hprof_objects.specs.declared.stretch_cursor.StretchCursor.{StretchCursor}
 use Rattle.hprof_objects.specs.StretchCursor.{ComesTo, GoesOn, stretch_shown}
-
--- nothing is shown where there is no identifier
-none_shown : (show : ℕ → ByteRow) (shown : Option ℕ) → option_map show shown ≡ None → shown ≡ None
-none_shown show None none = refl
-none_shown show (Some id) none = absurd cc
 
 -- what is shown is the first of the rows
 first_shown : (shown : Option ByteRow) (rows behind : List ByteRow) → rows ≡ only shown ++ behind → (shown ≡ None → behind ≡ [])
@@ -32,8 +25,7 @@ module _ {R : Type 0} (left : R → Option (List ℕ)) (health : R → Health) (
   stretch_known = record {
     first = λ it rows come.
         let stands = come.1.stands in
-        first_shown (stretch_shown it) rows stands.behind stands.are
-        (λ none. stands.none (none_shown (λ (id : ℕ). (id, spelled_of it.reader)) it.shown none));
+        first_shown (stretch_shown it) rows stands.behind stands.are stands.none;
     passes = λ old new row rest went come. (come.0, went.behind come.0 row rest come.1);
     ascend = λ it rows come. come.1.ascends;
   }
