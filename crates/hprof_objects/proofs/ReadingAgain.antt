@@ -116,14 +116,14 @@ first_fault longest bytes fault first is =
 -- and so is one with which a piece is refused, but for memory and the queue
 fed_fault : (limits : Limits) (bytes : List ℕ) (facts : List FactValue) (from : PartReader) (piece : List ℕ) (old : List FactValue)
     (fault : PartFault) (to : PartReader) (new : List FactValue)
-    → Feeds {S = List FactValue} listing.begins listing.steps listing.refuses listing.failed limits bytes facts from piece old (Err fault) to
-    new
+    → Feeds {S = List FactValue} listing.begins listing.steps listing.refuses listing.failed limits bytes facts from piece old (Err fault)
+    to new
     → stretch_fault fault ≡ whys.Read → ⊥
 fed_fault limits bytes facts from piece old fault to new fed is = by fault fed is
   where
     by : (f : PartFault)
-        → Feeds {S = List FactValue} listing.begins listing.steps listing.refuses listing.failed limits bytes facts from piece old (Err f) to
-        new
+        → Feeds {S = List FactValue} listing.begins listing.steps listing.refuses listing.failed limits bytes facts from piece old (Err f)
+        to new
         → stretch_fault f ≡ whys.Read → ⊥
     by (faults.Malformed at reason) fed is = cc
     by (faults.ItemTooLong at) fed is = cc
