@@ -10,3 +10,4 @@ pub mod Log
 pub mod ReadAgain
 pub mod StretchFault
 pub mod StretchCursor
+pub mod StretchKnown
