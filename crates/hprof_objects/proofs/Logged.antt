@@ -57,11 +57,11 @@ module _ (limits : Limits) where
       → IsStretch limits (parts ++ next ∷ []) stretch rows
   stretch_moves parts part next moves stretch rows it = elim (at_last parts part stretch.part it.part it.is) [
     | inl earlier ↦ record {
-        part = it.part;
-        is = before_last parts next stretch.part it.part earlier;
-        more = it.more;
-        stands = it.stands;
-      }
+      part = it.part;
+      is = before_last parts next stretch.part it.part earlier;
+      more = it.more;
+      stands = it.stands;
+    }
     | inr last ↦
         let moved = moves stretch rows it.more (subst (λ (p : PartRead). StandsIn limits p stretch rows it.more) last.1 it.stands) in
         record {
@@ -109,8 +109,10 @@ module _ (limits : Limits) where
       → AreStretches limits (parts ++ with_fact part fact ∷ []) stretches lists
   stretches_with_fact parts part fact stretches lists are =
       each_stretch (parts ++ part ∷ []) (parts ++ with_fact part fact ∷ []) (stretch_moves parts part (with_fact part fact)
-      (λ stretch rows more stands. (more ++ only (object_row part.ids fact),
-      stands_with_fact limits part fact stretch rows more stands))) stretches lists are
+      (λ stretch rows more stands. (
+        more ++ only (object_row part.ids fact),
+        stands_with_fact limits part fact stretch rows more stands,
+      ))) stretches lists are
 
   stretches_with_bytes : (parts : List PartRead) (part : PartRead) (extra : List ℕ) (stretches : List Stretch)
       (lists : List (List ByteRow)) → AreStretches limits (parts ++ part ∷ []) stretches lists

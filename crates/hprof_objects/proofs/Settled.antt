@@ -48,7 +48,7 @@ module _ {S : Type 0} (written : S → Option (List ℕ)) (health : S → Health
   settled_staying memory after scratch stays growing next from rows stands is taken grows it =
       let at = subst (λ (s : Stands). StandAt s rows memory) stands grows.at in
       let front : take from memory ≡ at.0 =
-          ap (take from) at.1 ∙ (ap (λ (n : ℕ). take n (at.0 ++ rows)) (sym at.2) ∙ take_front at.0 rows) in
+      ap (take from) at.1 ∙ (ap (λ (n : ℕ). take n (at.0 ++ rows)) (sym at.2) ∙ take_front at.0 rows) in
       subst (λ (g : Growing). Keeps written health limits parts part number after scratch stays (Some g)) (sym is)
       (subst (λ (m : List ByteRow). Keeps written health limits parts part number m scratch stays (Some (grown_in_part growing)))
       (sym (taken ∙ front))

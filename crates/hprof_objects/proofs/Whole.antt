@@ -113,7 +113,7 @@ one_object ids one other row is is_too fits fits_too =
     let a = row_of ids one row is in
     let b = row_of ids other row is_too in
     let bytes : dump_bytes ids one ≡ dump_bytes ids other =
-        ap (λ (r : ByteRow). r.1) a.row_is ∙ sym (ap (λ (r : ByteRow). r.1) b.row_is) in
+    ap (λ (r : ByteRow). r.1) a.row_is ∙ sym (ap (λ (r : ByteRow). r.1) b.row_is) in
     (dump_once ids one other [] [] (a.fits fits) (b.fits fits_too) (ap (λ (l : List ℕ). l ++ []) bytes)).0
 
 -- and so are objects with one identifier and the same bytes
@@ -241,7 +241,7 @@ fact_given ids (part ∷ parts) row same (place, h) =
         → (AnyHas (map rows_given parts) row → IsFactOf ids (all_given parts) row) → IsFactOf ids (all_given (part ∷ parts)) row
     step (inl front) next =
         let it = fact_of_row ids part.facts row
-            (subst (λ (i : IdSize). Has (object_rows i part.facts) row) same.0 front) in
+        (subst (λ (i : IdSize). Has (object_rows i part.facts) row) same.0 front) in
         record { fact = it.fact; has = Has-front part.facts (all_given parts) it.fact it.has; is = it.is }
     step (inr back) next =
         let it = next back in

@@ -166,7 +166,7 @@ one_by_key : (ids : IdSize) (all : List ByteRow) (one other : FactValue) (row mo
     → row.0 ≡ more.0 → one ≡ other
 one_by_key ids all one other row more up is is_too fits fits_too has has_more same =
     let bytes : row.1 ≡ more.1 =
-        one_at_key all up row.0 row.1 more.1 has (subst (λ (k : ℕ). Has all (k, more.1)) (sym same) has_more) in
+    one_at_key all up row.0 row.1 more.1 has (subst (λ (k : ℕ). Has all (k, more.1)) (sym same) has_more) in
     let rows : row ≡ more = ap (λ (k : ℕ). (k, row.1)) same ∙ ap (λ (b : List ℕ). (more.0, b)) bytes in
     one_object ids one other more (is ∙ ap Some rows) is_too fits fits_too
 
@@ -226,7 +226,7 @@ module _ (parts : List Given) (heap : HeapValue) (told : Tells (map without_obje
         let it = row_of_object heap.ids rows objects fact are h in
         let given = fact_given heap.ids parts it.row same_size ((union.same it.row).0 it.has) in
         let same : fact ≡ given.fact =
-            one_object heap.ids fact given.fact it.row it.is given.is it.fits (fits given.fact given.has) in
+        one_object heap.ids fact given.fact it.row it.is given.is it.fits (fits given.fact given.has) in
         subst (λ (f : FactValue). sets.Has all f) (sym same) given.has
 
     to_objects : (fact : FactValue) → sets.Has all fact → is_object fact ≡ true → sets.Has objects fact
@@ -300,16 +300,19 @@ module _ (parts : List Given) (heap : HeapValue) (told : Tells (map without_obje
           let same = one_key heap.ids c.one c.other a.0 b.0 key a.1 b.1 c.key_of_one c.key_of_other in
           let known = (row_of heap.ids c.one a.0 a.1).key in
           let key_is : key ≡ keys.Object a.0.0 = cc in
-          let has_b = given_row heap.ids parts c.other b.0 same_size c.has_other b.1 in
-          (a.0.0, key_is, record {
-            one = a.0.1;
-            other = b.0.1;
-            has_one = given_row heap.ids parts c.one a.0 same_size c.has_one a.1;
-            has_other = subst (λ (k : ℕ). AnyHas (map rows_given parts) (k, b.0.1)) (sym same) has_b;
-            differ = λ bytes.
-                let rows : a.0 ≡ b.0 = ap (λ (k : ℕ). (k, a.0.1)) same ∙ ap (λ (l : List ℕ). (b.0.0, l)) bytes in
-                c.differ (one_object heap.ids c.one c.other b.0 (a.1 ∙ ap Some rows) b.1 (fits c.one c.has_one) (fits c.other c.has_other));
-          })
+          let has_b = given_row heap.ids parts c.other b.0 same_size c.has_other b.1 in (
+            a.0.0,
+            key_is,
+            record {
+              one = a.0.1;
+              other = b.0.1;
+              has_one = given_row heap.ids parts c.one a.0 same_size c.has_one a.1;
+              has_other = subst (λ (k : ℕ). AnyHas (map rows_given parts) (k, b.0.1)) (sym same) has_b;
+              differ = λ bytes.
+                  let rows : a.0 ≡ b.0 = ap (λ (k : ℕ). (k, a.0.1)) same ∙ ap (λ (l : List ℕ). (b.0.0, l)) bytes in
+                  c.differ (one_object heap.ids c.one c.other b.0 (a.1 ∙ ap Some rows) b.1 (fits c.one c.has_one) (fits c.other c.has_other));
+            },
+          )
       | inr not_is ↦ absurd (apart heap.ids c.one c.other key is not_is c.key_of_one c.key_of_other)
     ]
     | inr not_is ↦ elim (is_object_or c.other) [
@@ -380,14 +383,14 @@ other_conflict parts key least = record {
       | inl is_too ↦ key_before least.conflict.one d.other key other (others_given parts least.conflict.one least.conflict.has_one).1
           least.conflict.key_of_one is_too d.key_of_other
       | inr not_too ↦ least.least other (record {
-          one = d.one;
-          other = d.other;
-          has_one = given_others parts d.one d.has_one not_is;
-          has_other = given_others parts d.other d.has_other not_too;
-          key_of_one = d.key_of_one;
-          key_of_other = d.key_of_other;
-          differ = d.differ;
-        })
+        one = d.one;
+        other = d.other;
+        has_one = given_others parts d.one d.has_one not_is;
+        has_other = given_others parts d.other d.has_other not_too;
+        key_of_one = d.key_of_one;
+        key_of_other = d.key_of_other;
+        differ = d.differ;
+      })
     ]
   ];
 }

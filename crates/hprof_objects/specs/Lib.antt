@@ -10,3 +10,7 @@ pub mod Log
 pub mod ReadAgain
 pub mod StretchFault
 pub mod StretchCursor
+pub mod StretchKnown
+pub mod StoredObjects
+pub mod MergedObjects
+pub mod ObjectCursors

@@ -3,9 +3,15 @@ use Rattle.std.specs.Prelude.{ℕ, List, Option, Result, Ok, Err, ⊤}
 use Rattle.hprof_merge.specs.Rows.{ByteRow}
 use Rattle.hprof_merge.specs.Merging.{RefusesRow, TakesAll, TakesBelow}
 use Rattle.hprof_merge.specs.TwoContents.{IsLeastWithTwoContents}
+use Rattle.hprof_devices.specs.declared.health.Health.{Health}
+use Rattle.hprof_stream.specs.declared.limits.Limits.{Limits}
 use Rattle.hprof_runs.specs.RunFault.{IfDamaged, IfReadFailed}
 use Rattle.hprof_objects.specs.declared.object_stop.ObjectStop.{ObjectStop}
 use Rattle.hprof_objects.specs.declared.object_stop.ObjectStop.TheVariants.{OutOfMemory, TwoContents, Scratch, Part, Sink}
+use Rattle.hprof_objects.specs.declared.stored_objects.StoredObjects.{StoredObjects}
+use Rattle.hprof_objects.specs.PartsRead.{PartRead}
+use Rattle.hprof_objects.specs.ReadAgain.{IsSameAt}
+use Rattle.hprof_objects.specs.StoredObjects.{HoldsObjects}
 use Rattle.hprof_objects.specs.StretchFault.{IfChanged}
 
 module _ {T : Type 0} (steps : T → ℕ → List ℕ → T → Type 0) where
@@ -28,13 +34,17 @@ module _ {T : Type 0} (steps : T → ℕ → List ℕ → T → Type 0) where
   MergesLists refuses lists (Ok done) old new = TakesAll steps lists old new
   MergesLists refuses lists (Err stop) old new = StopsWithin refuses lists stop old new
 
--- if the part or the scratch has changed, this holds
-abbrev pub IfNotAgain : {G : Type 0} → ObjectStop G → Type 0 → Type 0
-IfNotAgain OutOfMemory P = ⊤
-IfNotAgain (TwoContents key) P = ⊤
-IfNotAgain (Scratch fault) P = IfDamaged fault P
-IfNotAgain (Part part fault) P = IfChanged fault P
-IfNotAgain (Sink fault) P = ⊤
+module _ {S : Type 0} (written : S → Option (List ℕ)) (health : S → Health) (limits : Limits) (told : List (Option (List ℕ)))
+    (objects : StoredObjects S) where
+  -- a damage: the scratch does not hold what was written; a change: that part is not the same as when it was read
+  --   told: the bytes of each part now, where they are told
+  abbrev pub TellsChange : {G : Type 0} → ObjectStop G → Type 0
+  TellsChange OutOfMemory = ⊤
+  TellsChange (TwoContents key) = ⊤
+  TellsChange (Scratch fault) = IfDamaged fault ((reads : List PartRead) → HoldsObjects written health limits reads objects → ⊥)
+  TellsChange (Part part fault) = IfChanged fault ((reads : List PartRead) → HoldsObjects written health limits reads objects
+      → IsSameAt limits told reads part → ⊥)
+  TellsChange (Sink fault) = ⊤
 
 -- if a read of the scratch failed, this holds
 abbrev pub IfScratchFails : {G : Type 0} → ObjectStop G → Type 0 → Type 0

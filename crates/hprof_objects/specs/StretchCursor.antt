@@ -1,5 +1,5 @@
 -- What a cursor over a stretch shows.
-use Rattle.std.specs.Prelude.{◌≡◌, ◌<◌, ℕ, List, [], ◌∷◌, ◌++◌, length, Option, Some, None}
+use Rattle.std.specs.Prelude.{◌≡◌, ◌<◌, ℕ, Contains, List, [], ◌∷◌, ◌++◌, length, Option, Some, None}
 use Rattle.std.specs.Option.{option_map}
 use Rattle.hprof_devices.specs.declared.health.Health.{Health}
 use Rattle.hprof_stream.specs.declared.limits.Limits.{Limits}
@@ -57,3 +57,10 @@ module _ {R : Type 0} (left : R → Option (List ℕ)) (health : R → Health) (
 abbrev pub RefusesStretch : Limits → List (Option (List ℕ)) → Stretch → StretchFault → Type 0
 RefusesStretch limits told stretch fault = IfChanged fault ((parts : List PartRead) (rows : List ByteRow)
     → IsStretch limits parts stretch rows → IsSameAt limits told parts stretch.part → ⊥)
+
+-- it is the fault of one of the stretches, in a part of that number
+pub record RefusesOneOf (limits : Limits) (told : List (Option (List ℕ))) (stretches : List Stretch) (part : ℕ) (fault : StretchFault) : Type 0 where
+  pub stretch : Stretch
+  pub among : Contains stretches stretch
+  pub in_part : part ≡ stretch.part
+  pub refuses : RefusesStretch limits told stretch fault

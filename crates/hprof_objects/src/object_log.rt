@@ -16,6 +16,7 @@ ghost use Rattle.hprof_objects.specs.Stretches.{IsPieceOf};
 use crate::growing::{Growing, Piece, Stands};
 use crate::keeping::Keeping;
 use crate::row_store::RowStore;
+use crate::stored_objects::StoredObjects;
 use crate::stretch::Stretch;
 use hprof_runs::{Scratch, ScratchFault};
 use hprof_stream::PartPlace;
@@ -35,8 +36,7 @@ pub struct ObjectLog<S> {
     pub(crate) piece: Option<Piece>,
     pub(crate) growing: Option<Growing>,
     // There is room for a growing stretch that stays.
-    ghost reserved: { IsReserved growing (vec_len stretches) (vec_capacity stretches) }
-        by { IsReserved-prop growing (vec_len stretches) (vec_capacity stretches) },
+    ghost reserved: { IsReserved growing (vec_len stretches) (vec_capacity stretches) } by { IsReserved-prop growing (vec_len stretches) (vec_capacity stretches) },
 }
 
 /// Adds the growing stretch to those that stay, if it stays. There is room for it.
@@ -44,11 +44,13 @@ fn keep(stretches: &mut Vec<Stretch>, growing: Option<Growing>)
     requires { IsReserved growing (vec_len stretches.old) (vec_capacity stretches.old) }
     ensures { stretches.new.items ≡ stretches.old.items ++ staying growing }
 {
-    if let Some(Growing {
-        stretch,
-        stands: Stands::InPart,
-        ..
-    }) = growing
+    if let Some(
+        Growing {
+            stretch,
+            stands: Stands::InPart,
+            ..
+        },
+    ) = growing
     {
         stretches.push_reserved(stretch);
     }
@@ -80,6 +82,7 @@ fn with_one_more(piece: Option<Piece>) -> Option<Piece>
 
 impl<S: Scratch + Drop> ObjectLog<S> {
     ghost use Rattle.hprof_objects.specs.Log.{HasLogged, HoldsParts, IsPlaceNow, KeepsLogged, KeepsUngrown, scratch_of_log};
+    ghost use Rattle.hprof_objects.specs.StoredObjects.{HoldsObjects, scratch_under};
     ghost use Rattle.hprof_objects.specs.Store.{StandsLast, rows_of_store};
     ghost use Rattle.hprof_objects.specs.Stretches.{IsGrowingStretch, IsPieceOf};
     ghost use Rattle.hprof_objects.specs.declared.growing.Stands.TheVariants.{InMemory};
@@ -146,6 +149,27 @@ impl<S: Scratch + Drop> ObjectLog<S> {
         ensures scratch { scratch_of_log self.new ≡ scratch_of_log self.old }
     {
         self.piece = piece_at(place);
+    }
+
+    /// Ends the growing stretch, if there is one, and returns the objects as they are stored. Allocates nothing.
+    pub fn finish(self) -> StoredObjects<S>
+        ensures holds { (limits : Limits) (parts : List PartRead) → HoldsParts S.written S.health limits parts self
+            → HoldsObjects S.written S.health limits parts result }
+        ensures scratch { scratch_under result ≡ scratch_of_log self }
+    {
+        let ObjectLog {
+            store,
+            mut stretches,
+            growing,
+            ..
+        } = self;
+        keep(&mut stretches, growing);
+        let RowStore { rows, runs, .. } = store;
+        StoredObjects {
+            rows: rows.sort(),
+            runs,
+            stretches,
+        }
     }
 
     /// Goes past a fact that is no object.

@@ -77,7 +77,8 @@ impl<S: Scratch + Drop> RowStore<S> {
         ensures pushed { IfOk result (λ spilled. Pushes S.written S.health spilled self.old (key, bytes.now) self.new) }
         ensures health { LeavesScratch result (S.health (scratch_of_store self.new)) }
     {
-        let fits = self.rows.is_empty() || self.rows.size().saturating_add(bytes.len() as u64) < self.most;
+        let fits = self.rows.is_empty()
+            || self.rows.size().saturating_add(bytes.len() as u64) < self.most;
         if fits && self.rows.push(key, bytes).is_ok() {
             return Ok(false);
         }

@@ -12,6 +12,7 @@ use hprof_devices::Source;
 use hprof_facts::{FactPlace, FactReader};
 use hprof_merge::{AscendingCursor, RowCursor};
 use hprof_parts::Parts;
+use hprof_runs::KnownCursor;
 use hprof_stream::Limits;
 use std::alloc::Global;
 
@@ -118,4 +119,13 @@ impl<R: Source + Drop> RowCursor for StretchCursor<R> {
 
 impl<R: Source + Drop> AscendingCursor for StretchCursor<R> {
     ghost rises = { λ old new row next goes is next_is. goes.above row next is next_is };
+}
+
+impl<R: Source + Drop> KnownCursor for StretchCursor<R> {
+    ghost use Rattle.hprof_objects.specs.StretchCursor.{ComesTo};
+    ghost use Rattle.hprof_objects.specs.StretchKnown.{stretch_known};
+
+    ghost comes_to = { ComesTo R.left R.health R.pulls };
+
+    ghost known = { stretch_known R.left R.health R.pulls };
 }

@@ -17,7 +17,7 @@ pub returns-clause-runs : goal.returns-clause-runs
 returns-clause-runs g c =
     let sorted = c.sort-sorted.result in
     let moved : IsPermutation (rows_in c.args.self.now.rows) (sorted_in sorted) =
-        subst (λ (r : Rows). IsPermutation (rows_in r) (sorted_in sorted)) c.replace-rows.ensures.value c.sort-sorted.ensures in
+    subst (λ (r : Rows). IsPermutation (rows_in r) (sorted_in sorted)) c.replace-rows.ensures.value c.sort-sorted.ensures in
     on_ok c.add-outcome.result c.add-outcome.ensures.ok (λ adds. record {
       lists = run_lists (sorted_in sorted);
       adds = adds;
