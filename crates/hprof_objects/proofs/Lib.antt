@@ -9,3 +9,7 @@ mod Parts
 mod Settled
 mod ReadingAgain
 mod StretchCursors
+pub mod Stored
+pub mod PartsUnder
+pub mod Opened
+pub mod FaultsAt
