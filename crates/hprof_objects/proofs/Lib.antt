@@ -13,3 +13,6 @@ pub mod Stored
 pub mod PartsUnder
 pub mod Opened
 pub mod FaultsAt
+pub mod Stops
+pub mod MergedObjects
+pub mod OpeningFaults
