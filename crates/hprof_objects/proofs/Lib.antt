@@ -16,3 +16,4 @@ pub mod FaultsAt
 pub mod Stops
 pub mod MergedObjects
 pub mod OpeningFaults
+pub mod OneStretch

@@ -124,9 +124,11 @@ module _ {S R : Type 0} (written : S → Option (List ℕ)) (well : S → Health
           × StopsWithin steps refuses lists (object_stop (part_under objects) stop) old_sink new_sink
       stopped_some =
           let now = all_shown (shown written unreadable left health pulls) stopped.mid in
-          let lists = stopped.came ++ now in
-          (lists, stops_within steps refuses stopped.came now lists old_sink new_sink (part_under objects) (λ key low is. is)
-          (λ key bound front low small union. union) stop stopped.stops)
+          let lists = stopped.came ++ now in (
+            lists,
+            stops_within steps refuses stopped.came now lists old_sink new_sink (part_under objects) (λ key low is. is)
+                (λ key bound front low small union. union) stop stopped.stops,
+          )
 
       pub stopped_objects : (reads : List PartRead) → AreToldAgain written well limits told reads objects
           → StopsWithin steps refuses (objects_of reads) (object_stop (part_under objects) stop) old_sink new_sink

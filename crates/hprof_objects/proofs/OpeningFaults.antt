@@ -1,8 +1,10 @@
 -- What a fault tells as stored objects are opened.
-use Rattle.std.proofs.Common.{◌≡◌, ◌<◌, ℕ, zero, suc, List, [], ◌∷◌, length, Option, slice_index_or, refl, sym, subst, arith}
+use Rattle.std.proofs.lemmas.List.{get_or_past}
+use Rattle.std.proofs.Common.{◌≡◌, ◌<◌, ◌≤◌, None, ℕ, zero, suc, List, [], ◌∷◌, length, Option, slice_index_or, refl, sym, subst, arith}
 use Rattle.std.proofs.lemmas.List.Elements.{at_from_Contains}
 use Rattle.hprof_devices.specs.declared.health.Health.{Health}
 use Rattle.hprof_stream.specs.declared.limits.Limits.{Limits}
+use Rattle.hprof_parts.specs.Parts.{bytes_at}
 use Rattle.hprof_merge.specs.Rows.{ByteRow}
 use Rattle.hprof_runs.specs.declared.run_fault.RunFault.{RunFault}
 use Rattle.hprof_runs.specs.declared.run_fault.RunFault.TheVariants as runs
@@ -26,6 +28,12 @@ rows_of limits reads [] lists are k one is lt = absurd (omega (arith, lt))
 rows_of limits reads (first ∷ list) [] are k one is lt = absurd are
 rows_of limits reads (first ∷ list) (rows ∷ lists) are zero one is lt = (rows, subst (λ (s : Stretch). IsStretch limits reads s rows) is are.0)
 rows_of limits reads (first ∷ list) (rows ∷ lists) are (suc k) one is lt = rows_of limits reads list lists are.1 k one is (omega (arith, lt))
+
+-- a part that is not there is not the same
+pub not_there : (limits : Limits) (told : List (Option (List ℕ))) (one : Stretch) → length told ≤ one.part → (reads : List PartRead)
+    (rows : List ByteRow) → IsStretch limits reads one rows → IsSameAt limits told reads one.part → ⊥
+not_there limits told one past reads rows is same =
+    let tells = (same is.part is.is).tells in let none : bytes_at told one.part ≡ None = get_or_past told one.part None past in absurd cc
 
 module _ {S : Type 0} (G : Type 0) (written : S → Option (List ℕ)) (health : S → Health) (limits : Limits) (told : List (Option (List ℕ)))
     (objects : StoredObjects S) where

@@ -73,14 +73,16 @@ module _ {T G : Type 0} (steps : T → ℕ → List ℕ → T → Type 0) (refus
         stops_at_fault lists old new (part_at place) fault (takes_front because.0 because.1 because.3)
     stops_within (stops.Sink fault) because =
         let row = because.0 in
-        let it = because.2 in
-        (row, record {
-          front = it.front;
-          union = below row.0 (row.0 + 1) (it.front ++ row ∷ []) because.1 (omega arith) it.union;
-          mid = it.mid;
-          run = it.run;
-          refused = it.refused;
-        })
+        let it = because.2 in (
+          row,
+          record {
+            front = it.front;
+            union = below row.0 (row.0 + 1) (it.front ++ row ∷ []) because.1 (omega arith) it.union;
+            mid = it.mid;
+            run = it.run;
+            refused = it.refused;
+          },
+        )
 
 -- at the end the sink took all
 pub takes_all : {T : Type 0} (steps : T → ℕ → List ℕ → T → Type 0) (lists others : List (List ByteRow)) → HasEnoughOf lists others

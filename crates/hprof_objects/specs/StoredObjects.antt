@@ -1,10 +1,10 @@
 -- What stored objects hold of the parts that were read.
-use Rattle.std.specs.Prelude.{◌≡◌, ◌<◌, ◌∷◌, ◌++◌, ℕ, All, List, length, map, Option}
+use Rattle.std.specs.Prelude.{◌≡◌, ◌≤◌, ◌∷◌, ◌++◌, [], ℕ, List, length, map, Option}
 use Rattle.hprof_devices.specs.declared.health.Health.{Health}
 use Rattle.hprof_stream.specs.declared.limits.Limits.{Limits}
 use Rattle.hprof_merge.specs.Rows.{ByteRow}
 use Rattle.hprof_merge.specs.TwoContents.{HasEnoughOf}
-use Rattle.hprof_runs.specs.Runs.{HoldsRuns, scratch_of}
+use Rattle.hprof_runs.specs.Runs.{HoldsRuns, run_count, scratch_of}
 use Rattle.hprof_runs.specs.RowsIn.{sorted_in}
 use Rattle.hprof_objects.specs.declared.stored_objects.StoredObjects.{StoredObjects}
 use Rattle.hprof_objects.specs.PartsRead.{PartRead, rows_of_part}
@@ -19,9 +19,11 @@ objects_of parts = map rows_of_part parts
 abbrev pub scratch_under : {S : Type 0} → StoredObjects S → S
 scratch_under objects = scratch_of objects.runs
 
--- each stretch is in one of so many parts
-abbrev pub LieWithin : {S : Type 0} → StoredObjects S → ℕ → Type 0
-LieWithin objects count = All (λ stretch. stretch.part < count) objects.stretches.items
+-- no row is in memory or in a run, and there is at most one stretch
+pub record IsOneStretch {S : Type 0} (objects : StoredObjects S) : Type 0 where
+  pub no_rows : sorted_in objects.rows ≡ []
+  pub no_runs : run_count objects.runs ≡ 0
+  pub one : length objects.stretches.items ≤ 1
 
 module _ {S : Type 0} (written : S → Option (List ℕ)) (health : S → Health) (limits : Limits) where
   -- the rows in memory, the runs and the stretches are enough of the objects of these parts

@@ -1,11 +1,11 @@
 //! Merging stored objects into a sink.
 
-ghost use Rattle.std.specs.Prelude.{◌≡◌, ◌<◌, ℕ, List, length, IfErr};
+ghost use Rattle.std.specs.Prelude.{◌≡◌, ◌↔◌, List, IfErr, IsTrue};
 ghost use Rattle.hprof_merge.specs.Rows.{ByteRow};
 ghost use Rattle.hprof_objects.specs.MergedObjects.{IfScratchFails, MergesLists, TellsChange, UnlessRefused};
 ghost use Rattle.hprof_objects.specs.ObjectCursors.{object_stop, part_under};
 ghost use Rattle.hprof_objects.specs.PartsRead.{PartRead};
-ghost use Rattle.hprof_objects.specs.StoredObjects.{AreToldAgain, LieWithin, objects_of};
+ghost use Rattle.hprof_objects.specs.StoredObjects.{AreToldAgain, IsOneStretch, objects_of};
 
 use crate::object_stop::ObjectStop;
 use crate::opening::{part_stop, scratch_stop};
@@ -48,6 +48,14 @@ impl<S: Scratch + Drop> StoredObjects<S> {
         }
     }
 
+    /// Returns whether no object is in memory or in scratch, and at most one stretch stays in its part. Then no identifier has objects with two
+    /// contents.
+    pub fn is_one_stretch(&self) -> bool
+        ensures { IsTrue result ↔ IsOneStretch self.now }
+    {
+        self.rows.is_empty() && self.runs.count() == 0 && self.stretches.len() <= 1
+    }
+
     /// Merges the objects into a sink, which is given each of them once, in ascending order of identifier, with the bytes of its sub-record.
     /// They can be merged again as often as is wanted.
     ///
@@ -57,7 +65,7 @@ impl<S: Scratch + Drop> StoredObjects<S> {
     ///
     /// - `OutOfMemory`: memory ran out. The sink was given the first of the objects, or none.
     /// - `TwoContents`: the least identifier of which objects have two contents. The sink was given the objects below it.
-    /// - `Scratch`, `Part`: objects cannot be read again. The sink was given the first of the objects, or none.
+    /// - `Scratch`, `Part`: objects cannot be read again, or a part is not there. The sink was given the first of the objects, or none.
     /// - `Sink`: the sink refused an object. It was given the objects below it.
     pub fn merge<R: Source + Drop, P: Parts<Reader = R>, T: RowSink>(
         &self,
@@ -66,7 +74,6 @@ impl<S: Scratch + Drop> StoredObjects<S> {
         limits: Limits,
         sink: &mut T,
     ) -> Result<(), ObjectStop<T::Fault>>
-        requires within { LieWithin self.now (length (P.bytes parts.now)) }
         requires sink { T.well sink.old }
         ensures rows { (lists : List (List ByteRow)) × MergesLists T.steps T.refuses lists result sink.old sink.new }
         ensures objects { (reads : List PartRead) → AreToldAgain S.written S.health limits (P.bytes parts.now) reads self.now

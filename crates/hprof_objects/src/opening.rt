@@ -1,13 +1,10 @@
 //! Opening stored objects, to merge them.
 
-ghost use Rattle.std.specs.Prelude.{◌≡◌, ◌<◌, ℕ, All, List, length, IfOk, IfErr, OnOk};
+ghost use Rattle.std.specs.Prelude.{◌≡◌, All, IfOk, IfErr, OnOk};
 ghost use Rattle.hprof_merge.specs.OneOf.{holds_either};
 ghost use Rattle.hprof_runs.specs.AnyRows.{any_well};
 ghost use Rattle.hprof_objects.specs.MergedObjects.{IfScratchFails, TellsChange};
 ghost use Rattle.hprof_objects.specs.ObjectCursors.{AddsStretches, IsBefore, OpensObjects, part_stop, scratch_stop};
-ghost use Rattle.hprof_objects.specs.PartsRead.{PartRead};
-ghost use Rattle.hprof_objects.specs.ReadAgain.{IsSameAt};
-ghost use Rattle.hprof_objects.specs.StoredObjects.{LieWithin};
 ghost use Rattle.hprof_objects.specs.StretchCursor.{CanGoOn, RefusesOneOf};
 
 use crate::object_stop::ObjectStop;
@@ -45,7 +42,8 @@ pub(crate) fn part_stop<F>(part: usize, fault: StretchFault) -> ObjectStop<F>
     }
 }
 
-/// Adds a cursor over each stretch. After an error some of them are missing, and it tells the number of that part.
+/// Adds a cursor over each stretch. A part that is not there has changed. After an error some of the cursors are missing, and it tells the
+/// number of the part.
 fn open_stretches<'a, S: Scratch, R: Source + Drop, P: Parts<Reader = R>>(
     alloc: Global,
     parts: &P,
@@ -53,7 +51,6 @@ fn open_stretches<'a, S: Scratch, R: Source + Drop, P: Parts<Reader = R>>(
     limits: Limits,
     cursors: &mut Vec<ObjectCursor<'a, S, R>>,
 ) -> Result<(), (usize, StretchFault)>
-    requires within { All (λ stretch. stretch.part < length (P.bytes parts.now)) stretches.now }
     requires well { All (holds_either any_well (CanGoOn R.health)) cursors.old.items }
     ensures adds { OnOk result (AddsStretches R.left R.health R.pulls limits (P.bytes parts.now) stretches.now
         cursors.old.items cursors.new.items) }
@@ -62,6 +59,9 @@ fn open_stretches<'a, S: Scratch, R: Source + Drop, P: Parts<Reader = R>>(
 {
     for index in 0..stretches.len() {
         let stretch = stretches[index];
+        if stretch.part >= parts.count() {
+            return Err((stretch.part, StretchFault::Changed));
+        }
         let cursor = match StretchCursor::new(alloc, parts, &stretch, limits) {
             Ok(cursor) => cursor,
             Err(fault) => return Err((stretch.part, fault)),
@@ -81,7 +81,6 @@ impl<S: Scratch + Drop> StoredObjects<S> {
         parts: &P,
         limits: Limits,
     ) -> Result<Vec<ObjectCursor<'_, S, R>>, ObjectStop<F>>
-        requires within { LieWithin self.now (length (P.bytes parts.now)) }
         ensures opens { IfOk result (λ cursors. OpensObjects R.left R.health R.pulls limits (P.bytes parts.now) S.written S.health self.now
             cursors.items) }
         ensures well { IfOk result (λ cursors. All (holds_either any_well (CanGoOn R.health)) cursors.items) }

@@ -1,4 +1,4 @@
-use Rattle.std.proofs.Common.{◌≡◌, ◌<◌, List, length, refl, subst, sym, arith}
+use Rattle.std.proofs.Common.{◌≡◌, ◌<◌, ◌≤◌, List, length, refl, subst, sym, arith}
 use Rattle.std.proofs.lemmas.List.Elements.{All-push, Contains-get_or}
 use Rattle.std.specs.Prelude.{Contains}
 use Rattle.hprof_merge.specs.OneOf.{holds_either}
@@ -6,6 +6,7 @@ use Rattle.hprof_merge.specs.declared.one_of.OneOf.TheVariants.{Second}
 use Rattle.hprof_runs.specs.AnyRows.{any_well}
 use Rattle.hprof_objects.specs.declared.stretch.Stretch.{Stretch}
 use Rattle.hprof_objects.specs.StretchCursor.{CanGoOn}
+use Rattle.hprof_objects.proofs.OpeningFaults.{not_there}
 use Rattle.hprof_objects.proofs.Opened.{added_all, added_more, added_none, well_more}
 use Rattle.hprof_objects.proofs.opening.open_stretches.Goals as goal
 
@@ -60,3 +61,16 @@ returns-clause-adds g c =
 
 pub returns-clause-well : goal.returns-clause-well
 returns-clause-well g c = c.loop-index.invariant.well
+
+pub returns-then-stretch-count-clause-fault : goal.returns-then-stretch-count-clause-fault
+returns-then-stretch-count-clause-fault g c =
+    let list = c.args.stretches.now in
+    let stretch = c.index-stretches-index.result in
+    let told = g.P.Parts.bytes c.args.parts.now in
+    record {
+      stretch = stretch;
+      among = subst (λ (s : Stretch). Contains list s) (sym c.index-stretches-index.is)
+          (Contains-get_or list c.loop-index.index stretch c.loop-index-test.true);
+      in_part = refl;
+      refuses = not_there c.args.limits told stretch (omega (arith, c.count.ensures, c.if-stretch-count.true));
+    }

@@ -44,9 +44,11 @@ returns-clause-rows g c =
     g.S.Target.health c.args.self.now) (sym c.deref_mut.ensures.value) c.in-Ok.ensures.opens in
     let some = stopped_some g.S.Target.written g.S.Target.health g.S.Scratch.unreadable g.R.Source.left g.R.Source.health g.R.Source.pulls
     c.args.limits told c.args.self.now slice opens g.T.RowSink.steps g.T.RowSink.refuses c.merge_rows.new.cursors c.in-Err-merge_rows.stop
-    c.args.sink.now c.merge_rows.new.sink c.in-Err-merge_rows.ensures.stop in
-    (some.0, subst (λ (s : ObjectStop g.row.T-Fault.Denot). StopsWithin g.T.RowSink.steps g.T.RowSink.refuses some.0 s c.args.sink.now
-    c.merge_rows.new.sink) (sym c.stop_of.ensures) some.1)
+    c.args.sink.now c.merge_rows.new.sink c.in-Err-merge_rows.ensures.stop in (
+      some.0,
+      subst (λ (s : ObjectStop g.row.T-Fault.Denot). StopsWithin g.T.RowSink.steps g.T.RowSink.refuses some.0 s c.args.sink.now
+          c.merge_rows.new.sink) (sym c.stop_of.ensures) some.1,
+    )
 
 pub returns-clause-objects : goal.returns-clause-objects
 returns-clause-objects g c = λ reads again.

@@ -1,7 +1,5 @@
-use Rattle.std.proofs.Common.{◌<◌, List, length, subst, sym}
-use Rattle.std.specs.Prelude.{All}
+use Rattle.std.proofs.Common.{subst, sym}
 use Rattle.hprof_objects.specs.declared.object_stop.ObjectStop.{ObjectStop}
-use Rattle.hprof_objects.specs.declared.stretch.Stretch.{Stretch}
 use Rattle.hprof_objects.specs.MergedObjects.{TellsChange}
 use Rattle.hprof_objects.proofs.OpeningFaults.{part_tells, scratch_tells}
 use Rattle.hprof_objects.proofs.stored_objects.StoredObjects.open.Goals as goal
@@ -12,11 +10,6 @@ returns-in-Err-clause-again g c =
     subst (λ (s : ObjectStop g.row.F.Denot). TellsChange g.S.Target.written g.S.Target.health c.args.limits told c.args.self.now s)
     (sym c.scratch_stop.ensures)
     (scratch_tells g.row.F.Denot g.S.Target.written g.S.Target.health c.args.limits told c.args.self.now c.in-Err.fault c.in-Err.ensures.fault)
-
-pub open_stretches-requires-clause-within : goal.open_stretches-requires-clause-within
-open_stretches-requires-clause-within g c =
-    subst (λ (l : List Stretch). All (λ stretch. stretch.part < length (g.P.Parts.bytes c.args.parts.now)) l) (sym c.deref.ensures.value)
-    c.requires.within
 
 pub returns-clause-again : goal.returns-clause-again
 returns-clause-again g c =
