@@ -7,6 +7,8 @@ mod identifying;
 mod keeping;
 pub mod laws;
 mod merging;
+#[cfg(test)]
+mod merging_tests;
 mod next_object;
 mod object_log;
 mod object_stop;
