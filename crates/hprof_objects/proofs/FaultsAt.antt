@@ -21,7 +21,6 @@ use Rattle.hprof_runs.specs.AnyRows.{AnyComesTo, FirstsCome, IsOverRows, OthersC
 use Rattle.hprof_runs.specs.Known.{AllComeTo, IsKnown, comes_either, either_known}
 use Rattle.hprof_runs.specs.Picking.{FirstsGo, OthersGo, firsts_shown, others_shown}
 use Rattle.hprof_runs.specs.RunCursor as run
-use Rattle.hprof_runs.specs.RunBytes.{scratch_under}
 use Rattle.hprof_runs.proofs.AllRows.{known_so_far}
 use Rattle.hprof_objects.specs.declared.stretch.Stretch.{Stretch}
 use Rattle.hprof_objects.specs.declared.stretch_cursor.StretchCursor.{StretchCursor}
@@ -94,17 +93,24 @@ module _ {S R : Type 0} (written : S → Option (List ℕ)) (unreadable : S → 
   no_scratch fault it (First next) failed = absurd failed
   no_scratch fault it (Second next) failed = absurd failed
 
-  -- a read that failed is one of some scratch whose reads may fail
-  pub read_of_scratch : (it next : ObjectCursor S R) → fails it (First (Second runs.Read)) next → (scratch : S) × unreadable scratch
-  read_of_scratch (First (First (First it))) (First next) failed = absurd failed
-  read_of_scratch (First (First (First it))) (Second next) failed = absurd failed
-  read_of_scratch (First (First (Second it))) (First next) failed = absurd failed
-  read_of_scratch (First (First (Second it))) (Second next) failed = absurd failed
-  read_of_scratch (First (Second it)) (First (First next)) failed = absurd failed
-  read_of_scratch (First (Second it)) (First (Second next)) failed = (scratch_under it.bytes, failed.read)
-  read_of_scratch (First (Second it)) (Second next) failed = absurd failed
-  read_of_scratch (Second it) (First next) failed = absurd failed
-  read_of_scratch (Second it) (Second next) failed = absurd failed
+  -- a cursor over a run stays in its scratch
+  run_scratch : (rows : List ByteRow) (old new : RunCursor S) → Shows run.run_shown (run.GoesOn written) old rows new
+      → run.scratch_of_run new ≡ run.scratch_of_run old
+  run_scratch [] old new shows = ap run.scratch_of_run (sym shows)
+  run_scratch (row ∷ rows) old new shows = run_scratch rows shows.1.0 new shows.1.2 ∙ shows.1.1.same_scratch
+
+  -- a read that failed is one of that scratch
+  read_of_run : (it : RunCursor S) (next : ObjectCursor S R) → fails (First (Second it)) (First (Second runs.Read)) next
+      → unreadable (run.scratch_of_run it)
+  read_of_run it (First (First next)) failed = absurd failed
+  read_of_run it (First (Second next)) failed = failed.read
+  read_of_run it (Second next) failed = absurd failed
+
+  no_read : (it : OneOf Firsts Others) (next : ObjectCursor S R) → fails (First (First it)) (First (Second runs.Read)) next → ⊥
+  no_read (First it) (First next) failed = absurd failed
+  no_read (First it) (Second next) failed = absurd failed
+  no_read (Second it) (First next) failed = absurd failed
+  no_read (Second it) (Second next) failed = absurd failed
 
   -- each cursor comes to rows, or is one over a stretch
   over_stretches : (opened : List (StretchCursor R)) (place : ℕ) (d : ObjectCursor S R)
@@ -166,11 +172,11 @@ module _ {S R : Type 0} (written : S → Option (List ℕ)) (unreadable : S → 
     pub among : (reads : List PartRead) (lists : List (List ByteRow)) → AreStretches limits reads list lists
         → (rows : List ByteRow) × IsStretch limits reads its rows
 
-  module _ (limits : Limits) (told : List (Option (List ℕ))) where
+  module _ (scratch : S) (limits : Limits) (told : List (Option (List ℕ))) where
     -- each cursor is over rows, or over the stretch at its place
     stretch_at : (list : List Stretch) (opened : List (StretchCursor R)) (place : ℕ) (d : ObjectCursor S R)
-        → AllOpen left health pulls limits told list opened → IsOverRows d
-        → IsOverRows (slice_index_or (map Second opened) place d)
+        → AllOpen left health pulls limits told list opened → IsOverRows scratch d
+        → IsOverRows scratch (slice_index_or (map Second opened) place d)
         ⊎ IsOver limits told list (part_of list place) (slice_index_or (map Second opened) place d)
     stretch_at [] [] place d each over = inl over
     stretch_at [] (it ∷ opened) place d each over = absurd each
@@ -210,23 +216,23 @@ module _ {S R : Type 0} (written : S → Option (List ℕ)) (unreadable : S → 
             later reads (rows ∷ lists) are = there.among reads lists are.1
 
     pub rows_or_stretch : (over_rows : List (ObjectCursor S R)) (list : List Stretch) (opened : List (StretchCursor R)) (place : ℕ)
-        (d : ObjectCursor S R) → All IsOverRows over_rows → AllOpen left health pulls limits told list opened → IsOverRows d
-        → IsOverRows (slice_index_or (over_rows ++ map Second opened) place d)
+        (d : ObjectCursor S R) → All (IsOverRows scratch) over_rows → AllOpen left health pulls limits told list opened → IsOverRows scratch d
+        → IsOverRows scratch (slice_index_or (over_rows ++ map Second opened) place d)
         ⊎ IsOver limits told list (part_of list (place - length over_rows)) (slice_index_or (over_rows ++ map Second opened) place d)
     rows_or_stretch [] list opened place d kind each over =
         let same : place ≡ place - 0 = omega arith in
         let here = slice_index_or (map Second opened) place d in
-        subst (λ (n : ℕ). IsOverRows here ⊎ IsOver limits told list (part_of list n) here) same (stretch_at list opened place d each over)
+        subst (λ (n : ℕ). IsOverRows scratch here ⊎ IsOver limits told list (part_of list n) here) same (stretch_at list opened place d each over)
     rows_or_stretch (one ∷ over_rows) list opened zero d kind each over = inl (kind 0 one (omega arith))
     rows_or_stretch (one ∷ over_rows) list opened (suc place) d kind each over =
         let same : place - length over_rows ≡ suc place - length (one ∷ over_rows) = omega arith in
         let here = slice_index_or (over_rows ++ map Second opened) place d in
-        subst (λ (n : ℕ). IsOverRows here ⊎ IsOver limits told list (part_of list n) here) same
+        subst (λ (n : ℕ). IsOverRows scratch here ⊎ IsOver limits told list (part_of list n) here) same
         (rows_or_stretch over_rows list opened place d (λ k e lt. kind (suc k) e (omega (arith, lt))) each over)
 
     pub never_changed : (over_rows : List (ObjectCursor S R)) (list : List Stretch) (opened : List (StretchCursor R))
         (mid : List (ObjectCursor S R)) (came : List (List ByteRow)) (place : ℕ) (d next : ObjectCursor S R)
-        → All IsOverRows over_rows → AllOpen left health pulls limits told list opened → IsOverRows d
+        → All (IsOverRows scratch) over_rows → AllOpen left health pulls limits told list opened → IsOverRows scratch d
         → AllShow shown goes (over_rows ++ map Second opened) mid came
         → fails (slice_index_or mid place d) (Second stretches.Changed) next
         → (reads : List PartRead) (lists : List (List ByteRow)) → AreStretches limits reads list lists
@@ -253,11 +259,53 @@ module _ {S R : Type 0} (written : S → Option (List ℕ)) (unreadable : S → 
         of_part it (First next) rows comes failed = absurd failed
         of_part it (Second next) rows comes failed = failed rows comes
 
-        of_rows : (here after : ObjectCursor S R) (rows : List ByteRow) → Shows shown goes here rows after → IsOverRows here
+        of_rows : (here after : ObjectCursor S R) (rows : List ByteRow) → Shows shown goes here rows after → IsOverRows scratch here
             → fails after (Second stretches.Changed) next → ⊥
         of_rows (First here) after rows shows over failed =
             let kept = either.shows_first (of_either (of_either firsts_shown others_shown) run.run_shown) stretch.stretch_shown
             (goes_either (goes_either FirstsGo OthersGo) (run.GoesOn written)) (stretch.GoesOn left health pulls) here after rows shows in
             no_part stretches.Changed kept.0 next
             (subst (λ (c : ObjectCursor S R). fails c (Second stretches.Changed) next) kept.1 failed)
+        of_rows (Second here) after rows shows over failed = absurd over
+
+    -- ---- reads that fail
+
+    pub its_scratch : (over_rows : List (ObjectCursor S R)) (list : List Stretch) (opened : List (StretchCursor R))
+        (mid : List (ObjectCursor S R)) (came : List (List ByteRow)) (place : ℕ) (d next : ObjectCursor S R)
+        → All (IsOverRows scratch) over_rows → AllOpen left health pulls limits told list opened → IsOverRows scratch d
+        → AllShow shown goes (over_rows ++ map Second opened) mid came
+        → fails (slice_index_or mid place d) (First (Second runs.Read)) next → unreadable scratch
+    its_scratch over_rows list opened mid came place d next kind each over shows failed =
+        let here = slice_index_or (over_rows ++ map Second opened) place d in
+        let after = slice_index_or mid place d in
+        let seen = at_place shown goes (over_rows ++ map Second opened) mid came place d shows in
+        elim (rows_or_stretch over_rows list opened place d kind each over) [
+          | inl rows ↦ of_rows here after seen.0 seen.1 rows failed
+          | inr it ↦
+              let kept = either.shows_second (of_either (of_either firsts_shown others_shown) run.run_shown) stretch.stretch_shown
+              (goes_either (goes_either FirstsGo OthersGo) (run.GoesOn written)) (stretch.GoesOn left health pulls) it.it after seen.0
+              (subst (λ (c : ObjectCursor S R). Shows shown goes c seen.0 after) it.is seen.1) in
+              absurd (no_scratch runs.Read kept.0 next
+              (subst (λ (c : ObjectCursor S R). fails c (First (Second runs.Read)) next) kept.1 failed))
+        ]
+      where
+        of_rows : (here after : ObjectCursor S R) (rows : List ByteRow) → Shows shown goes here rows after → IsOverRows scratch here
+            → fails after (First (Second runs.Read)) next → unreadable scratch
+        of_rows (First (First here)) after rows shows over failed =
+            let kept = either.shows_first (of_either (of_either firsts_shown others_shown) run.run_shown) stretch.stretch_shown
+            (goes_either (goes_either FirstsGo OthersGo) (run.GoesOn written)) (stretch.GoesOn left health pulls) (First here) after rows
+            shows in
+            let inner = either.shows_first (of_either firsts_shown others_shown) run.run_shown (goes_either FirstsGo OthersGo)
+            (run.GoesOn written) here kept.0 rows kept.2 in
+            absurd (no_read inner.0 next (subst (λ (c : ObjectCursor S R). fails c (First (Second runs.Read)) next)
+            (kept.1 ∙ ap (λ (c : OneOf (OneOf Firsts Others) (RunCursor S)). First c) inner.1) failed))
+        of_rows (First (Second here)) after rows shows over failed =
+            let kept = either.shows_first (of_either (of_either firsts_shown others_shown) run.run_shown) stretch.stretch_shown
+            (goes_either (goes_either FirstsGo OthersGo) (run.GoesOn written)) (stretch.GoesOn left health pulls) (Second here) after rows
+            shows in
+            let inner = either.shows_second (of_either firsts_shown others_shown) run.run_shown (goes_either FirstsGo OthersGo)
+            (run.GoesOn written) here kept.0 rows kept.2 in
+            subst unreadable (run_scratch rows here inner.0 inner.2 ∙ over)
+            (read_of_run inner.0 next (subst (λ (c : ObjectCursor S R). fails c (First (Second runs.Read)) next)
+            (kept.1 ∙ ap (λ (c : OneOf (OneOf Firsts Others) (RunCursor S)). First c) inner.1) failed))
         of_rows (Second here) after rows shows over failed = absurd over

@@ -33,9 +33,9 @@ use Rattle.hprof_objects.specs.MergedObjects.{IfScratchFails, StopsWithin, Tells
 use Rattle.hprof_objects.specs.ObjectCursors.{AllOpen, ObjectCursor, ObjectsCome, OpensObjects, object_stop, part_of, part_under}
 use Rattle.hprof_objects.specs.PartsRead.{PartRead}
 use Rattle.hprof_objects.specs.ReadAgain.{IsSameAt}
-use Rattle.hprof_objects.specs.StoredObjects.{AreToldAgain, HoldsObjects, objects_of}
+use Rattle.hprof_objects.specs.StoredObjects.{AreToldAgain, HoldsObjects, objects_of, scratch_under}
 use Rattle.hprof_objects.specs.Stretches.{AreStretches}
-use Rattle.hprof_objects.proofs.FaultsAt.{fails, goes, known, never_changed, never_damaged, read_of_scratch, shown}
+use Rattle.hprof_objects.proofs.FaultsAt.{fails, goes, its_scratch, known, never_changed, never_damaged, shown}
 use Rattle.hprof_objects.proofs.Stops.{stops_within, takes_all}
 use Rattle.hprof_objects.proofs.Stored.{enough_below, merged_enough}
 
@@ -68,10 +68,10 @@ module _ {S R : Type 0} (written : S → Option (List ℕ)) (well : S → Health
   opened_come (one ∷ list) (it ∷ opened) reads (rows ∷ lists) each are same =
       (each.0 reads rows are.0 (same one.part), opened_come list opened reads lists each.1 are.1 same)
 
-  first_over : (over_rows : List (ObjectCursor S R)) (count : ℕ) → length over_rows ≡ count + 2 → All IsOverRows over_rows
-      → (it : ObjectCursor S R) × IsOverRows it
-  first_over [] count len kind = absurd (omega (arith, len))
-  first_over (it ∷ over_rows) count len kind = (it, kind 0 it (omega arith))
+  first_over : (scratch : S) (over_rows : List (ObjectCursor S R)) (count : ℕ) → length over_rows ≡ count + 2
+      → All (IsOverRows scratch) over_rows → (it : ObjectCursor S R) × IsOverRows scratch it
+  first_over scratch [] count len kind = absurd (omega (arith, len))
+  first_over scratch (it ∷ over_rows) count len kind = (it, kind 0 it (omega arith))
 
   module _ (objects : StoredObjects S) (cursors : List (ObjectCursor S R))
       (opens : OpensObjects left health pulls limits told written well objects cursors) where
@@ -170,11 +170,19 @@ module _ {S R : Type 0} (written : S → Option (List ℕ)) (well : S → Health
           → (reads : List PartRead) → HoldsObjects written well limits reads objects
           → IsSameAt limits told reads (part_under objects place) → ⊥
       change place next failed reads holds same =
-          let d = first_over opens.over_rows (run_count objects.runs) opens.count opens.kind in
+          let d = first_over (scratch_under objects) opens.over_rows (run_count objects.runs) opens.count opens.kind in
           let list = objects.stretches.items in
-          never_changed written unreadable left health pulls limits told opens.over_rows list opens.adds.opened stopped.mid stopped.came place
+          never_changed written unreadable left health pulls (scratch_under objects) limits told opens.over_rows list opens.adds.opened stopped.mid stopped.came place
           d.0 next opens.kind opens.adds.each d.1 shows_over (failed d.0) reads holds.lists holds.are_stretches
           (subst (λ (n : ℕ). IsSameAt limits told reads (part_of list (place - n))) (sym opens.count) same)
+
+      read : (place : ℕ) (next : ObjectCursor S R)
+          → ((d : ObjectCursor S R) → fails written unreadable left health pulls (slice_index_or stopped.mid place d)
+          (First (Second runs.Read)) next) → unreadable (scratch_under objects)
+      read place next failed =
+          let d = first_over (scratch_under objects) opens.over_rows (run_count objects.runs) opens.count opens.kind in
+          its_scratch written unreadable left health pulls (scratch_under objects) limits told opens.over_rows objects.stretches.items
+          opens.adds.opened stopped.mid stopped.came place d.0 next opens.kind opens.adds.each d.1 shows_over (failed d.0)
 
     -- ---- what a fault tells
 
@@ -215,24 +223,26 @@ module _ {S R : Type 0} (written : S → Option (List ℕ)) (well : S → Health
     reads_fail : {G : Type 0} (stop : MergeStop (OneOf (OneOf (OneOf Infallible Infallible) RunFault) StretchFault) G)
         (mid new : List (ObjectCursor S R))
         → LeavesCursors (fails written unreadable left health pulls) stop mid new
-        → IfScratchFails (object_stop (part_under objects) stop) ((scratch : S) × unreadable scratch)
-    reads_fail stops.OutOfMemory mid new leaves = tt
-    reads_fail (stops.TwoContents key) mid new leaves = tt
-    reads_fail (stops.Sink fault) mid new leaves = tt
-    reads_fail (stops.Cursor place (First (First never))) mid new leaves = tt
-    reads_fail (stops.Cursor place (First (Second runs.OutOfMemory))) mid new leaves = tt
-    reads_fail (stops.Cursor place (First (Second runs.Read))) mid new leaves =
-        let d = first_over opens.over_rows (run_count objects.runs) opens.count opens.kind in
-        read_of_scratch written unreadable left health pulls (slice_index_or mid place d.0) leaves.next (leaves.failed d.0)
-    reads_fail (stops.Cursor place (First (Second runs.Damaged))) mid new leaves = tt
-    reads_fail (stops.Cursor place (Second stretches.OutOfMemory)) mid new leaves = tt
-    reads_fail (stops.Cursor place (Second stretches.Read)) mid new leaves = tt
-    reads_fail (stops.Cursor place (Second stretches.Changed)) mid new leaves = tt
+        → ((place : ℕ) (next : ObjectCursor S R)
+        → ((d : ObjectCursor S R) → fails written unreadable left health pulls (slice_index_or mid place d)
+        (First (Second runs.Read)) next) → unreadable (scratch_under objects))
+        → IfScratchFails (object_stop (part_under objects) stop) (unreadable (scratch_under objects))
+    reads_fail stops.OutOfMemory mid new leaves one = tt
+    reads_fail (stops.TwoContents key) mid new leaves one = tt
+    reads_fail (stops.Sink fault) mid new leaves one = tt
+    reads_fail (stops.Cursor place (First (First never))) mid new leaves one = tt
+    reads_fail (stops.Cursor place (First (Second runs.OutOfMemory))) mid new leaves one = tt
+    reads_fail (stops.Cursor place (First (Second runs.Read))) mid new leaves one = one place leaves.next leaves.failed
+    reads_fail (stops.Cursor place (First (Second runs.Damaged))) mid new leaves one = tt
+    reads_fail (stops.Cursor place (Second stretches.OutOfMemory)) mid new leaves one = tt
+    reads_fail (stops.Cursor place (Second stretches.Read)) mid new leaves one = tt
+    reads_fail (stops.Cursor place (Second stretches.Changed)) mid new leaves one = tt
 
     pub stopped_reads : {T G : Type 0} (steps : T → ℕ → List ℕ → T → Type 0) (refuses : T → ℕ → List ℕ → G → T → Type 0)
         (new : List (ObjectCursor S R)) (stop : MergeStop (OneOf (OneOf (OneOf Infallible Infallible) RunFault) StretchFault) G)
         (old_sink new_sink : T)
         → StopsMerging (shown written unreadable left health pulls) (goes written unreadable left health pulls) steps
         (fails written unreadable left health pulls) refuses cursors new stop old_sink new_sink
-        → IfScratchFails (object_stop (part_under objects) stop) ((scratch : S) × unreadable scratch)
-    stopped_reads steps refuses new stop old_sink new_sink stopped = reads_fail stop stopped.mid new stopped.leaves
+        → IfScratchFails (object_stop (part_under objects) stop) (unreadable (scratch_under objects))
+    stopped_reads steps refuses new stop old_sink new_sink stopped =
+        reads_fail stop stopped.mid new stopped.leaves (read steps refuses new stop old_sink new_sink stopped)

@@ -53,9 +53,3 @@ module _ {S : Type 0} (G : Type 0) (written : S → Option (List ℕ)) (health :
       let are = subst (λ (l : List Stretch). AreStretches limits reads l holds.lists) (sym same) holds.are_stretches in
       let rows = rows_of limits reads list holds.lists are at.0 one (at.2 one) at.1 in
       refuses.refuses reads rows.0 rows.1 (subst (IsSameAt limits told reads) refuses.in_part told_same)
-
-pub scratch_fails : {S : Type 0} (G : Type 0) (unreadable : S → Type 0) (scratch : S) (fault : RunFault) → IfReadFailed fault (unreadable scratch)
-    → IfScratchFails (scratch_stop {G = G} fault) ((any : S) × unreadable any)
-scratch_fails G unreadable scratch runs.OutOfMemory read = tt
-scratch_fails G unreadable scratch runs.Read read = (scratch, read)
-scratch_fails G unreadable scratch runs.Damaged read = tt

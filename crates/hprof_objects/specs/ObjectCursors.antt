@@ -25,6 +25,7 @@ use Rattle.hprof_objects.specs.declared.stretch.Stretch.{Stretch}
 use Rattle.hprof_objects.specs.declared.stretch_cursor.StretchCursor.{StretchCursor}
 use Rattle.hprof_objects.specs.declared.stretch_fault.StretchFault.{StretchFault}
 use Rattle.hprof_objects.specs.declared.stretch_fault.StretchFault.TheVariants as stretches
+use Rattle.hprof_objects.specs.StoredObjects.{scratch_under}
 use Rattle.hprof_objects.specs.StretchCursor.{ComesTo, OpensStretch}
 
 -- a cursor over rows in memory, over a run, or over a stretch
@@ -99,7 +100,7 @@ module _ {R : Type 0} (left : R → Option (List ℕ)) (health : R → Health) (
       (cursors : List (ObjectCursor S R)) : Type 0 where
     pub over_rows : List (ObjectCursor S R)
     pub count : length over_rows ≡ run_count objects.runs + 2
-    pub kind : All IsOverRows over_rows
+    pub kind : All (IsOverRows (scratch_under objects)) over_rows
     pub rows : (lists : List (List ByteRow)) → HoldsRuns written well objects.runs lists
         → AllComeTo (ObjectsCome written left health pulls) over_rows
         (firsts_of (sorted_in objects.rows) ∷ others_of (sorted_in objects.rows) ∷ lists)

@@ -5,7 +5,7 @@ ghost use Rattle.hprof_merge.specs.Rows.{ByteRow};
 ghost use Rattle.hprof_objects.specs.MergedObjects.{IfScratchFails, MergesLists, TellsChange, UnlessRefused};
 ghost use Rattle.hprof_objects.specs.ObjectCursors.{object_stop, part_under};
 ghost use Rattle.hprof_objects.specs.PartsRead.{PartRead};
-ghost use Rattle.hprof_objects.specs.StoredObjects.{AreToldAgain, IsOneStretch, objects_of};
+ghost use Rattle.hprof_objects.specs.StoredObjects.{AreToldAgain, IsOneStretch, objects_of, scratch_under};
 
 use crate::object_stop::ObjectStop;
 use crate::opening::{part_stop, scratch_stop};
@@ -79,7 +79,7 @@ impl<S: Scratch + Drop> StoredObjects<S> {
         ensures objects { (reads : List PartRead) → AreToldAgain S.written S.health limits (P.bytes parts.now) reads self.now
             → MergesLists T.steps T.refuses (objects_of reads) result sink.old sink.new }
         ensures again { IfErr result (TellsChange S.written S.health limits (P.bytes parts.now) self.now) }
-        ensures read { IfErr result (λ stop. IfScratchFails stop ((scratch : S) × S.unreadable scratch)) }
+        ensures read { IfErr result (λ stop. IfScratchFails stop (S.unreadable (scratch_under self.now))) }
         ensures well { UnlessRefused (T.well sink.new) result }
     {
         let mut cursors = match self.open(alloc, parts, limits) {

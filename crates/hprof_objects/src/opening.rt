@@ -5,6 +5,7 @@ ghost use Rattle.hprof_merge.specs.OneOf.{holds_either};
 ghost use Rattle.hprof_runs.specs.AnyRows.{any_well};
 ghost use Rattle.hprof_objects.specs.MergedObjects.{IfScratchFails, TellsChange};
 ghost use Rattle.hprof_objects.specs.ObjectCursors.{AddsStretches, IsBefore, OpensObjects, part_stop, scratch_stop};
+ghost use Rattle.hprof_objects.specs.StoredObjects.{scratch_under};
 ghost use Rattle.hprof_objects.specs.StretchCursor.{CanGoOn, RefusesOneOf};
 
 use crate::object_stop::ObjectStop;
@@ -86,7 +87,7 @@ impl<S: Scratch + Drop> StoredObjects<S> {
         ensures well { IfOk result (λ cursors. All (holds_either any_well (CanGoOn R.health)) cursors.items) }
         ensures before { IfErr result IsBefore }
         ensures again { IfErr result (TellsChange S.written S.health limits (P.bytes parts.now) self.now) }
-        ensures read { IfErr result (λ stop. IfScratchFails stop ((scratch : S) × S.unreadable scratch)) }
+        ensures read { IfErr result (λ stop. IfScratchFails stop (S.unreadable (scratch_under self.now))) }
     {
         let mut cursors = match open_all(alloc, &self.rows, &self.runs) {
             Ok(cursors) => cursors,

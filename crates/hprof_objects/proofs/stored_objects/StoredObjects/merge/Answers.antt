@@ -7,7 +7,7 @@ use Rattle.hprof_objects.specs.declared.object_stop.ObjectStop.{ObjectStop}
 use Rattle.hprof_objects.specs.MergedObjects.{IfScratchFails, StopsWithin, TellsChange}
 use Rattle.hprof_objects.specs.ObjectCursors.{ObjectCursor, OpensObjects}
 use Rattle.hprof_objects.specs.PartsRead.{PartRead}
-use Rattle.hprof_objects.specs.StoredObjects.{AreToldAgain, objects_of}
+use Rattle.hprof_objects.specs.StoredObjects.{AreToldAgain, objects_of, scratch_under}
 use Rattle.hprof_objects.specs.StretchCursor.{CanGoOn}
 use Rattle.hprof_objects.proofs.MergedObjects.{merged_all, stopped_objects, stopped_reads, stopped_some, stopped_tells}
 use Rattle.hprof_objects.proofs.Stops.{stops_before}
@@ -80,7 +80,7 @@ returns-clause-read g c =
     let slice = c.deref_mut.result.now in
     let opens = subst (OpensObjects g.R.Source.left g.R.Source.health g.R.Source.pulls c.args.limits told g.S.Target.written
     g.S.Target.health c.args.self.now) (sym c.deref_mut.ensures.value) c.in-Ok.ensures.opens in
-    subst (λ (s : ObjectStop g.row.T-Fault.Denot). IfScratchFails s ((scratch : g.row.S.Denot) × g.S.Scratch.unreadable scratch))
+    subst (λ (s : ObjectStop g.row.T-Fault.Denot). IfScratchFails s (g.S.Scratch.unreadable (scratch_under c.args.self.now)))
     (sym c.stop_of.ensures)
     (stopped_reads g.S.Target.written g.S.Target.health g.S.Scratch.unreadable g.R.Source.left g.R.Source.health g.R.Source.pulls
     c.args.limits told c.args.self.now slice opens g.T.RowSink.steps g.T.RowSink.refuses c.merge_rows.new.cursors c.in-Err-merge_rows.stop
