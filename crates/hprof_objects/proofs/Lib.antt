@@ -9,3 +9,11 @@ mod Parts
 mod Settled
 mod ReadingAgain
 mod StretchCursors
+pub mod Stored
+pub mod PartsUnder
+pub mod Opened
+pub mod FaultsAt
+pub mod Stops
+pub mod MergedObjects
+pub mod OpeningFaults
+pub mod OneStretch

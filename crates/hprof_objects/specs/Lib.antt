@@ -11,3 +11,6 @@ pub mod ReadAgain
 pub mod StretchFault
 pub mod StretchCursor
 pub mod StretchKnown
+pub mod StoredObjects
+pub mod MergedObjects
+pub mod ObjectCursors

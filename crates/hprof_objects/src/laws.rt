@@ -10,9 +10,15 @@ ghost use Rattle.hprof_heap.specs.declared.standing.Refusal.{Refusal};
 ghost use Rattle.hprof_heap.specs.declared.standing.Refusal.TheVariants.{Conflict};
 ghost use Rattle.hprof_heap.specs.Gathering.{Given, Tells};
 ghost use Rattle.hprof_merge.specs.Rows.{ByteRow};
-ghost use Rattle.hprof_merge.specs.TwoContents.{IsLeastWithTwoContents};
+ghost use Rattle.hprof_merge.specs.TwoContents.{HasTwoContents, IsLeastWithTwoContents};
 ghost use Rattle.hprof_merge.specs.Union.{IsUnion};
+ghost use Rattle.hprof_stream.specs.declared.limits.Limits.{Limits};
+ghost use Rattle.hprof_objects.specs.declared.stored_objects.StoredObjects.{StoredObjects};
+ghost use Rattle.hprof_objects.specs.PartsRead.{PartRead};
+ghost use Rattle.hprof_objects.specs.StoredObjects.{HoldsObjects, IsOneStretch, objects_of};
 ghost use Rattle.hprof_objects.specs.Whole.{AreObjects, FitGiven, rows_given, with_objects, without_objects};
+
+use hprof_runs::Scratch;
 
 /// The union of the rows of all objects is that of objects, and they stand behind the facts that are no objects: together they are the heap
 /// of the parts.
@@ -29,6 +35,11 @@ pub fn objects_stand_behind()
 pub fn conflicts_of_objects_come_last()
     ensures objects { (parts : List Given) (heap : HeapValue) (key : ℕ) → Tells (map without_objects parts) (Ok heap) → FitGiven parts
         → IsLeastWithTwoContents (map rows_given parts) key → Tells parts (Err (Conflict (Object key))) }
-    ensures others { (parts : List Given) (refusal : Refusal) → Tells (map without_objects parts) (Err refusal)
-        → Tells parts (Err refusal) }
+    ensures others { (parts : List Given) (refusal : Refusal) → Tells (map without_objects parts) (Err refusal) → Tells parts (Err refusal) }
+{}
+
+/// If one stretch has all objects of parts, no identifier has objects with two contents.
+pub fn one_stretch_has_no_conflict<S: Scratch>()
+    ensures { (objects : StoredObjects S) (limits : Limits) (reads : List PartRead) → IsOneStretch objects
+        → HoldsObjects S.written S.health limits reads objects → (key : ℕ) → HasTwoContents (objects_of reads) key → ⊥ }
 {}

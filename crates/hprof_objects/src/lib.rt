@@ -1,5 +1,4 @@
-//! The objects of parts that are larger than the memory: those that ascend in their part stay there, and the others are kept in memory or
-//! in
+//! The objects of parts that are larger than the memory: those that ascend in their part stay there, and the others are kept in memory or in
 //! scratch, in sorted runs.
 #![tactic(auto)]
 
@@ -7,9 +6,15 @@ mod growing;
 mod identifying;
 mod keeping;
 pub mod laws;
+mod merging;
+#[cfg(test)]
+mod merging_tests;
 mod next_object;
 mod object_log;
+mod object_stop;
+mod opening;
 mod row_store;
+mod stored_objects;
 mod stretch;
 mod stretch_cursor;
 mod stretch_fault;
@@ -20,7 +25,9 @@ mod stretch_tests;
 pub use identifying::object_id;
 pub use keeping::Keeping;
 pub use object_log::ObjectLog;
+pub use object_stop::ObjectStop;
 pub use row_store::RowStore;
+pub use stored_objects::StoredObjects;
 pub use stretch::Stretch;
 pub use stretch_cursor::StretchCursor;
 pub use stretch_fault::StretchFault;

@@ -1,7 +1,6 @@
 //! The log of the objects of parts, as they are read.
 
-ghost use Rattle.std.specs.Prelude.{ℕ, ◌≡◌, ◌<◌, ◌-◌, ◌^◌, ◌∷◌, ◌++◌, [], List, length, vec_len, vec_capacity, true, Some, None, IfOk};
-ghost use Rattle.std.specs.Prelude.{OnOk, IsSome};
+ghost use Rattle.std.specs.Prelude.{ℕ, ◌≡◌, ◌<◌, ◌-◌, ◌^◌, ◌∷◌, ◌++◌, [], List, length, vec_len, vec_capacity, true, Some, None, IfOk, OnOk, IsSome};
 ghost use Rattle.hprof_devices.specs.declared.health.Health.TheVariants.{Well};
 ghost use Rattle.hprof_items.specs.FactValue.{FactValue};
 ghost use Rattle.hprof_runs.specs.ReadBack.{HoldsNothing};
@@ -17,6 +16,7 @@ ghost use Rattle.hprof_objects.specs.Stretches.{IsPieceOf};
 use crate::growing::{Growing, Piece, Stands};
 use crate::keeping::Keeping;
 use crate::row_store::RowStore;
+use crate::stored_objects::StoredObjects;
 use crate::stretch::Stretch;
 use hprof_runs::{Scratch, ScratchFault};
 use hprof_stream::PartPlace;
@@ -36,8 +36,7 @@ pub struct ObjectLog<S> {
     pub(crate) piece: Option<Piece>,
     pub(crate) growing: Option<Growing>,
     // There is room for a growing stretch that stays.
-    ghost reserved: { IsReserved growing (vec_len stretches) (vec_capacity stretches) } by { IsReserved-prop growing (vec_len stretches)
-        (vec_capacity stretches) },
+    ghost reserved: { IsReserved growing (vec_len stretches) (vec_capacity stretches) } by { IsReserved-prop growing (vec_len stretches) (vec_capacity stretches) },
 }
 
 /// Adds the growing stretch to those that stay, if it stays. There is room for it.
@@ -83,6 +82,7 @@ fn with_one_more(piece: Option<Piece>) -> Option<Piece>
 
 impl<S: Scratch + Drop> ObjectLog<S> {
     ghost use Rattle.hprof_objects.specs.Log.{HasLogged, HoldsParts, IsPlaceNow, KeepsLogged, KeepsUngrown, scratch_of_log};
+    ghost use Rattle.hprof_objects.specs.StoredObjects.{HoldsObjects, scratch_under};
     ghost use Rattle.hprof_objects.specs.Store.{StandsLast, rows_of_store};
     ghost use Rattle.hprof_objects.specs.Stretches.{IsGrowingStretch, IsPieceOf};
     ghost use Rattle.hprof_objects.specs.declared.growing.Stands.TheVariants.{InMemory};
@@ -151,6 +151,27 @@ impl<S: Scratch + Drop> ObjectLog<S> {
         self.piece = piece_at(place);
     }
 
+    /// Ends the growing stretch, if there is one, and returns the objects as they are stored. Allocates nothing.
+    pub fn finish(self) -> StoredObjects<S>
+        ensures holds { (limits : Limits) (parts : List PartRead) → HoldsParts S.written S.health limits parts self
+            → HoldsObjects S.written S.health limits parts result }
+        ensures scratch { scratch_under result ≡ scratch_of_log self }
+    {
+        let ObjectLog {
+            store,
+            mut stretches,
+            growing,
+            ..
+        } = self;
+        keep(&mut stretches, growing);
+        let RowStore { rows, runs, .. } = store;
+        StoredObjects {
+            rows: rows.sort(),
+            runs,
+            stretches,
+        }
+    }
+
     /// Goes past a fact that is no object.
     pub fn skip(&mut self)
         ensures log { (limits : Limits) (parts : List PartRead) (part : PartRead) (fact : FactValue)
@@ -177,8 +198,7 @@ impl<S: Scratch + Drop> ObjectLog<S> {
         self.stretches.reserve(1).is_ok()
     }
 
-    /// Goes on with a stretch whose rows are the last ones in memory, from this one on. If it is long enough, it stays in its part, and
-    /// they
+    /// Goes on with a stretch whose rows are the last ones in memory, from this one on. If it is long enough, it stays in its part, and they
     /// leave the memory.
     fn settle(&mut self, growing: Growing, from: usize)
         requires { growing.stands ≡ InMemory from }
@@ -224,8 +244,7 @@ impl<S: Scratch + Drop> ObjectLog<S> {
         ensures log { OnOk result ((limits : Limits) (parts : List PartRead) (part : PartRead) (fact : FactValue)
             → KeepsUngrown S.written S.health limits parts part self.old → object_row part.ids fact ≡ Some (id, spelled.now)
             → KeepsUngrown S.written S.health limits parts (with_fact part fact) self.new) }
-        ensures row { IfOk result (λ spilled. StandsLast spilled (rows_of_store self.old.store) (id, spelled.now)
-            (rows_of_store self.new.store)) }
+        ensures row { IfOk result (λ spilled. StandsLast spilled (rows_of_store self.old.store) (id, spelled.now) (rows_of_store self.new.store)) }
         ensures none { self.new.growing ≡ None }
         ensures piece { self.new.piece ≡ self.old.piece }
         ensures part { self.new.part ≡ self.old.part }

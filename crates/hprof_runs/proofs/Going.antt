@@ -8,7 +8,7 @@ use Rattle.hprof_runs.specs.declared.run_bytes.RunBytes.{RunBytes}
 use Rattle.hprof_runs.specs.declared.run_cursor.RunCursor.{RunCursor}
 use Rattle.hprof_runs.specs.declared.run_fault.RunFault.{RunFault}
 use Rattle.hprof_runs.specs.Header.{HasNoRows, IsKeyAbove, IsRowRead, ReadsRows, RowsToCome, row_read}
-use Rattle.hprof_runs.specs.RunBytes.{Brings, PassesBytes}
+use Rattle.hprof_runs.specs.RunBytes.{Brings, PassesBytes, scratch_under}
 use Rattle.hprof_runs.specs.RunCursor.{ComesTo, GoesOn}
 use Rattle.hprof_runs.specs.RunFault.{IfDamaged}
 use Rattle.hprof_runs.specs.Spelling.{AllFit, run_bytes}
@@ -76,8 +76,8 @@ module _ {S : Type 0} (written : S → Option (List ℕ)) where
           (λ other has. let lt = comes.ascends.0 other has in omega arith))
 
       pub goes_on : (cursor : RunCursor S) → cursor.shown ≡ next → cursor.bytes ≡ new → IsKeyAbove header.key next
-          → GoesOn written old cursor
-      goes_on cursor same bytes up = record {
+          → scratch_under new ≡ scratch_under old.bytes → GoesOn written old cursor
+      goes_on cursor same bytes up stays = record {
         above = λ row other is other_is.
             let first = shown_key old.shown old.bytes row is in
             let second = shown_key cursor.shown cursor.bytes other other_is in
@@ -91,4 +91,5 @@ module _ {S : Type 0} (written : S → Option (List ℕ)) where
           ascends = comes.ascends.1;
           fit = fit_rest row rest comes;
         };
+        same_scratch = ap scratch_under bytes ∙ stays;
       }

@@ -9,3 +9,4 @@ pub mod Reading
 pub mod Going
 pub mod Groups
 pub mod AllRows
+pub mod Opened

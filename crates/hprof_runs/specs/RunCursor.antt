@@ -15,6 +15,10 @@ use Rattle.hprof_runs.specs.Spelling.{AllFit}
 abbrev pub run_shown : {S : Type 0} → RunCursor S → Option ByteRow
 run_shown it = option_map (λ header. row_read header it.bytes) it.shown
 
+-- the scratch that it reads
+abbrev pub scratch_of_run : {S : Type 0} → RunCursor S → S
+scratch_of_run it = scratch_under it.bytes
+
 module _ {S : Type 0} (written : S → Option (List ℕ)) where
   -- the scratch tells its bytes, and the row that is shown and those behind it are these
   pub record ComesTo (it : RunCursor S) (rows : List ByteRow) : Type 0 where
@@ -22,15 +26,16 @@ module _ {S : Type 0} (written : S → Option (List ℕ)) where
     pub ascends : IsAscending rows
     pub fit : AllFit rows
 
-  -- it went on: to a higher key, and past the row that it showed
+  -- it went on: to a higher key, and past the row that it showed, in the same scratch
   pub record GoesOn (old new : RunCursor S) : Type 0 where
     pub above : (row next : ByteRow) → run_shown old ≡ Some row → run_shown new ≡ Some next → row.0 < next.0
     pub behind : (row : ByteRow) (rest : List ByteRow) → ComesTo old (row ∷ rest) → ComesTo new rest
+    pub same_scratch : scratch_of_run new ≡ scratch_of_run old
 
   -- a damage: the bytes of the scratch are not told, or are not those of rows in order; a read that failed: reads of the scratch may fail
   pub record FailsRun (unreadable : S → Type 0) (old : RunCursor S) (fault : RunFault) (new : RunCursor S) : Type 0 where
     pub damaged : IfDamaged fault ((rows : List ByteRow) → ComesTo old rows → ⊥)
-    pub read : IfReadFailed fault (unreadable (scratch_under old.bytes))
+    pub read : IfReadFailed fault (unreadable (scratch_of_run old))
 
   -- if the scratch tells its bytes, and the run spells rows, these come
   abbrev pub OpensRun : S → Run → RunCursor S → Type 0

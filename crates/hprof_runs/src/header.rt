@@ -1,6 +1,6 @@
 //! Headers of rows.
 
-ghost use Rattle.std.specs.Prelude.{◌≡◌, ◌≤◌, ◌↔◌, length, IsTrue, IfOk, IfErr};
+ghost use Rattle.std.specs.Prelude.{◌≡◌, ◌≤◌, ◌↔◌, length, IsTrue, IfOk, OnOk, IfErr};
 ghost use Rattle.std.specs.Option.{ForSome};
 ghost use Rattle.hprof_runs.specs.Spelling.{spelled_key, spelled_len};
 
@@ -46,6 +46,7 @@ impl Header {
     /// Reads the header of the next row, and its bytes behind it. Returns `None` at the end of the run.
     pub(crate) fn read<S: Scratch>(bytes: &mut RunBytes<'_, S>) -> Result<Option<Self>, RunFault>
         ensures rows { IfOk result (λ header. ReadsRows S.written bytes.old header bytes.new) }
+        ensures scratch { OnOk result (scratch_under bytes.new ≡ scratch_under bytes.old) }
         ensures whole { IfOk result (λ header. ForSome header (λ one. one.len ≤ length (held_bytes bytes.new))) }
         ensures fault { IfErr result (λ fault. IfDamaged fault (HasNoRows S.written bytes.old)) }
         ensures read { IfErr result (λ fault. IfReadFailed fault (S.unreadable (scratch_under bytes.old))) }

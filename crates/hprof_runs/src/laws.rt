@@ -1,11 +1,11 @@
 //! Laws of the definitions. The contract of each function is a theorem; its body is empty.
 
-ghost use Rattle.std.specs.Prelude.{◌≡◌, ◌++◌, [], ◌∷◌, ℕ, List, length, None};
+ghost use Rattle.std.specs.Prelude.{◌≡◌, ◌≤◌, ◌+◌, ◌++◌, [], ◌∷◌, ℕ, List, length, None};
 ghost use Rattle.std.specs.List.Sorted.{IsPermutation};
 ghost use Rattle.hprof_merge.specs.Rows.{ByteRow, IsAscending};
 ghost use Rattle.hprof_merge.specs.Showing.{AllShow, Shows, all_shown};
 ghost use Rattle.hprof_merge.specs.TwoContents.{HasEnoughOf, IsLeastWithTwoContents};
-ghost use Rattle.hprof_merge.specs.Union.{AllFrom, AnyHas, HaveSameRows};
+ghost use Rattle.hprof_merge.specs.Union.{AllFrom, AnyHas, HaveSameRows, IsUnionBelow};
 ghost use Rattle.hprof_runs.specs.declared.firsts.Firsts.{Firsts};
 ghost use Rattle.hprof_runs.specs.declared.others.Others.{Others};
 ghost use Rattle.hprof_runs.specs.declared.run_cursor.RunCursor.{RunCursor};
@@ -83,11 +83,15 @@ pub fn one_run_for_each_list<S: Scratch>()
 {}
 
 /// Cursors that come to the rows of lists show, up to their ends, exactly these rows. If a merge of them stops at the least key with two
-/// contents, it is the least of these lists.
+/// contents, it is the least of these lists. If no cursor shows a row below a key, the rows up to the key that came and those that are shown
+/// are those of the lists.
 pub fn merged_rows_are_all<C: KnownCursor>()
     ensures all { (old new : List C) (lists came : List (List ByteRow)) → AllComeTo C.comes_to old lists
         → AllShow C.shown C.goes old new came → ((row : ByteRow) → AnyHas (all_shown C.shown new) row → ⊥) → came ≡ lists }
     ensures least { (old new : List C) (lists came : List (List ByteRow)) (key : ℕ) → AllComeTo C.comes_to old lists
         → AllShow C.shown C.goes old new came → AllFrom key (all_shown C.shown new)
         → IsLeastWithTwoContents (came ++ all_shown C.shown new) key → IsLeastWithTwoContents lists key }
+    ensures below { (old new : List C) (lists came : List (List ByteRow)) (key bound : ℕ) (front : List ByteRow) → AllComeTo C.comes_to old lists
+        → AllShow C.shown C.goes old new came → AllFrom key (all_shown C.shown new) → bound ≤ key + 1
+        → IsUnionBelow (came ++ all_shown C.shown new) bound front → IsUnionBelow lists bound front }
 {}

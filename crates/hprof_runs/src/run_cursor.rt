@@ -1,6 +1,6 @@
 //! Cursors over runs.
 
-ghost use Rattle.std.specs.Prelude.{◌≤◌, length, IfOk, IfErr, ⊤};
+ghost use Rattle.std.specs.Prelude.{◌≡◌, ◌≤◌, length, IfOk, IfErr, ⊤};
 ghost use Rattle.std.specs.Option.{ForSome};
 ghost use Rattle.hprof_runs.specs.RunBytes.{held_bytes};
 
@@ -22,13 +22,14 @@ pub struct RunCursor<'a, S> {
 }
 
 impl<'a, S: Scratch> RunCursor<'a, S> {
-    ghost use Rattle.hprof_runs.specs.RunCursor.{OpensRun, RefusesRun};
+    ghost use Rattle.hprof_runs.specs.RunCursor.{OpensRun, RefusesRun, scratch_of_run};
     ghost use Rattle.hprof_runs.specs.RunFault.{IfReadFailed};
 
     /// Returns a cursor over a run, which shows its first row.
     pub(crate) fn open(alloc: Global, scratch: &'a S, run: Run) -> Result<Self, RunFault>
         ensures rows { IfOk result (OpensRun S.written scratch.now run) }
         ensures fault { IfErr result (RefusesRun S.written scratch.now run) }
+        ensures scratch { IfOk result (λ cursor. scratch_of_run cursor ≡ scratch.now) }
         ensures read { IfErr result (λ fault. IfReadFailed fault (S.unreadable scratch.now)) }
     {
         let Ok(mut bytes) = RunBytes::new(alloc, scratch, run) else {

@@ -1,6 +1,6 @@
 //! Rows sorted by key.
 
-ghost use Rattle.std.specs.Prelude.{◌≡◌, []};
+ghost use Rattle.std.specs.Prelude.{◌≡◌, ◌↔◌, [], IsTrue};
 ghost use Rattle.hprof_runs.specs.Places.{HaveSortedKeys};
 
 use crate::firsts::Firsts;
@@ -28,6 +28,13 @@ impl SortedRows {
         ensures { sorted_in result ≡ rows_lying bytes.items places.items }
     {
         SortedRows { bytes, places }
+    }
+
+    /// Returns whether there is no row.
+    pub fn is_empty(&self) -> bool
+        ensures { IsTrue result ↔ (sorted_in self.now ≡ []) }
+    {
+        self.places.is_empty()
     }
 
     /// Returns a cursor over the first row of each key.

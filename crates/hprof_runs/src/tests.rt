@@ -2,6 +2,7 @@
 
 ghost use Rattle.std.specs.Prelude.{◌≡◌, ◌++◌, ◌∷◌, [], None, ⊤};
 
+use crate::firsts::Firsts;
 use crate::memory_scratch::MemoryScratch;
 use crate::opening::open_all;
 use crate::rows::Rows;
@@ -49,7 +50,10 @@ fn sorted(alloc: Global, list: &[(u64, &[u8])]) -> Result<SortedRows, AllocError
     Ok(rows.sort())
 }
 
-type Stop = MergeStop<OneOf<OneOf<Infallible, Infallible>, RunFault>, AllocError>;
+type Stop = MergeStop<
+    OneOf<OneOf<OneOf<Infallible, Infallible>, RunFault>, Infallible>,
+    AllocError,
+>;
 
 /// The rows in memory and in runs, merged.
 fn merged(
@@ -57,7 +61,7 @@ fn merged(
     rows: &SortedRows,
     runs: &Runs<MemoryScratch>,
 ) -> Result<(Result<(), Stop>, Collected), Fail> {
-    let mut cursors = open_all(alloc, rows, runs)?;
+    let mut cursors = open_all::<MemoryScratch, Firsts<'_>>(alloc, rows, runs)?;
     let mut sink = Collected {
         keys: Vec::new(alloc),
         bytes: Vec::new(alloc),

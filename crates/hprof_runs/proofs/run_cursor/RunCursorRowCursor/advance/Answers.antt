@@ -28,4 +28,4 @@ returns-clause-goes g c =
     let old = c.args.self.now in
     let shown : old.shown ≡ Some c.in-Some.header = sym c.take.ensures.value ∙ c.in-Some.is in
     goes_on g.S.Target.written old c.in-Some.header shown c.pass.new.self c.pass.ensures.bytes c.in-Ok.next c.read.new.bytes
-    c.in-Ok.ensures.rows _ refl refl (c.if-not-is_below.ensures.0 refl)
+    c.in-Ok.ensures.rows _ refl refl (c.if-not-is_below.ensures.0 refl) (c.in-Ok.ensures.scratch ∙ c.pass.ensures.scratch)
