@@ -1,0 +1,2 @@
+mod Noting
+mod Facts
