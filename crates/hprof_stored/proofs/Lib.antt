@@ -1,2 +1,4 @@
 mod Noting
 mod Facts
+mod Ended
+mod Fresh

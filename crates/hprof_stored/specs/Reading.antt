@@ -1,6 +1,6 @@
 -- What reading parts answers, whose objects are kept apart.
-use Rattle.std.specs.Prelude.{◌≡◌, ◌≢◌, ◌⊎◌, ℕ, ◌+◌, ◌<◌, ◌≤◌, List, [], ◌∷◌, ◌++◌, length, take, map, Option, Some, None, Result, Ok, Err}
-use Rattle.std.specs.Prelude.{IsSome, slice_get}
+use Rattle.std.specs.Prelude.{◌≡◌, ◌≢◌, ◌⊎◌, ℕ, ◌+◌, ◌<◌, ◌≤◌, true, List, [], ◌∷◌, ◌++◌, length, take, map, Option, Some, None, Result, Ok}
+use Rattle.std.specs.Prelude.{Err, ⊤, IsSome, slice_get}
 use Rattle.std.specs.List.{AllByRecursion}
 use Rattle.std.specs.Io.KnownBytes.{Consumes}
 use Rattle.hprof_devices.specs.declared.health.Health.{Health}
@@ -14,12 +14,16 @@ use Rattle.hprof_stream.specs.declared.summary.PartSummary.{PartSummary}
 use Rattle.hprof_stream.specs.Part.{all_facts}
 use Rattle.hprof_stream.specs.Item.{header_before}
 use Rattle.hprof_stream.specs.Reader.{IsReadingFault}
+use Rattle.hprof_rows.specs.declared.key.Key.{Key}
+use Rattle.hprof_heap.specs.declared.heap.Heap.{Heap}
+use Rattle.hprof_heap.specs.declared.standing.Refusal.TheVariants as refusals
 use Rattle.hprof_heap.specs.Gathering.{Given, IsNewBehind, Tells}
 use Rattle.hprof_heap.specs.Heap.{heap_of}
+use Rattle.hprof_heap.specs.State.{HaveTwoSizes}
 use Rattle.hprof_runs.specs.declared.scratch_fault.ScratchFault.{ScratchFault}
 use Rattle.hprof_runs.specs.declared.scratch_fault.ScratchFault.TheVariants as scratches
 use Rattle.hprof_objects.specs.Log.{HoldsParts, scratch_of_log}
-use Rattle.hprof_engine.specs.Joining.{AreGiven, AreReadOut, IsAccepted, IsOfPart, IsPartFault}
+use Rattle.hprof_engine.specs.Joining.{AreGiven, AreReadOut, Disagree, IsAccepted, IsOfPart, IsPartFault, Tell, is_want}
 use Rattle.hprof_engine.specs.Summaries.{HoldsFirst}
 use Rattle.hprof_stored.specs.declared.stored_fault.StoredFault.{StoredFault}
 use Rattle.hprof_stored.specs.declared.stored_fault.StoredFault.TheVariants as stops
@@ -112,6 +116,13 @@ module _ {R : Type 0} (left : R → Option (List ℕ)) (health : R → Health) (
     pub told : left at.was ≡ Some bytes
     pub of_part : IsOfPart limits bytes fault
 
+-- ---- scratch
+
+-- memory ran out before anything was read, or the scratch took no more objects of the readers
+abbrev pub StopsForScratch : {R : Type 0} → List R → List R → ScratchFault → Type 0
+StopsForScratch old new scratches.OutOfMemory = new ≡ old
+StopsForScratch old new other = old ≢ []
+
 -- ---- reading all parts
 
 module _ {R : Type 0} (left : R → Option (List ℕ)) (health : R → Health) (pulls : R → ℕ) {S : Type 0} {g : Ghosts S}
@@ -119,12 +130,60 @@ module _ {R : Type 0} (left : R → Option (List ℕ)) (health : R → Health) (
   -- so many readers were read to their ends, and the sink was given their parts
   pub record StoresFirst (old : List R) (count : ℕ) (sink : StoredSink S g) : Type 0 where
     pub parts : List PartStored
+    pub all : length parts ≡ count
     pub stored : AreStored limits (map left (take count old)) parts
+    pub given : AreGiven limits (map left (take count old)) (given_of parts)
     pub holds : HoldsAll written well limits (record { scratch = scratch; parts = parts }) (storing sink)
 
   -- all readers were read to their ends, or one was refused, or the scratch took no more
   abbrev pub StoresAll : List R → Result (StoredSink S g) StoredFault → List R → Type 0
   StoresAll old (Ok sink) new = StoresFirst old (length old) sink
   StoresAll old (Err (stops.Part index fault)) new = StopsReader left health pulls limits old new index fault
-  StoresAll old (Err (stops.Scratch why)) new = (why ≢ scratches.OutOfMemory) × (old ≢ [])
+  StoresAll old (Err (stops.Scratch why)) new = StopsForScratch old new why
   StoresAll old (Err other) new = ⊥
+
+-- ---- the answer
+
+-- the heap of what was given, or why there is none
+abbrev pub TellsStored : List Given → Result Heap StoredFault → Type 0
+TellsStored given (Ok heap) = Tells given (Ok (heap_of heap))
+TellsStored given (Err stops.NoParts) = Tells given (Err refusals.NoParts)
+TellsStored given (Err stops.IdSizes) = Tells given (Err refusals.IdSizes)
+TellsStored given (Err (stops.Conflict key)) = Tells given (Err (refusals.Conflict key))
+TellsStored given (Err other) = ⊥
+
+-- all parts were read
+abbrev pub AreAllRead : Option StoredFault → Type 0
+AreAllRead (Some (stops.Part index fault)) = ⊥
+AreAllRead (Some (stops.Scratch why)) = ⊥
+AreAllRead other = ⊤
+
+-- what reading answers of the parts, as `Reads` says it; a conflict of objects is not among the answers
+--   old, new: the readers, before and afterwards;  ended: the fault that reading ended with, if any
+pub record ReadsStored {R : Type 0} (left : R → Option (List ℕ)) (health : R → Health) (pulls : R → ℕ) (limits : Limits) (old new : List R)
+    (ended : Option StoredFault) : Type 0 where
+  -- there are no parts; if the scratch is there, this is the answer
+  pub no_parts : ended ≡ Some stops.NoParts → old ≡ []
+  pub of_none : old ≡ [] → (ended ≡ Some (stops.Scratch scratches.OutOfMemory)) ⊎ (ended ≡ Some stops.NoParts)
+  -- two parts have different sizes
+  pub id_sizes : ended ≡ Some stops.IdSizes → (parts : List (List ℕ)) → Tell left old parts → HaveTwoSizes parts
+  -- the parts have one size, and this is the least key with two contents, also among objects
+  pub conflict : (key : Key) → ended ≡ Some (stops.Conflict key) → (parts : List (List ℕ)) → Tell left old parts → Disagree parts key
+  -- that part was refused with that fault
+  pub part : (index : ℕ) (fault : PartFault) → ended ≡ Some (stops.Part index fault) → (parts : List (List ℕ)) → Tell left old parts
+      → StopsPart left health pulls limits parts old new index fault
+  -- the scratch took no more
+  pub scratch : (why : ScratchFault) → ended ≡ Some (stops.Scratch why) → StopsForScratch old new why
+  -- where all were read, all were accepted
+  pub accepted : AreAllRead ended → (parts : List (List ℕ)) → Tell left old parts → AllByRecursion (IsAccepted limits) parts
+
+-- memory was wanted, a limit was met, or the scratch took no more
+abbrev pub IsHinderedStored : Option StoredFault → Type 0
+IsHinderedStored (Some (stops.Part index fault)) = is_want fault ≡ true
+IsHinderedStored (Some (stops.Scratch why)) = ⊤
+IsHinderedStored other = ⊥
+
+abbrev pub IsOkOrConflictStored : Option StoredFault → Type 0
+IsOkOrConflictStored None = ⊤
+IsOkOrConflictStored (Some (stops.Conflict key)) = ⊤
+IsOkOrConflictStored other = ⊥

@@ -1,5 +1,5 @@
 -- What a sink that keeps objects apart shows, and what headers and facts do to it.
-use Rattle.std.specs.Prelude.{◌≡◌, ◌⊎◌, ℕ, Bool, true, false, List, [], length, Option, Some, IsSome}
+use Rattle.std.specs.Prelude.{◌≡◌, ◌⊎◌, ℕ, Bool, true, false, List, [], length, Option, Some, None, ⊤}
 use Rattle.std.specs.List.{list_any}
 use Rattle.hprof_items.specs.declared.header.Header.{Header}
 use Rattle.hprof_items.specs.FactValue.{FactValue}
@@ -11,6 +11,7 @@ use Rattle.hprof_stream.specs.declared.sink.SinkFault.{SinkFault}
 use Rattle.hprof_stream.specs.declared.sink.SinkFault.TheVariants as sinks
 use Rattle.hprof_heap.specs.Gathering.{Gathered, Begins, Takes, LacksRow, gathered}
 use Rattle.hprof_runs.specs.declared.scratch_fault.ScratchFault.{ScratchFault}
+use Rattle.hprof_runs.specs.declared.scratch_fault.ScratchFault.TheVariants as scratches
 use Rattle.hprof_objects.specs.declared.object_log.ObjectLog.{ObjectLog}
 use Rattle.hprof_objects.specs.Log.{HasLogged, HoldsParts, IsPlaceNow}
 use Rattle.hprof_objects.specs.PartsRead.{PartRead, with_fact}
@@ -52,10 +53,17 @@ TakesOther false old fact new = Takes old fact new
 abbrev pub HaveObject : List FactValue → Type 0
 HaveObject facts = list_any is_object facts ≡ true
 
+-- the scratch took no more, and not for want of memory
+abbrev pub IsFull : Option ScratchFault → Type 0
+IsFull None = ⊥
+IsFull (Some scratches.OutOfMemory) = ⊥
+IsFull (Some scratches.Full) = ⊤
+IsFull (Some (scratches.Write fault)) = ⊤
+
 -- memory is wanted for an object, or for another fact that is new; else the scratch took no more
 abbrev pub IsStoredRefusal : Gathered → List FactValue → SinkFault → Option ScratchFault → Type 0
 IsStoredRefusal gathered given sinks.OutOfMemory full = HaveObject given ⊎ LacksRow gathered given
-IsStoredRefusal gathered given sinks.Failed full = IsSome full
+IsStoredRefusal gathered given sinks.Failed full = IsFull full
 
 -- what a fault says of a sink that answered none before
 abbrev pub RefusesStored : {S : Type 0} → Storing S → List FactValue → SinkFault → Storing S → Type 0

@@ -1,14 +1,12 @@
 //! The first reading of parts that are larger than the memory: all facts but objects go into a heap, and the objects into a log.
 #![tactic(auto)]
 
-
+mod reading;
 mod stored_fault;
 mod stored_heap;
 mod stored_sink;
 
-
-
-
+pub use reading::read_stored;
 pub use stored_fault::StoredFault;
 pub use stored_heap::StoredHeap;
 pub use stored_sink::StoredSink;

@@ -10,7 +10,7 @@ ghost use Rattle.hprof_stream.specs.Run.{FitsBegun, ListsHaveBegun, SpellsBegun}
 ghost use Rattle.hprof_stream.specs.declared.limits.Limits.{Limits};
 
 use hprof_devices::Target;
-use hprof_heap::{Gatherer, Heap, Refusal};
+use hprof_heap::Gatherer;
 use hprof_items::{Fact, Header};
 use hprof_objects::{Keeping, ObjectLog, object_id};
 use hprof_placed::PlacedSink;
@@ -74,6 +74,14 @@ impl<S: Scratch + Drop> StoredSink<S> {
         self.within = false;
     }
 
+    /// Returns the gatherer and the log.
+    pub(crate) fn into_parts(self) -> (Gatherer, ObjectLog<S>)
+        ensures { result ≡ (self.gatherer, self.log) }
+    {
+        let StoredSink { gatherer, log, .. } = self;
+        (gatherer, log)
+    }
+
     /// Takes an object.
     fn take_object(&mut self, fact: &Fact<'_>, id: u64, spelled: &[u8]) -> Result<(), SinkFault>
         requires sound { self.old.failed ≡ false }
@@ -93,8 +101,12 @@ impl<S: Scratch + Drop> StoredSink<S> {
                 Ok(())
             }
             Err(ScratchFault::OutOfMemory) => Err(SinkFault::OutOfMemory),
-            Err(fault) => {
-                self.full = Some(fault);
+            Err(ScratchFault::Full) => {
+                self.full = Some(ScratchFault::Full);
+                Err(SinkFault::Failed)
+            }
+            Err(ScratchFault::Write(fault)) => {
+                self.full = Some(ScratchFault::Write(fault));
                 Err(SinkFault::Failed)
             }
         }
