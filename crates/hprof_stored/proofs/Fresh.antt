@@ -19,7 +19,7 @@ use Rattle.hprof_stored.specs.Storing.{HaveObject}
 
 -- ---- the key says whether a fact is an object
 
-of_object : Option Key → Bool
+abbrev of_object : Option Key → Bool
 of_object None = false
 of_object (Some (keys.Object id)) = true
 of_object (Some other) = false
@@ -45,11 +45,11 @@ kept first fact facts true e same = inl same
 kept first fact facts false e same = absurd cc
 
 has_other : (facts : List FactValue) (fact : FactValue) → is_object fact ≡ false → Has facts fact → Has (no_objects facts) fact
-has_other [] fact no has = has
-has_other (first ∷ facts) fact no (inl same) =
-    kept first fact (no_objects facts) (not (is_object first)) (ap (λ (f : FactValue). not (is_object f)) (sym same) ∙ ap not no) same
-has_other (first ∷ facts) fact no (inr has) =
-    has_behind (not (is_object first)) first fact (no_objects facts) (has_other facts fact no has)
+has_other [] fact apart has = has
+has_other (first ∷ facts) fact apart (inl same) =
+    kept first fact (no_objects facts) (not (is_object first)) (ap (λ (f : FactValue). not (is_object f)) (sym same) ∙ ap not apart) same
+has_other (first ∷ facts) fact apart (inr has) =
+    has_behind (not (is_object first)) first fact (no_objects facts) (has_other facts fact apart has)
 
 others_given : (parts : List Given) → all_given (map without_objects parts) ≡ no_objects (all_given parts)
 others_given [] = refl
@@ -65,9 +65,9 @@ others_before parts before =
 
 new_among_all : (facts : List FactValue) (fact : FactValue) → is_object fact ≡ false → IsNewAmong (no_objects facts) fact
     → IsNewAmong facts fact
-new_among_all facts fact no is = record {
-  is_new = λ other has key. is.is_new other (has_other facts other (alike other fact key ∙ no) has) key;
-  absent = λ has. is.absent (has_other facts fact no has);
+new_among_all facts fact apart is = record {
+  is_new = λ other has key. is.is_new other (has_other facts other (alike other fact key ∙ apart) has) key;
+  absent = λ has. is.absent (has_other facts fact apart has);
 }
 
 -- ---- sizes

@@ -2,3 +2,4 @@ mod Noting
 mod Facts
 mod Ended
 mod Fresh
+mod Read
