@@ -3,3 +3,4 @@ mod Facts
 mod Ended
 mod Fresh
 mod Read
+mod Answered

@@ -126,7 +126,7 @@ pub fn read_stored<R: Source, S: Scratch + Drop, M: Summaries>(
 {
     conflicts_of_objects_come_last();
     let sink = read_all(alloc, readers, limits, keeping, scratch, summaries, kept)?;
-    let (gatherer, objects) = sink.into_parts();
+    let StoredSink { gatherer, log, .. } = sink;
     let heap = heap_of_all(gatherer)?;
-    Ok(StoredHeap { heap, objects })
+    Ok(StoredHeap { heap, objects: log })
 }

@@ -74,14 +74,6 @@ impl<S: Scratch + Drop> StoredSink<S> {
         self.within = false;
     }
 
-    /// Returns the gatherer and the log.
-    pub(crate) fn into_parts(self) -> (Gatherer, ObjectLog<S>)
-        ensures { result ≡ (self.gatherer, self.log) }
-    {
-        let StoredSink { gatherer, log, .. } = self;
-        (gatherer, log)
-    }
-
     /// Takes an object.
     fn take_object(&mut self, fact: &Fact<'_>, id: u64, spelled: &[u8]) -> Result<(), SinkFault>
         requires sound { self.old.failed ≡ false }
