@@ -1,8 +1,8 @@
 -- What reading answers, by how it ended.
-use Rattle.std.proofs.Common.{◌≡◌, ◌≢◌, ◌≤◌, ◌⊎◌, ℕ, true, List, [], ◌∷◌, length, take, map, Option, Some, None, Result, Ok, Err, inl, inr, refl, sym, ap}
-use Rattle.std.proofs.Common.{subst, ◌∙◌}
+use Rattle.std.proofs.Common.{◌≡◌, ◌≤◌, ◌⊎◌, ℕ, true, List, [], ◌∷◌, length, take, map, Option, Some, None, Result, Ok, Err, inl, inr, refl, sym}
+use Rattle.std.proofs.Common.{subst}
 use Rattle.std.specs.Prelude.{slice_get}
-use Rattle.std.specs.List.{All, AllByRecursion}
+use Rattle.std.specs.List.{All}
 use Rattle.std.specs.Result.{IsErrAnd}
 use Rattle.std.specs.Io.KnownBytes.{Consumes}
 use Rattle.std.proofs.Math.Seq.{take-length}
@@ -27,7 +27,7 @@ use Rattle.hprof_heap.specs.State.{HaveTwoSizes, IsState}
 use Rattle.hprof_heap.proofs.Least.{no_least}
 use Rattle.hprof_runs.specs.declared.scratch_fault.ScratchFault.{ScratchFault}
 use Rattle.hprof_runs.specs.declared.scratch_fault.ScratchFault.TheVariants as scratches
-use Rattle.hprof_engine.specs.Joining.{AreGiven, Disagree, IsAccepted, IsOfPart, Tell, is_want}
+use Rattle.hprof_engine.specs.Joining.{AreGiven, Disagree, IsOfPart, Tell, is_want}
 use Rattle.hprof_engine.proofs.Answers.{all_accepted, disagree, never_refused, no_parts, no_readers, not_two_sizes, some_parts, two_sizes}
 use Rattle.hprof_engine.proofs.PartFaults.{of_part}
 use Rattle.hprof_engine.proofs.Stated.{given_sound, placed}

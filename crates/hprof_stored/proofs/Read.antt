@@ -1,5 +1,5 @@
 -- A part that is read into a sink that holds the parts before it.
-use Rattle.std.proofs.Common.{◌≡◌, ◌≢◌, ◌⊎◌, ◌≤◌, ◌<◌, ℕ, false, List, [], ◌∷◌, ◌++◌, length, Option, Some, None, Result, Ok, Err, inl, inr, refl, sym, ap, subst}
+use Rattle.std.proofs.Common.{◌≡◌, ◌≢◌, ◌⊎◌, ◌≤◌, ℕ, false, List, [], ◌∷◌, Option, Some, None, Ok, Err, inl, inr, refl, sym, ap, subst}
 use Rattle.std.proofs.Common.{◌∙◌}
 use Rattle.std.specs.Prelude.{slice_get}
 use Rattle.hprof_items.specs.declared.header.Header.{Header}
@@ -15,22 +15,21 @@ use Rattle.hprof_stream.specs.declared.sink.SinkFault.TheVariants as sinks
 use Rattle.hprof_stream.specs.declared.summary.PartSummary.{PartSummary}
 use Rattle.hprof_stream.specs.Item.{AreItems, Place, Start, header_before}
 use Rattle.hprof_stream.specs.Part.{IsPart, Stated, all_facts}
-use Rattle.hprof_stream.specs.Run.{Run}
 use Rattle.hprof_stream.proofs.ItemLists.{items_at_start}
-use Rattle.hprof_heap.specs.Gathering.{Begins, Gathered, Gathers, Given, IsNewBehind, LacksRow, Takes, nothing_gathered}
+use Rattle.hprof_heap.specs.Gathering.{IsNewBehind, LacksRow, nothing_gathered}
 use Rattle.hprof_heap.proofs.Told.{new_behind}
 use Rattle.hprof_runs.specs.declared.scratch_fault.ScratchFault.{ScratchFault}
 use Rattle.hprof_runs.specs.declared.scratch_fault.ScratchFault.TheVariants as scratches
 use Rattle.hprof_objects.specs.Log.{IsPlaceNow}
 use Rattle.hprof_objects.specs.Whole.{no_objects}
 use Rattle.hprof_engine.proofs.Gathered.{Gathers-sound, Run-sound}
-use Rattle.hprof_placed.specs.Handed.{Handed, IsUpTo, handed_so}
+use Rattle.hprof_placed.specs.Handed.{Handed}
 use Rattle.hprof_placed.specs.Reading.{HoldsHanded, ListsPart}
 use Rattle.hprof_placed.proofs.Listing.{handed_up_to, handed_whole}
 use Rattle.hprof_stored.specs.declared.stored_sink.StoredSink.{StoredSink}
 use Rattle.hprof_stored.specs.Holding.{Earlier, HoldsAll, HoldsHeader, HoldsStored}
 use Rattle.hprof_stored.specs.Parts.{given_of, others_of}
-use Rattle.hprof_stored.specs.Reading.{AreSoMany, IsStoredFault, StopsAt, StopsForScratch, StopsReader, StoresAll, stop_of}
+use Rattle.hprof_stored.specs.Reading.{AreSoMany, IsStoredFault, StopsForScratch, StopsReader, StoresAll, stop_of}
 use Rattle.hprof_stored.specs.Storing.{HaveObject, IsFull, IsStoredRefusal, RefusesStored, Storing, storing}
 use Rattle.hprof_stored.proofs.Fresh.{new_behind_all}
 

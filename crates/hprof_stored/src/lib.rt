@@ -9,4 +9,3 @@ mod stored_sink;
 pub use reading::read_stored;
 pub use stored_fault::StoredFault;
 pub use stored_heap::StoredHeap;
-pub use stored_sink::StoredSink;

@@ -22,7 +22,7 @@ use std::alloc::{AllocError, Global};
 ///
 /// If the scratch takes no more objects, the fault is `Failed`. If memory runs out, it is `OutOfMemory`.
 #[derive(Drop)]
-pub struct StoredSink<S: Target + Drop> {
+pub(crate) struct StoredSink<S: Target + Drop> {
     pub(crate) gatherer: Gatherer,
     pub(crate) log: ObjectLog<S>,
     /// The number of the part that is being read, or that comes next.

@@ -5,8 +5,6 @@ use Rattle.hprof_stream.specs.declared.part_fault.PartFault.{PartFault}
 use Rattle.hprof_placed.specs.Reading.{ListsPart}
 use Rattle.hprof_stored.specs.declared.stored_fault.StoredFault.{StoredFault}
 use Rattle.std.proofs.lemmas.List.{length-set, length-append}
-use Rattle.hprof_engine.specs.Summaries.{HoldsFirst}
-use Rattle.hprof_engine.specs.Joining.{AreReadOut}
 use Rattle.hprof_engine.proofs.Reading.{element_at, element_set, same_at, summarised_if_told, HoldsFirst-more, HoldsFirst-none, AreReadOut-kept}
 use Rattle.hprof_engine.proofs.Reading.{AreReadOut-more}
 use Rattle.hprof_stored.specs.Holding.{Earlier}
