@@ -140,7 +140,7 @@ module _ {S : Type 0} (written : S → Option (List ℕ)) (well : S → Health) 
         let wants = wants_for handed.header comes.1.before handed.facts handed.refused (storing comes.0) bare comes.1.held why in (
           reads.0,
           subst (λ (l : List FactValue). HaveObject l
-          ⊎ IsNewBehind (given_of earlier.parts) (header_before reads.0.1.whole.before) (all_facts reads.0.1.whole.items) l) up.has_refused
+              ⊎ IsNewBehind (given_of earlier.parts) (header_before reads.0.1.whole.before) (all_facts reads.0.1.whole.items) l) up.has_refused
               (subst (λ (l : List FactValue). HaveObject handed.refused
               ⊎ IsNewBehind (given_of earlier.parts) (header_before reads.0.1.whole.before) l handed.refused) up.has_facts
               (subst (λ (h : Option Header). HaveObject handed.refused ⊎ IsNewBehind (given_of earlier.parts) h handed.facts handed.refused)

@@ -26,14 +26,14 @@ others_more : (is : Bool) (facts : List FactValue) (fact : FactValue) → is_obj
     → Run Begins Takes old (Some header) (no_objects (facts ++ fact ∷ [])) new
 others_more true facts fact e old mid new header ran same =
     let alike : no_objects (facts ++ fact ∷ []) ≡ no_objects facts =
-        filter-append (λ (f : FactValue). not (is_object f)) facts (fact ∷ [])
-        ∙ ap (λ (b : Bool). no_objects facts ++ (cond (not b) (fact ∷ []) [])) e ∙ append-nil (no_objects facts) in
+    filter-append (λ (f : FactValue). not (is_object f)) facts (fact ∷ [])
+    ∙ ap (λ (b : Bool). no_objects facts ++ (cond (not b) (fact ∷ []) [])) e ∙ append-nil (no_objects facts) in
     subst (λ (l : List FactValue). Run Begins Takes old (Some header) l new) (sym alike)
     (subst (λ (g : Gathered). Run Begins Takes old (Some header) (no_objects facts) g) (sym same) ran)
 others_more false facts fact e old mid new header ran takes =
     let alike : no_objects (facts ++ fact ∷ []) ≡ no_objects facts ++ fact ∷ [] =
-        filter-append (λ (f : FactValue). not (is_object f)) facts (fact ∷ [])
-        ∙ ap (λ (b : Bool). no_objects facts ++ (cond (not b) (fact ∷ []) [])) e in
+    filter-append (λ (f : FactValue). not (is_object f)) facts (fact ∷ [])
+    ∙ ap (λ (b : Bool). no_objects facts ++ (cond (not b) (fact ∷ []) [])) e in
     subst (λ (l : List FactValue). Run Begins Takes old (Some header) l new) (sym alike)
     (ran.0, ran.1, steps_more ran.0 mid new (no_objects facts) fact ran.2 takes)
 

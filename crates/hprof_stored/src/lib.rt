@@ -5,6 +5,8 @@ mod reading;
 mod stored_fault;
 mod stored_heap;
 mod stored_sink;
+#[cfg(test)]
+mod tests;
 
 pub use reading::read_stored;
 pub use stored_fault::StoredFault;
