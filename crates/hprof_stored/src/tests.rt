@@ -3,7 +3,7 @@
 ghost use Rattle.std.specs.Prelude.{◌≡◌, All, IfOk, Some};
 ghost use Rattle.hprof_devices.specs.declared.health.Health.TheVariants.{Well};
 ghost use Rattle.hprof_devices.specs.Device.{health_of};
-ghost use Rattle.hprof_runs.specs.MemoryScratch.{bytes_in, health_in};
+ghost use Rattle.hprof_runs.specs.ReadBack.{HoldsNothing};
 
 use crate::reading::read_stored;
 use crate::stored_fault::StoredFault;
@@ -101,7 +101,7 @@ fn read_with<S: Scratch + Drop>(
     parts: &[&[u8]],
     scratch: S,
 ) -> Result<Outcome, AllocError>
-    requires nothing { S.written scratch ≡ Some [] }
+    requires nothing { HoldsNothing (S.written scratch) }
     requires well { S.health scratch ≡ Well }
 {
     let mut readers = readers_of(alloc, parts)?;
