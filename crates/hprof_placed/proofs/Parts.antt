@@ -27,7 +27,7 @@ use Rattle.hprof_facts.proofs.Judged.{no_other}
 use Rattle.hprof_placed.specs.Handed.{Handed, handed_so, nothing_handed}
 use Rattle.hprof_placed.specs.Handed as listing
 use Rattle.hprof_placed.specs.Feeding.{FeedsPlaced}
-use Rattle.hprof_placed.specs.Reading.{HoldsFront, HoldsHanded, ListsPart, ReadsPlaced}
+use Rattle.hprof_placed.specs.Reading.{HoldsFront, HoldsHanded, ListsPart, ReadsPlaced, holds_behind}
 use Rattle.hprof_placed.proofs.Handing.{hands_run}
 use Rattle.hprof_placed.proofs.Pieces.{feeds_hands, holds_fed}
 
@@ -115,15 +115,16 @@ begun_at_end limits came facts reader begun (Err fault) read ready finished = tt
 -- ---- reading into a sink that is told places
 
 module _ {R : Type 0} (left : R → Option (List ℕ)) (health : R → Health) (pulls : R → ℕ)
-    {S : Type 0} (holds : S → Limits → Option Header → List ℕ → List FactValue → Type 0) (refuses : S → List FactValue → SinkFault
-    → S → Type 0) (failed : S → Bool) where
+    {S Earlier : Type 0} (holds : S → Limits → Earlier → Option Header → List ℕ → List FactValue → Type 0)
+    (refuses : S → List FactValue → SinkFault → S → Type 0) (failed : S → Bool) where
   -- so many pulls gave the bytes that a reader was fed since it was new, with no fault; the sink holds what was handed to it
   pub record HasPlaced (limits : Limits) (turns : ℕ) (was is : R) (reader : PartReader) (old new : S) : Type 0 where
     pub came : List ℕ
     pub pulled : Pulled left pulls was came turns is
     pub facts : List FactValue
     pub read : HasRead limits came facts reader
-    pub held : holds old limits None [] [] → HoldsFront holds limits came (header_of reader) facts new
+    pub held : (earlier : Earlier) → holds old limits earlier None [] []
+        → HoldsFront (holds_behind holds earlier) limits came (header_of reader) facts new
 
   -- nothing came yet
   pub placed_none : (limits : Limits) (was : R) (reader : PartReader) (sink : S) → HasRead limits [] [] reader → header_of reader ≡ None
@@ -133,12 +134,12 @@ module _ {R : Type 0} (left : R → Option (List ℕ)) (health : R → Health) (
     pulled = none;
     facts = [];
     read = read;
-    held = λ held. record {
+    held = λ earlier held. record {
       before = [];
       piece = [];
       parts = refl;
       few = omega arith;
-      held = subst (λ (h : Option Header). holds sink limits h [] []) (sym bare) held;
+      held = subst (λ (h : Option Header). holds sink limits earlier h [] []) (sym bare) held;
     };
   }
 
@@ -158,7 +159,7 @@ module _ {R : Type 0} (left : R → Option (List ℕ)) (health : R → Health) (
     (
       nothing_handed,
       ((well, inl (refl, refl)), refl),
-      λ held. record { before = []; piece = []; parts = refl; few = omega arith; held = held },
+      λ earlier held. record { before = []; piece = []; parts = refl; few = omega arith; held = held },
     ),
   )
 
@@ -246,38 +247,39 @@ module _ {R : Type 0} (left : R → Option (List ℕ)) (health : R → Health) (
       let reads = ReadsPart-finished left health pulls {S = Handed} listing.begins listing.steps listing.refuses listing.failed limits was
       came is reader nothing_handed handed done result
       (fed.0, fed.1, fed.2, (facts, fed.3.1, hands_run None (header_of reader) [] facts (λ header e. absurd cc))) finishes in
-      (handed, reads, λ held. by result (finishes facts fed.3.1) (fed.3.2 held))
+      (handed, reads, λ earlier held. by earlier result (finishes facts fed.3.1) (fed.3.2 earlier held))
     where
-      by : (r : Result PartSummary PartFault) → Finishes limits came fed.3.0 (header_of reader) r
-          → HoldsFront holds limits came (header_of reader) fed.3.0 new
-          → HoldsHanded holds refuses failed limits came r (handed_so (header_of reader) fed.3.0) new
-      by (Ok summary) finished front = front
-      by (Err (faults.Sink fault)) finished front = let no : true ≡ false = finished.1 in absurd cc
-      by (Err fault) finished front = front
+      by : (earlier : Earlier) (r : Result PartSummary PartFault) → Finishes limits came fed.3.0 (header_of reader) r
+          → HoldsFront (holds_behind holds earlier) limits came (header_of reader) fed.3.0 new
+          → HoldsHanded (holds_behind holds earlier) refuses failed limits came r (handed_so (header_of reader) fed.3.0) new
+      by earlier (Ok summary) finished front = front
+      by earlier (Err (faults.Sink fault)) finished front = let no : true ≡ false = finished.1 in absurd cc
+      by earlier (Err fault) finished front = front
 
   -- ---- a piece
 
   -- the sink was told a place of what was read, and holds all bytes that came before it
   abbrev pub Notes : Limits → PartReader → S → S → Type 0
-  Notes limits reader mid noted = (header : Option Header) (bytes more : List ℕ) (facts : List FactValue)
-      → HasRead limits (bytes ++ more) facts reader → holds mid limits header bytes facts → holds noted limits header (bytes ++ more) facts
+  Notes limits reader mid noted = (earlier : Earlier) (header : Option Header) (bytes more : List ℕ) (facts : List FactValue)
+      → HasRead limits (bytes ++ more) facts reader → holds mid limits earlier header bytes facts
+      → holds noted limits earlier header (bytes ++ more) facts
 
   holds_noted : (limits : Limits) (turns : ℕ) (was is : R) (reader : PartReader) (old mid noted : S) → Notes limits reader mid noted
-      → (placed : HasPlaced limits turns was is reader old mid) → holds old limits None [] []
-      → holds noted limits (header_of reader) placed.came placed.facts
-  holds_noted limits turns was is reader old mid noted notes placed held =
-      let front = placed.held held in
+      → (placed : HasPlaced limits turns was is reader old mid) (earlier : Earlier) → holds old limits earlier None [] []
+      → holds noted limits earlier (header_of reader) placed.came placed.facts
+  holds_noted limits turns was is reader old mid noted notes placed earlier held =
+      let front = placed.held earlier held in
       let parts = front.parts in
-      subst (λ (b : List ℕ). holds noted limits (header_of reader) b placed.facts) (sym parts)
-      (notes (header_of reader) front.before front.piece placed.facts
+      subst (λ (b : List ℕ). holds noted limits earlier (header_of reader) b placed.facts) (sym parts)
+      (notes earlier (header_of reader) front.before front.piece placed.facts
       (subst (λ (b : List ℕ). HasRead limits b placed.facts reader) parts placed.read) front.held)
 
   module _ (begins : S → Header → S → Type 0) (steps : S → FactValue → S → Type 0)
-      (begins_part : (old : S) (header : Header) (new : S) → begins old header new → (limits : Limits) (bytes : List ℕ)
-      → holds old limits None bytes [] → holds new limits (Some header) bytes [])
-      (takes_fact : (old : S) (fact : FactValue) (new : S) → steps old fact new → (limits : Limits) (header : Header) (bytes : List ℕ)
-      (facts : List FactValue) → holds old limits (Some header) bytes facts
-      → holds new limits (Some header) bytes (facts ++ fact ∷ [])) where
+      (begins_part : (old : S) (header : Header) (new : S) → begins old header new → (limits : Limits) (earlier : Earlier)
+      (bytes : List ℕ) → holds old limits earlier None bytes [] → holds new limits earlier (Some header) bytes [])
+      (takes_fact : (old : S) (fact : FactValue) (new : S) → steps old fact new → (limits : Limits) (earlier : Earlier)
+      (header : Header) (bytes : List ℕ) (facts : List FactValue) → holds old limits earlier (Some header) bytes facts
+      → holds new limits earlier (Some header) bytes (facts ++ fact ∷ [])) where
     -- a piece came; the sink was told the place before it, and was handed what was whole then
     pub placed_more : (limits : Limits) (turns : ℕ) (was before is : R) (reader next : PartReader) (old mid noted new : S)
         (piece : List ℕ) (done : Unit {0}) → IsPull left pulls before piece is → 0 < length piece
@@ -293,13 +295,14 @@ module _ {R : Type 0} (left : R → Option (List ℕ)) (health : R → Health) (
           pulled = once_more placed.pulled last some;
           facts = placed.facts ++ on.0;
           read = on.1;
-          held = λ held. record {
+          held = λ earlier held. record {
             before = placed.came;
             piece = piece;
             parts = refl;
             few = last.few;
             held = holds_fed begins steps refuses failed holds begins_part takes_fact limits placed.came placed.facts reader placed.read
-                next piece on.0 noted new on.1 stays on.2 (holds_noted limits turns was before reader old mid noted notes placed held);
+                earlier next piece on.0 noted new on.1 stays on.2
+                (holds_noted limits turns was before reader old mid noted notes placed earlier held);
           };
         }
 
@@ -321,6 +324,6 @@ module _ {R : Type 0} (left : R → Option (List ℕ)) (health : R → Health) (
             it.handed,
             refused_ends left health pulls limits placed.came placed.facts reader next piece turns was before is it.handed fault well
                 placed.read stays placed.pulled last some allowed it.comes,
-            λ held. it.takes (holds_noted limits turns was before reader old mid noted notes placed held),
+            λ earlier held. it.takes earlier (holds_noted limits turns was before reader old mid noted notes placed earlier held),
           ),
         )

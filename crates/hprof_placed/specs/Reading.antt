@@ -13,6 +13,11 @@ use Rattle.hprof_stream.specs.Walking.{Refuses}
 use Rattle.hprof_placed.specs.Handed.{Handed, nothing_handed}
 use Rattle.hprof_placed.specs.Handed as listing
 
+-- what a sink holds behind what it was given earlier
+abbrev pub holds_behind : {S Earlier : Type 0} → (S → Limits → Earlier → Option Header → List ℕ → List FactValue → Type 0) → Earlier
+    → S → Limits → Option Header → List ℕ → List FactValue → Type 0
+holds_behind holds earlier = λ sink limits header bytes facts. holds sink limits earlier header bytes facts
+
 module _ {S : Type 0} (holds : S → Limits → Option Header → List ℕ → List FactValue → Type 0) where
   -- the sink holds that it was given this header and these facts, and of the bytes that came all but the last piece
   pub record HoldsFront (limits : Limits) (came : List ℕ) (header : Option Header) (facts : List FactValue) (sink : S) : Type 0 where
@@ -39,12 +44,13 @@ module _ {R : Type 0} (left : R → Option (List ℕ)) (health : R → Health) (
       handed
 
 module _ {R : Type 0} (left : R → Option (List ℕ)) (health : R → Health) (pulls : R → ℕ)
-    {S : Type 0} (holds : S → Limits → Option Header → List ℕ → List FactValue → Type 0) (refuses : S → List FactValue → SinkFault
-    → S → Type 0) (failed : S → Bool) where
+    {S Earlier : Type 0} (holds : S → Limits → Earlier → Option Header → List ℕ → List FactValue → Type 0)
+    (refuses : S → List FactValue → SinkFault → S → Type 0) (failed : S → Bool) where
   -- what reading a part to its end comes to, where these bytes came from a source: what it comes to for a sink that lists what it is
-  -- handed, and a sink that held nothing of the part holds just that
+  -- handed, and a sink that held nothing of the part holds just that, behind the same that it held earlier
   --   was, is: the source, before and afterwards
   abbrev pub ReadsPlaced : Limits → R → List ℕ → R → S → Result PartSummary PartFault → S → Type 0
   ReadsPlaced limits was came is old result new =
       (handed : Handed) × ListsPart left health pulls limits was came is result handed
-      × (holds old limits None [] [] → HoldsHanded holds refuses failed limits came result handed new)
+      × ((earlier : Earlier) → holds old limits earlier None [] []
+      → HoldsHanded (holds_behind holds earlier) refuses failed limits came result handed new)

@@ -20,9 +20,9 @@ const PIECE_LEN: usize = 65_536;
 
 /// Tells the sink the place behind the last whole item.
 fn note_place<S: PlacedSink>(reader: &PartReader, sink: &mut S)
-    ensures holds { (limits : Limits) (header : Option Header) (bytes more : List ℕ) (facts : List FactValue)
-        → HasRead limits (bytes ++ more) facts reader.now → S.holds sink.old limits header bytes facts
-        → S.holds sink.new limits header (bytes ++ more) facts }
+    ensures holds { (limits : Limits) (earlier : S.Earlier) (header : Option Header) (bytes more : List ℕ) (facts : List FactValue)
+        → HasRead limits (bytes ++ more) facts reader.now → S.holds sink.old limits earlier header bytes facts
+        → S.holds sink.new limits earlier header (bytes ++ more) facts }
     ensures begun { S.begun sink.new ≡ S.begun sink.old }
 {
     if let Some(place) = reader.place() {
@@ -73,7 +73,7 @@ pub fn read_placed<R: Source, S: PlacedSink>(
 ) -> Result<PartSummary, PartFault>
     requires { R.health source.old ≡ Well }
     // The end is that of `read_part` with a sink that lists the header and the facts. The sink holds the same header, the same facts,
-    // and all bytes that came but those of the last piece.
+    // and all bytes that came but those of the last piece, behind whatever it was given earlier.
     ensures read { (came : List ℕ) × Consumes (R.left source.old) (R.left source.new) came
         × ReadsPlaced R.left R.health R.pulls S.holds S.refuses S.failed limits source.old came source.new sink.old result sink.new }
     // No more reads were made than the limit.

@@ -134,11 +134,13 @@ impl Sink for Log {
 impl PlacedSink for Log {
     ghost use Rattle.hprof_placed.specs.LastPlaces.{IsLast};
 
-    ghost holds = { λ log limits _ bytes facts. IsLast limits bytes facts log.last log.since };
+    ghost Earlier = { Unit {0} };
 
-    ghost begins_part = { λ _ _ _ begins. begins };
+    ghost holds = { λ log limits _ _ bytes facts. IsLast limits bytes facts log.last log.since };
 
-    ghost takes_fact = { λ _ _ _ steps limits _ bytes facts held. steps limits bytes facts held };
+    ghost begins_part = { λ _ _ _ begins limits _. begins limits };
+
+    ghost takes_fact = { λ _ _ _ steps limits _ _ bytes facts held. steps limits bytes facts held };
 
     fn note(&mut self, place: PartPlace) {
         self.add(Call::Note(place.offset(), place.facts()));

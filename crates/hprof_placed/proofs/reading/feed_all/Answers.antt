@@ -57,7 +57,7 @@ returns-in_err-feed-clause-fed g c =
     c.loop.counter c.args.source.now c.loop.source c.pull.new.self c.loop.reader c.feed.new.self c.args.sink.now c.loop.sink
     c.note_place.new.sink c.feed.new.sink (take c.in-Ok.count c.pull.new.piece) c.in_err-feed.field-0.0
     (record { gave = c.in-Ok.ensures.bytes; one = c.in-Ok.ensures.pulls; few = few }) some
-    (λ header bytes more facts was held. c.note_place.ensures.holds limits header bytes more facts was held)
+    (λ earlier header bytes more facts was held. c.note_place.ensures.holds limits earlier header bytes more facts was held)
     (λ bytes facts was. c.in_err-feed.ensures.fed limits bytes facts was) c.in_err-feed.ensures.kept c.in-Ok.ensures.health
     (c.loop.invariant.fed limits read) (omega (arith, same)))
 
@@ -75,7 +75,7 @@ loop-preserved g c =
           c.loop.reader c.feed.new.self c.args.sink.now c.loop.sink c.note_place.new.sink c.feed.new.sink (take c.in-Ok.count piece)
           c.in_ok-feed.field-0
           (record { gave = c.in-Ok.ensures.bytes; one = c.in-Ok.ensures.pulls; few = few }) some
-          (λ header bytes more facts was held. c.note_place.ensures.holds limits header bytes more facts was held)
+          (λ earlier header bytes more facts was held. c.note_place.ensures.holds limits earlier header bytes more facts was held)
           (λ bytes facts was. c.in_ok-feed.ensures.fed limits bytes facts was) c.in_ok-feed.ensures.kept (before.fed limits read);
       well = c.in-Ok.ensures.health;
       few = omega (arith, before.few, c.in-Ok.ensures.pulls);

@@ -1,0 +1,6 @@
+mod Noting
+mod Facts
+mod Ended
+mod Fresh
+mod Read
+mod Answered

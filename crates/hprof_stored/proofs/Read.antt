@@ -1,0 +1,181 @@
+-- A part that is read into a sink that holds the parts before it.
+use Rattle.std.proofs.Common.{◌≡◌, ◌≢◌, ◌⊎◌, ◌≤◌, ℕ, false, List, [], ◌∷◌, Option, Some, None, Ok, Err, inl, inr, refl, sym, ap, subst}
+use Rattle.std.proofs.Common.{◌∙◌}
+use Rattle.std.specs.Prelude.{slice_get}
+use Rattle.hprof_items.specs.declared.header.Header.{Header}
+use Rattle.hprof_items.specs.FactValue.{FactValue}
+use Rattle.hprof_devices.specs.declared.health.Health.{Health}
+use Rattle.hprof_devices.specs.declared.target.Target.{Ghosts}
+use Rattle.hprof_stream.specs.declared.limits.Limits.{Limits}
+use Rattle.hprof_stream.specs.declared.part_fault.PartFault.{PartFault}
+use Rattle.hprof_stream.specs.declared.part_fault.PartFault.TheVariants as faults
+use Rattle.hprof_stream.specs.declared.part_place.PartPlace.{PartPlace}
+use Rattle.hprof_stream.specs.declared.sink.SinkFault.{SinkFault}
+use Rattle.hprof_stream.specs.declared.sink.SinkFault.TheVariants as sinks
+use Rattle.hprof_stream.specs.declared.summary.PartSummary.{PartSummary}
+use Rattle.hprof_stream.specs.Item.{AreItems, Place, Start, header_before}
+use Rattle.hprof_stream.specs.Part.{IsPart, Stated, all_facts}
+use Rattle.hprof_stream.proofs.ItemLists.{items_at_start}
+use Rattle.hprof_heap.specs.Gathering.{IsNewBehind, LacksRow, nothing_gathered}
+use Rattle.hprof_heap.proofs.Told.{new_behind}
+use Rattle.hprof_runs.specs.declared.scratch_fault.ScratchFault.{ScratchFault}
+use Rattle.hprof_runs.specs.declared.scratch_fault.ScratchFault.TheVariants as scratches
+use Rattle.hprof_objects.specs.Log.{IsPlaceNow}
+use Rattle.hprof_objects.specs.Whole.{no_objects}
+use Rattle.hprof_engine.proofs.Gathered.{Gathers-sound, Run-sound}
+use Rattle.hprof_placed.specs.Handed.{Handed}
+use Rattle.hprof_placed.specs.Reading.{HoldsHanded, ListsPart}
+use Rattle.hprof_placed.proofs.Listing.{handed_up_to, handed_whole}
+use Rattle.hprof_stored.specs.declared.stored_sink.StoredSink.{StoredSink}
+use Rattle.hprof_stored.specs.Holding.{Earlier, HoldsAll, HoldsHeader, HoldsStored}
+use Rattle.hprof_stored.specs.Parts.{given_of, others_of}
+use Rattle.hprof_stored.specs.Reading.{AreSoMany, IsStoredFault, StopsForScratch, StopsReader, StoresAll, stop_of}
+use Rattle.hprof_stored.specs.Storing.{HaveObject, IsFull, IsStoredRefusal, RefusesStored, Storing, storing}
+use Rattle.hprof_stored.proofs.Fresh.{new_behind_all}
+
+no_place : (limits : Limits) (it : Option PartPlace) → it ≡ None → (part : _) → IsPlaceNow limits part it
+no_place limits None e part = tt
+no_place limits (Some place) e part = absurd cc
+
+module _ {S : Type 0} (written : S → Option (List ℕ)) (well : S → Health) (limits : Limits) (earlier : Earlier) where
+  -- before a part nothing of it is there
+  pub part_starts : (it : Storing S) → HoldsAll written well limits earlier it → HoldsStored written well limits earlier None [] [] it
+  part_starts it all = record {
+    gathers = all.gathers;
+    logs = all.logs;
+    number = all.number;
+    place = λ ids. no_place limits it.place all.none (record { ids = ids; bytes = []; facts = [] });
+    without = all.without;
+    sound = all.sound;
+  }
+
+  module _ {R : Type 0} (left : R → Option (List ℕ)) (health : R → Health) (pulls : R → ℕ) where
+    -- at its end, all facts of the part
+    pub read_whole : (was is : R) (came before : List ℕ) (summary : PartSummary) (handed : Handed) (mid : Storing S)
+        → ListsPart left health pulls limits was came is (Ok summary) handed
+        → HoldsStored written well limits earlier handed.header before handed.facts mid
+        → (facts : List FactValue) × IsPart came summary.header.ids summary.header.millis facts
+        × HoldsHeader written well limits earlier summary.header before facts mid
+    read_whole was is came before summary handed mid reads held =
+        let whole = handed_whole left health pulls limits was is came summary handed reads in (
+          whole.0,
+          whole.2,
+          subst (λ (h : Handed). HoldsStored written well limits earlier h.header before h.facts mid) whole.1 held,
+        )
+
+  -- what was gathered is sound, and lacks only what is new
+  gathered_sound : (header : Option Header) (bytes : List ℕ) (facts : List FactValue) (it : Storing S)
+      → HoldsStored written well limits earlier header bytes facts it → it.gathered.failed ≡ false
+  gathered_sound None bytes facts it held = Gathers-sound nothing_gathered it.gathered (others_of earlier.parts) held.gathers refl
+  gathered_sound (Some header) bytes facts it held =
+      Run-sound held.mid it.gathered (Some header) (no_objects facts) held.ran
+      (Gathers-sound nothing_gathered held.mid (others_of earlier.parts) held.gathers refl)
+
+  is_sound : (header : Option Header) (bytes : List ℕ) (facts : List FactValue) (it : Storing S)
+      → HoldsStored written well limits earlier header bytes facts it → it.failed ≡ false
+  is_sound None bytes facts it held = held.sound
+  is_sound (Some header) bytes facts it held = held.sound
+
+  new_among_others : (header : Option Header) (bytes : List ℕ) (facts given : List FactValue) (it : Storing S)
+      → (header ≡ None → facts ≡ []) → HoldsStored written well limits earlier header bytes facts it → LacksRow it.gathered given
+      → IsNewBehind (others_of earlier.parts) header (no_objects facts) given
+  new_among_others None bytes facts given it bare held lacks =
+      subst (λ (l : List FactValue). IsNewBehind (others_of earlier.parts) None (no_objects l) given) (sym (bare refl))
+      (new_behind (others_of earlier.parts) None [] given it.gathered it.gathered held.gathers refl lacks)
+  new_among_others (Some header) bytes facts given it bare held lacks =
+      new_behind (others_of earlier.parts) (Some header) (no_objects facts) given held.mid it.gathered held.gathers held.ran lacks
+
+  -- why an item was refused
+  refused_for : (header : Option Header) (bytes : List ℕ) (facts given : List FactValue) (fault : SinkFault) (mid new : Storing S)
+      → (header ≡ None → facts ≡ []) → HoldsStored written well limits earlier header bytes facts mid → RefusesStored mid given fault new
+      → IsStoredRefusal mid.gathered given fault new.full
+  refused_for header bytes facts given fault mid new bare held refused =
+      refused (is_sound header bytes facts mid held) (gathered_sound header bytes facts mid held)
+
+  wants_for : (header : Option Header) (bytes : List ℕ) (facts given : List FactValue) (mid : Storing S)
+      → (header ≡ None → facts ≡ []) → HoldsStored written well limits earlier header bytes facts mid
+      → HaveObject given ⊎ LacksRow mid.gathered given → HaveObject given ⊎ IsNewBehind (given_of earlier.parts) header facts given
+  wants_for header bytes facts given mid bare held (inl object) = inl object
+  wants_for header bytes facts given mid bare held (inr lacks) =
+      new_behind_all (given_of earlier.parts) header facts given (new_among_others header bytes facts given mid bare held lacks)
+
+  -- items before a header state no fact
+  no_fact : (longest : ℕ) (items : List Stated) (place : Place) → AreItems longest Start items place → header_before place ≡ None
+      → all_facts items ≡ []
+  no_fact longest items place each bare = ap all_facts (items_at_start longest Start place items each bare).1
+
+  module _ {g : Ghosts S} {R : Type 0} (left : R → Option (List ℕ)) (health : R → Health) (pulls : R → ℕ) (was is : R)
+      (came : List ℕ) (handed : Handed) (new : StoredSink S g) where
+    abbrev HoldsIt : StoredSink S g → Limits → Option Header → List ℕ → List FactValue → Type 0
+    HoldsIt sink within header bytes facts = HoldsStored written well within earlier header bytes facts (storing sink)
+
+    abbrev pub Comes : PartFault → Type 0
+    Comes fault = HoldsHanded HoldsIt (λ (old : StoredSink S g) given why (it : StoredSink S g). RefusesStored (storing old) given why (storing it))
+        (λ (sink : StoredSink S g). sink.failed) limits came (Err fault) handed new
+
+    -- the facts before a refused item
+    bare_item : (fault : SinkFault) → (reads : ListsPart left health pulls limits was came is (Err (faults.Sink fault)) handed)
+        → handed.header ≡ None → handed.facts ≡ []
+    bare_item fault reads none =
+        let up = handed_up_to left health pulls limits was is came fault handed reads in
+        let whole = reads.0.1.whole in
+        up.has_facts ∙ no_fact limits.max_item whole.items whole.before whole.each (sym up.has_header ∙ none)
+
+    -- the scratch took no more
+    pub is_full : ListsPart left health pulls limits was came is (Err (faults.Sink sinks.Failed)) handed → Comes (faults.Sink sinks.Failed)
+        → IsFull new.full
+    is_full reads comes =
+        refused_for handed.header comes.1.before handed.facts handed.refused sinks.Failed (storing comes.0) (storing new)
+        (bare_item sinks.Failed reads) comes.1.held comes.2.0
+
+    -- with which fault the part is refused
+    pub is_fault : (fault : PartFault) → (fault ≡ faults.Sink sinks.Failed → ⊥)
+        → ListsPart left health pulls limits was came is (Err fault) handed → Comes fault
+        → IsStoredFault left health pulls limits (given_of earlier.parts) was came is fault
+    is_fault (faults.Sink sinks.OutOfMemory) other reads comes =
+        let up = handed_up_to left health pulls limits was is came sinks.OutOfMemory handed reads in
+        let bare = bare_item sinks.OutOfMemory reads in
+        let why = refused_for handed.header comes.1.before handed.facts handed.refused sinks.OutOfMemory (storing comes.0) (storing new)
+        bare comes.1.held comes.2.0 in
+        let wants = wants_for handed.header comes.1.before handed.facts handed.refused (storing comes.0) bare comes.1.held why in (
+          reads.0,
+          subst (λ (l : List FactValue). HaveObject l
+              ⊎ IsNewBehind (given_of earlier.parts) (header_before reads.0.1.whole.before) (all_facts reads.0.1.whole.items) l) up.has_refused
+              (subst (λ (l : List FactValue). HaveObject handed.refused
+              ⊎ IsNewBehind (given_of earlier.parts) (header_before reads.0.1.whole.before) l handed.refused) up.has_facts
+              (subst (λ (h : Option Header). HaveObject handed.refused ⊎ IsNewBehind (given_of earlier.parts) h handed.facts handed.refused)
+              up.has_header wants)),
+        )
+    is_fault (faults.Sink sinks.Failed) other reads comes = absurd (other refl)
+    is_fault fault other reads comes = reads.0
+
+-- there is a reader
+some_reader : {R : Type 0} (old : List R) (index : ℕ) (was : R) → slice_get old index ≡ Some was → old ≢ []
+some_reader [] index was there = absurd cc
+some_reader (reader ∷ old) index was there = λ none. cc
+
+-- why the scratch stops it
+stops_for : {R : Type 0} (old new : List R) → old ≢ [] → (why : ScratchFault) → IsFull (Some why) → StopsForScratch old new why
+stops_for old new some scratches.OutOfMemory full = absurd full
+stops_for old new some scratches.Full full = some
+stops_for old new some (scratches.Write fault) full = some
+
+-- how reading stops at a reader
+pub stops_so : {R : Type 0} (left : R → Option (List ℕ)) (health : R → Health) (pulls : R → ℕ) {S : Type 0} (g : Ghosts S)
+    (written : S → Option (List ℕ)) (well : S → Health) (limits : Limits) (scratch : Option (List ℕ)) (old new : List R) (index : ℕ)
+    (was : R) → slice_get old index ≡ Some was → (full : Option ScratchFault) (fault : PartFault)
+    → (fault ≡ faults.Sink sinks.Failed → IsFull full)
+    → ((fault ≡ faults.Sink sinks.Failed → ⊥) → StopsReader left health pulls limits old new index fault)
+    → StoresAll left health pulls {S = S} {g = g} written well limits scratch old (Err (stop_of full index fault)) new
+stops_so left health pulls g written well limits scratch old new index was there None (faults.Sink sinks.Failed) fills part =
+    absurd (fills refl)
+stops_so left health pulls g written well limits scratch old new index was there (Some why) (faults.Sink sinks.Failed) fills part =
+    stops_for old new (some_reader old index was there) why (fills refl)
+stops_so left health pulls g written well limits scratch old new index was there None fault fills part = part (λ e. cc)
+stops_so left health pulls g written well limits scratch old new index was there (Some why) fault fills part = part (λ e. cc)
+
+-- how many readers were read to their ends then
+pub so_many : (full : Option ScratchFault) (index all : ℕ) (fault : PartFault) → index ≤ all → AreSoMany (Some (stop_of full index fault)) all index
+so_many None index all fault within = refl
+so_many (Some why) index all (faults.Sink sinks.Failed) within = within
+so_many (Some why) index all fault within = refl

@@ -1,0 +1,5 @@
+pub mod Parts
+pub mod Storing
+pub mod Holding
+pub mod HoldingLaws
+pub mod Reading

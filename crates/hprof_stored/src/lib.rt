@@ -1,0 +1,13 @@
+//! The first reading of parts that are larger than the memory: all facts but objects go into a heap, and the objects into a log.
+#![tactic(auto)]
+
+mod reading;
+mod stored_fault;
+mod stored_heap;
+mod stored_sink;
+#[cfg(test)]
+mod tests;
+
+pub use reading::read_stored;
+pub use stored_fault::StoredFault;
+pub use stored_heap::StoredHeap;

@@ -1,0 +1,25 @@
+//! Reasons why parts are refused.
+
+use hprof_heap::Key;
+use hprof_runs::ScratchFault;
+use hprof_stream::PartFault;
+
+/// The reason why parts have no heap, or why reading them stopped.
+#[derive(Clone, Copy, Debug, PartialEq, Eq)]
+pub enum StoredFault {
+    /// A part was refused.
+    Part {
+        /// The index of the part, from 0.
+        index: usize,
+        /// Its fault.
+        fault: PartFault,
+    },
+    /// There are no parts.
+    NoParts,
+    /// Two parts have different sizes of identifiers.
+    IdSizes,
+    /// Two facts that are no objects have one key and different contents. This is the least such key.
+    Conflict(Key),
+    /// The scratch took no more objects. `OutOfMemory`: memory ran out before any part was read.
+    Scratch(ScratchFault),
+}
