@@ -75,7 +75,9 @@ module _ {S Earlier : Type 0} (begins : S → Header → S → Type 0) (steps : 
     front earlier header all sink held = record { before = bytes; piece = piece; parts = refl; few = few; held = held }
 
     abbrev IsHandedHere : (Handed → Type 0) → Type 0
-    IsHandedHere Comes = IsHanded Comes (λ earlier handed. HoldsFront (holds_behind holds earlier) limits (bytes ++ piece) handed.header handed.facts new) old
+    IsHandedHere Comes =
+        IsHanded Comes (λ earlier handed. HoldsFront (holds_behind holds earlier) limits (bytes ++ piece) handed.header handed.facts new)
+        old
 
     over_hands : (longest : ℕ) (seen : List ℕ)
         → RanOver begins steps longest seen facts (header_of from) (header_of to) old new
@@ -133,7 +135,8 @@ module _ {S Earlier : Type 0} (begins : S → Header → S → Type 0) (steps : 
           takes = λ earlier held. (
             last.mid,
             front earlier before all last.mid
-                (holds_on earlier before old last.mid ran.handed (λ none. sym ran.has_facts ∙ no_fact longest whole.items whole.before whole.each none) ran.stays ran.ran held),
+                (holds_on earlier before old last.mid ran.handed
+                (λ none. sym ran.has_facts ∙ no_fact longest whole.items whole.before whole.each none) ran.stays ran.ran held),
             last.refused,
           );
         }

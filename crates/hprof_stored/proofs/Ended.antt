@@ -32,7 +32,8 @@ pub part_ended : {S : Type 0} (written : S → Option (List ℕ)) (health : S �
     → HoldsAll written health limits (one_more earlier (record { given = record { header = header; facts = facts }; bytes = came })) new
 part_ended written health limits earlier header facts came before piece mid new cut held ends =
     let part : PartStored = record { given = record { header = header; facts = facts }; bytes = came } in
-    let more = Gathers-more nothing_gathered held.mid mid.gathered (others_of earlier.parts) header (no_objects facts) held.gathers held.ran in
+    let more = Gathers-more nothing_gathered held.mid mid.gathered (others_of earlier.parts) header (no_objects facts) held.gathers
+    held.ran in
     record {
       gathers = subst (λ (l : List Given). Gathers nothing_gathered l new.gathered) (sym (others_more earlier.parts part))
           (subst (λ (g : Gathered). Gathers nothing_gathered (others_of earlier.parts ++ without_objects part.given ∷ []) g)
@@ -63,7 +64,8 @@ pub is_stored : (limits : Limits) (left rest : Option (List ℕ)) (part : PartSt
 is_stored limits left rest part consumes ends accepted states =
     record { all = all_if_told left rest part.bytes consumes ends; accepted = accepted; states = states }
 
-given_if_stored : (limits : Limits) (left : Option (List ℕ)) (part : PartStored) → IsStored limits left part → IsGiven limits left part.given
+given_if_stored : (limits : Limits) (left : Option (List ℕ)) (part : PartStored) → IsStored limits left part
+    → IsGiven limits left part.given
 given_if_stored limits None part is = tt
 given_if_stored limits (Some bytes) part is = (
   subst (IsAccepted limits) is.all is.accepted,

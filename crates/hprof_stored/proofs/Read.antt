@@ -110,7 +110,9 @@ module _ {S : Type 0} (written : S → Option (List ℕ)) (well : S → Health) 
     HoldsIt sink within header bytes facts = HoldsStored written well within earlier header bytes facts (storing sink)
 
     abbrev pub Comes : PartFault → Type 0
-    Comes fault = HoldsHanded HoldsIt (λ (old : StoredSink S g) given why (it : StoredSink S g). RefusesStored (storing old) given why (storing it))
+    Comes fault =
+        HoldsHanded HoldsIt
+        (λ (old : StoredSink S g) given why (it : StoredSink S g). RefusesStored (storing old) given why (storing it))
         (λ (sink : StoredSink S g). sink.failed) limits came (Err fault) handed new
 
     -- the facts before a refused item
@@ -140,7 +142,8 @@ module _ {S : Type 0} (written : S → Option (List ℕ)) (well : S → Health) 
         let wants = wants_for handed.header comes.1.before handed.facts handed.refused (storing comes.0) bare comes.1.held why in (
           reads.0,
           subst (λ (l : List FactValue). HaveObject l
-              ⊎ IsNewBehind (given_of earlier.parts) (header_before reads.0.1.whole.before) (all_facts reads.0.1.whole.items) l) up.has_refused
+              ⊎ IsNewBehind (given_of earlier.parts) (header_before reads.0.1.whole.before) (all_facts reads.0.1.whole.items) l)
+              up.has_refused
               (subst (λ (l : List FactValue). HaveObject handed.refused
               ⊎ IsNewBehind (given_of earlier.parts) (header_before reads.0.1.whole.before) l handed.refused) up.has_facts
               (subst (λ (h : Option Header). HaveObject handed.refused ⊎ IsNewBehind (given_of earlier.parts) h handed.facts handed.refused)
@@ -175,7 +178,8 @@ stops_so left health pulls g written well limits scratch old new index was there
 stops_so left health pulls g written well limits scratch old new index was there (Some why) fault fills part = part (λ e. cc)
 
 -- how many readers were read to their ends then
-pub so_many : (full : Option ScratchFault) (index all : ℕ) (fault : PartFault) → index ≤ all → AreSoMany (Some (stop_of full index fault)) all index
+pub so_many : (full : Option ScratchFault) (index all : ℕ) (fault : PartFault) → index ≤ all
+    → AreSoMany (Some (stop_of full index fault)) all index
 so_many None index all fault within = refl
 so_many (Some why) index all (faults.Sink sinks.Failed) within = within
 so_many (Some why) index all fault within = refl

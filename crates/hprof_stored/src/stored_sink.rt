@@ -174,7 +174,8 @@ impl<S: Scratch + Drop> PlacedSink for StoredSink<S> {
 
     ghost Earlier = { Earlier };
 
-    ghost holds = { λ sink limits earlier header bytes facts. HoldsStored S.written S.health limits earlier header bytes facts (storing sink) };
+    ghost holds = { λ sink limits earlier header bytes facts.
+        HoldsStored S.written S.health limits earlier header bytes facts (storing sink) };
 
     ghost begins_part = { λ old header new begins limits earlier bytes held.
         holds_begun S.written S.health limits earlier header bytes (storing old) (storing new) begins held };

@@ -1,12 +1,13 @@
-use Rattle.std.proofs.Common.{◌≡◌, ◌≢◌, ℕ, ◌+◌, ◌-◌, ◌<◌, ◌≤◌, [], ◌∷◌, ◌++◌, length, map, take, set, get_or, Some, Err, ap, subst, sym, refl, ◌∙◌}
+use Rattle.std.proofs.Common.{◌≡◌, ◌≢◌, ℕ, ◌+◌, ◌-◌, ◌<◌, ◌≤◌, [], ◌∷◌, ◌++◌, length, map, take, set, get_or, Some, Err, ap}
+use Rattle.std.proofs.Common.{subst, sym, refl, ◌∙◌}
 use Rattle.std.proofs.Common.{arith, get_or-set_other}
 use Rattle.hprof_devices.specs.declared.health.Health.TheVariants.{Well}
 use Rattle.hprof_stream.specs.declared.part_fault.PartFault.{PartFault}
 use Rattle.hprof_placed.specs.Reading.{ListsPart}
 use Rattle.hprof_stored.specs.declared.stored_fault.StoredFault.{StoredFault}
 use Rattle.std.proofs.lemmas.List.{length-set, length-append}
-use Rattle.hprof_engine.proofs.Reading.{element_at, element_set, same_at, summarised_if_told, HoldsFirst-more, HoldsFirst-none, AreReadOut-kept}
-use Rattle.hprof_engine.proofs.Reading.{AreReadOut-more}
+use Rattle.hprof_engine.proofs.Reading.{element_at, element_set, same_at, summarised_if_told, HoldsFirst-more, HoldsFirst-none}
+use Rattle.hprof_engine.proofs.Reading.{AreReadOut-kept, AreReadOut-more}
 use Rattle.hprof_stored.specs.Holding.{Earlier}
 use Rattle.hprof_stored.specs.Parts.{PartStored, given_of}
 use Rattle.hprof_stored.specs.Reading.{AreSoMany, StoresAll, StoresFirst}
@@ -46,7 +47,8 @@ end_part-requires g c =
     let first = c.loop-index.invariant.first in
     let read = c.in-Ok-read_placed.ensures.read in
     let earlier : Earlier = record { scratch = g.S.Target.written c.args.scratch; parts = first.parts } in
-    let front = read.2.2 earlier (part_starts g.S.Target.written g.S.Target.health c.args.limits earlier (storing c.loop-index.sink) first.holds) in
+    let front = read.2.2 earlier (part_starts g.S.Target.written g.S.Target.health c.args.limits earlier (storing c.loop-index.sink)
+    first.holds) in
     let whole = read_whole g.S.Target.written g.S.Target.health c.args.limits earlier g.R.Source.left g.R.Source.health g.R.Source.pulls
     (get_or c.loop-index.readers c.loop-index.index c.index-readers-index.result) c.read_placed.new.source read.0 front.before
     c.in-Ok-read_placed.summary read.2.0 (storing c.read_placed.new.sink) read.2.1 front.held in
@@ -75,20 +77,23 @@ returns-in-Err-clause-read g c =
     let read = c.in-Err.ensures.read in
     let earlier : Earlier = record { scratch = g.S.Target.written c.args.scratch; parts = first.parts } in
     let handed = read.2.0 in
-    let comes = read.2.2 earlier (part_starts g.S.Target.written g.S.Target.health c.args.limits earlier (storing c.loop-index.sink) first.holds) in
+    let comes = read.2.2 earlier (part_starts g.S.Target.written g.S.Target.health c.args.limits earlier (storing c.loop-index.sink)
+    first.holds) in
     let there = element_at c.args.readers.now c.loop-index.readers index found within (c.loop-index.invariant.unread index found
     (omega arith) within) c.index-readers-index.is ∙ ap Some c.index-readers-index.is in
-    subst (λ (f : StoredFault). StoresAll g.R.Source.left g.R.Source.health g.R.Source.pulls {S = g.row.S.Denot} {g = g.S.Target} g.S.Target.written
-    g.S.Target.health c.args.limits (g.S.Target.written c.args.scratch) c.args.readers.now (Err f) (set c.loop-index.readers index is))
+    subst (λ (f : StoredFault). StoresAll g.R.Source.left g.R.Source.health g.R.Source.pulls {S = g.row.S.Denot} {g = g.S.Target}
+    g.S.Target.written g.S.Target.health c.args.limits (g.S.Target.written c.args.scratch) c.args.readers.now (Err f) (set
+    c.loop-index.readers index is))
     (sym c.stop_at.ensures)
     (stops_so g.R.Source.left g.R.Source.health g.R.Source.pulls {S = g.row.S.Denot} g.S.Target g.S.Target.written g.S.Target.health
     c.args.limits (g.S.Target.written c.args.scratch) c.args.readers.now (set c.loop-index.readers index is) index was there
     c.read_placed.new.sink.full c.in-Err.fault
     (λ failed. is_full g.S.Target.written g.S.Target.health c.args.limits earlier g.R.Source.left g.R.Source.health g.R.Source.pulls was is
     read.0 handed c.read_placed.new.sink
-    (subst (λ (f : PartFault). ListsPart g.R.Source.left g.R.Source.health g.R.Source.pulls c.args.limits was read.0 is (Err f) handed) failed read.2.1)
-    (subst (λ (f : PartFault). Comes g.S.Target.written g.S.Target.health c.args.limits earlier g.R.Source.left g.R.Source.health g.R.Source.pulls was is
-    read.0 handed c.read_placed.new.sink f) failed comes))
+    (subst (λ (f : PartFault). ListsPart g.R.Source.left g.R.Source.health g.R.Source.pulls c.args.limits was read.0 is (Err f) handed)
+    failed read.2.1)
+    (subst (λ (f : PartFault). Comes g.S.Target.written g.S.Target.health c.args.limits earlier g.R.Source.left g.R.Source.health
+    g.R.Source.pulls was is read.0 handed c.read_placed.new.sink f) failed comes))
     (λ other. record {
       given = given_of first.parts;
       of_readers = first.given;
@@ -134,7 +139,8 @@ loop-index-preserved g c =
     let summary = c.in-Ok-read_placed.summary in
     let reads = read.2.1 in
     let earlier : Earlier = record { scratch = g.S.Target.written c.args.scratch; parts = first.parts } in
-    let front = read.2.2 earlier (part_starts g.S.Target.written g.S.Target.health c.args.limits earlier (storing c.loop-index.sink) first.holds) in
+    let front = read.2.2 earlier (part_starts g.S.Target.written g.S.Target.health c.args.limits earlier (storing c.loop-index.sink)
+    first.holds) in
     let whole = read_whole g.S.Target.written g.S.Target.health c.args.limits earlier g.R.Source.left g.R.Source.health g.R.Source.pulls
     was is read.0 front.before summary read.2.0 (storing c.read_placed.new.sink) reads front.held in
     let part : PartStored = record { given = record { header = summary.header; facts = whole.0 }; bytes = read.0 } in

@@ -57,7 +57,8 @@ returns-clause-ok g c =
     let sink = c.in_ok-sink.sink in
     record {
       parts = first.parts;
-      stored = by_all g.R.Source.left (λ (l : List (Option (List ℕ))). AreStored c.args.limits l first.parts) c.args.readers.now first.stored;
+      stored = by_all g.R.Source.left (λ (l : List (Option (List ℕ))). AreStored c.args.limits l first.parts) c.args.readers.now
+          first.stored;
       given = by_all g.R.Source.left (λ (l : List (Option (List ℕ))). AreGiven c.args.limits l (given_of first.parts)) c.args.readers.now
           first.given;
       tells = c.in_ok-heap.ensures (others_of first.parts) first.holds.gathers;
