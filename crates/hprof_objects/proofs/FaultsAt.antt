@@ -1,5 +1,5 @@
 -- What a fault of a cursor over stored objects tells, by the place of the cursor.
-use Rattle.std.proofs.Common.{◌≡◌, ◌<◌, ◌≤◌, ◌+◌, ◌-◌, ◌∷◌, ◌++◌, ◌⊎◌, ℕ, zero, suc, List, [], length, map, Option, slice_index_or}
+use Rattle.std.proofs.Common.{◌≡◌, ◌<◌, ◌≤◌, ◌-◌, ◌∷◌, ◌++◌, ◌⊎◌, ℕ, zero, suc, List, [], length, map, Option, slice_index_or}
 use Rattle.std.proofs.Common.{inl, inr, refl, sym, ap, subst, ◌∙◌, arith}
 use Rattle.std.specs.Prelude.{All}
 use Rattle.std.specs.declared.convert.Infallible.{Infallible}

@@ -1,6 +1,6 @@
 -- What a log keeps, as facts and bytes come, and as rows move.
-use Rattle.std.proofs.Common.{◌≡◌, ◌⊎◌, ◌<◌, ◌≤◌, ◌+◌, ℕ, zero, suc, List, [], ◌∷◌, ◌++◌, length, Option, Some, None, slice_get}
-use Rattle.std.proofs.Common.{refl, sym, subst, ap, ◌∙◌, append-nil, append_assoc, inl, inr, arith, take}
+use Rattle.std.proofs.Common.{◌≡◌, ◌⊎◌, ◌<◌, ℕ, zero, suc, List, [], ◌∷◌, ◌++◌, length, Option, Some, None, slice_get}
+use Rattle.std.proofs.Common.{refl, sym, subst, ap, ◌∙◌, append-nil, inl, inr}
 use Rattle.hprof_devices.specs.declared.health.Health.{Health}
 use Rattle.hprof_items.specs.FactValue.{FactValue}
 use Rattle.hprof_stream.specs.declared.limits.Limits.{Limits}
@@ -10,7 +10,7 @@ use Rattle.hprof_merge.specs.Union.{AnyHas}
 use Rattle.hprof_merge.proofs.Lists.{Has-append, append-has, append-last}
 use Rattle.hprof_merge.proofs.Unions.{back_has, either_has, front_has}
 use Rattle.hprof_runs.specs.declared.runs.Runs.{Runs}
-use Rattle.hprof_runs.specs.Runs.{AddsRuns, HoldsRuns, KeepsRuns}
+use Rattle.hprof_runs.specs.Runs.{KeepsRuns}
 use Rattle.hprof_objects.specs.declared.growing.Growing.{Growing}
 use Rattle.hprof_objects.specs.declared.growing.Stands.{Stands}
 use Rattle.hprof_objects.specs.declared.growing.Stands.TheVariants.{InMemory, InPart}
@@ -20,7 +20,7 @@ use Rattle.hprof_objects.specs.Log.{IsKept, Keeps}
 use Rattle.hprof_objects.specs.ObjectRows.{object_row}
 use Rattle.hprof_objects.specs.Growing.{extended, longer, staying, staying_at}
 use Rattle.hprof_objects.specs.Store.{Spills}
-use Rattle.hprof_objects.specs.PartsRead.{PartRead, part_begun, rows_of_part, rows_of_parts, with_bytes, with_fact}
+use Rattle.hprof_objects.specs.PartsRead.{PartRead, rows_of_parts, with_bytes, with_fact}
 use Rattle.hprof_objects.specs.Stretches.{AreStretches, EndsAt, IsGrowingIn, IsGrowingStretch, IsStretch, StandAt, StandsIn}
 use Rattle.hprof_objects.proofs.Enough.{enough_moved, enough_of, enough_with}
 use Rattle.hprof_objects.proofs.Rows.{rows_of_parts-append, rows_of_parts-with}

@@ -1,5 +1,5 @@
 -- A merge of cursors over stored objects.
-use Rattle.std.proofs.Common.{◌≡◌, ◌<◌, ◌≤◌, ◌+◌, ◌-◌, ◌++◌, ℕ, List, [], ◌∷◌, length, map, Option, slice_index_or, refl, sym, ap, subst, arith}
+use Rattle.std.proofs.Common.{◌≡◌, ◌+◌, ◌-◌, ◌++◌, ℕ, List, [], ◌∷◌, length, map, Option, slice_index_or, sym, subst, arith}
 use Rattle.std.specs.Prelude.{All}
 use Rattle.std.specs.declared.convert.Infallible.{Infallible}
 use Rattle.hprof_devices.specs.declared.health.Health.{Health}
@@ -23,7 +23,6 @@ use Rattle.hprof_runs.specs.RowsIn.{sorted_in}
 use Rattle.hprof_runs.specs.Runs.{run_count}
 use Rattle.hprof_runs.proofs.AllRows.{all_come, below_come, least_come}
 use Rattle.hprof_runs.proofs.Lying.{sorted_rows}
-use Rattle.hprof_objects.specs.declared.object_stop.ObjectStop.{ObjectStop}
 use Rattle.hprof_objects.specs.declared.stored_objects.StoredObjects.{StoredObjects}
 use Rattle.hprof_objects.specs.declared.stretch.Stretch.{Stretch}
 use Rattle.hprof_objects.specs.declared.stretch_cursor.StretchCursor.{StretchCursor}

@@ -5,7 +5,7 @@ use Rattle.std.specs.Prelude.{IfOk, OnOk}
 use Rattle.hprof_devices.specs.declared.health.Health.{Health}
 use Rattle.hprof_items.specs.FactValue.{FactValue}
 use Rattle.hprof_stream.specs.declared.limits.Limits.{Limits}
-use Rattle.hprof_merge.specs.Rows.{ByteRow, Has}
+use Rattle.hprof_merge.specs.Rows.{ByteRow}
 use Rattle.hprof_merge.specs.Showing.{only}
 use Rattle.hprof_runs.specs.declared.runs.Runs.{Runs}
 use Rattle.hprof_objects.specs.declared.growing.Growing.{Growing}
@@ -13,14 +13,14 @@ use Rattle.hprof_objects.specs.declared.growing.Piece.{Piece}
 use Rattle.hprof_objects.specs.declared.growing.Stands.{Stands}
 use Rattle.hprof_objects.specs.declared.growing.Stands.TheVariants.{InMemory, InPart}
 use Rattle.hprof_objects.specs.declared.stretch.Stretch.{Stretch}
-use Rattle.hprof_objects.specs.Growing.{extended, grown_first, grown_in_part, longer}
+use Rattle.hprof_objects.specs.Growing.{extended, grown_first, grown_in_part}
 use Rattle.hprof_objects.specs.Log.{Keeps}
 use Rattle.hprof_objects.specs.ObjectRows.{object_row}
 use Rattle.hprof_objects.specs.PartsRead.{PartRead, with_fact}
 use Rattle.hprof_objects.specs.Stretches.{IsGrowingStretch, IsPiece, IsPlaceIn, StandAt, StandsIn}
 use Rattle.hprof_objects.specs.declared.row_store.RowStore.{RowStore}
 use Rattle.hprof_objects.specs.Store.{Pushes, rows_of_store, runs_of_store}
-use Rattle.hprof_objects.proofs.Logged.{keeps_extended, keeps_forgotten, keeps_growing, keeps_pushed, keeps_spilled, keeps_staying}
+use Rattle.hprof_objects.proofs.Logged.{keeps_extended, keeps_forgotten, keeps_pushed, keeps_spilled, keeps_staying}
 use Rattle.hprof_objects.proofs.Stretches.{all_below, place_with_fact, stands_alone, stands_longer, stands_with_fact}
 
 -- a front that is taken

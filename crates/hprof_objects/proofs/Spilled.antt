@@ -1,5 +1,5 @@
 -- What of rows goes to scratch is enough of them.
-use Rattle.std.proofs.Common.{◌≡◌, ◌⊎◌, ℕ, List, [], ◌∷◌, ◌++◌, inl, inr, refl, sym, subst}
+use Rattle.std.proofs.Common.{ℕ, List, [], ◌∷◌, inl, inr}
 use Rattle.std.specs.List.Sorted.{IsPermutation}
 use Rattle.hprof_merge.specs.Rows.{ByteRow, Has}
 use Rattle.hprof_merge.specs.TwoContents.{HasEnoughOf, HasTwoContents}

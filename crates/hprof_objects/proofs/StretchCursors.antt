@@ -6,7 +6,6 @@ use Rattle.std.specs.Option.{option_map}
 use Rattle.hprof_devices.specs.declared.health.Health.{Health}
 use Rattle.hprof_items.specs.FactValue.{FactValue}
 use Rattle.hprof_stream.specs.declared.limits.Limits.{Limits}
-use Rattle.hprof_stream.specs.declared.part_place.PartPlace.{PartPlace}
 use Rattle.hprof_stream.specs.PartPlaces.{IsPlaceBehind}
 use Rattle.hprof_facts.specs.declared.fact_place.FactPlace.{FactPlace}
 use Rattle.hprof_facts.specs.declared.fact_reader.FactReader.{FactReader}

@@ -1,6 +1,6 @@
 -- The heap of parts, of the heap without objects and of the objects; and the conflicts of objects.
-use Rattle.std.proofs.Common.{◌≡◌, ◌≢◌, ◌⊎◌, ◌<◌, ◌≤◌, ◌+◌, ℕ, Bool, true, false, List, [], ◌∷◌, ◌++◌, map, Option, Some, None, Ok, Err}
-use Rattle.std.proofs.Common.{refl, sym, subst, ap, ◌∙◌, cond, inl, inr, arith}
+use Rattle.std.proofs.Common.{◌≡◌, ◌≢◌, ◌⊎◌, ◌<◌, ◌≤◌, ℕ, Bool, true, false, List, [], ◌∷◌, ◌++◌, map, Some, Ok, Err}
+use Rattle.std.proofs.Common.{refl, sym, subst, ap, ◌∙◌, inl, inr, arith}
 use Rattle.std.proofs.lemmas.Bool.{cases_lt}
 use Rattle.hprof_heap.proofs.Least.{no_least}
 use Rattle.std.specs.Prelude.{IsTrue}
@@ -17,7 +17,7 @@ use Rattle.hprof_rows.specs.HeapValue.{HeapValue, IsHeap}
 use Rattle.hprof_rows.specs.Key.{key_le, key_of, number_of, rank_of}
 use Rattle.hprof_rows.specs.declared.key.Key.{Key}
 use Rattle.hprof_rows.specs.declared.key.Key.TheVariants as keys
-use Rattle.hprof_rows.specs.Order.{IsBefore, IsCanonicalOrder, order_of}
+use Rattle.hprof_rows.specs.Order.{IsBefore, IsCanonicalOrder}
 use Rattle.hprof_rows.proofs.FactSets.{All-from_has, All-has, Has-parts, Has-front, Has-back}
 use Rattle.hprof_rows.proofs.Keys.{true-key_le}
 use Rattle.hprof_heap.specs.declared.standing.Refusal.{Refusal}

@@ -7,10 +7,10 @@ use Rattle.hprof_stream.specs.declared.limits.Limits.{Limits}
 use Rattle.hprof_stream.specs.Part.{IsPart}
 use Rattle.hprof_stream.specs.Fault.{HasNoFault}
 use Rattle.hprof_facts.specs.declared.fact_reader.FactReader.{FactReader}
-use Rattle.hprof_facts.specs.FactReader.{HasGivenOrFails, IsCurrent, Origin}
+use Rattle.hprof_facts.specs.FactReader.{HasGivenOrFails, Origin}
 use Rattle.hprof_parts.specs.Parts.{bytes_at}
 use Rattle.hprof_merge.specs.Rows.{ByteRow}
-use Rattle.hprof_objects.specs.ObjectRows.{object_key, object_rows}
+use Rattle.hprof_objects.specs.ObjectRows.{object_rows}
 use Rattle.hprof_objects.specs.PartsRead.{PartRead}
 
 -- the bytes are a part with no fault, within the limits, and state these facts

@@ -1,4 +1,4 @@
-use Rattle.std.proofs.Common.{◌≡◌, ◌∷◌, List, Option, None, Some, Ok, true, false, subst, sym, rules}
+use Rattle.std.proofs.Common.{◌≡◌, ◌∷◌, List, None, Some, Ok, true, false, subst, sym, rules}
 use Rattle.hprof_merge.specs.Rows.{ByteRow}
 use Rattle.hprof_objects.specs.ReadAgain.{HasObjects}
 use Rattle.hprof_objects.specs.StretchFault.{IfChanged}
