@@ -65,7 +65,7 @@ module _ {S R : Type 0} (written : S → Option (List ℕ)) (well : S → Health
   opened_come (one ∷ list) [] reads lists each are same = absurd each
   opened_come (one ∷ list) (it ∷ opened) reads [] each are same = absurd are
   opened_come (one ∷ list) (it ∷ opened) reads (rows ∷ lists) each are same =
-      (each.0 reads rows are.0 (same one.part), opened_come list opened reads lists each.1 are.1 same)
+      ((limits.max_reads, each.0 reads rows are.0 (same one.part)), opened_come list opened reads lists each.1 are.1 same)
 
   first_over : (scratch : S) (over_rows : List (ObjectCursor S R)) (count : ℕ) → length over_rows ≡ count + 2
       → All (IsOverRows scratch) over_rows → (it : ObjectCursor S R) × IsOverRows scratch it

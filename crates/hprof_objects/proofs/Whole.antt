@@ -3,7 +3,8 @@ use Rattle.std.proofs.Common.{◌≡◌, ◌⊎◌, ◌<◌, ℕ, Bool, true, fa
 use Rattle.std.proofs.Common.{refl, sym, subst, ap, ◌∙◌, cond, inl, inr, arith}
 use Rattle.std.specs.List.{AllByRecursion}
 use Rattle.hprof_values.specs.declared.ids.IdSize.{IdSize}
-use Rattle.hprof_items.specs.FactValue.{FactValue, Name, Load, Unload, Frame, Trace, Start, End, Rooted, Class, Instance, ObjArray, PrimArray}
+use Rattle.hprof_items.specs.FactValue.{FactValue, Name, Load, Unload, Frame, Trace, Start, End, Rooted, Class, Instance, ObjArray}
+use Rattle.hprof_items.specs.FactValue.{PrimArray}
 use Rattle.hprof_items.specs.Spelling.{Fits}
 use Rattle.hprof_items.specs.SubRecord.{DumpFits, dump_bytes}
 use Rattle.hprof_items.proofs.Dumps.{dump_once}
