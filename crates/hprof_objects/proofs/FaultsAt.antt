@@ -1,5 +1,5 @@
 -- What a fault of a cursor over stored objects tells, by the place of the cursor.
-use Rattle.std.proofs.Common.{◌≡◌, ◌<◌, ◌≤◌, ◌+◌, ◌-◌, ◌∷◌, ◌++◌, ◌⊎◌, ℕ, zero, suc, List, [], length, map, Option, slice_index_or}
+use Rattle.std.proofs.Common.{◌≡◌, ◌<◌, ◌≤◌, ◌-◌, ◌∷◌, ◌++◌, ◌⊎◌, ℕ, zero, suc, List, [], length, map, Option, slice_index_or}
 use Rattle.std.proofs.Common.{inl, inr, refl, sym, ap, subst, ◌∙◌, arith}
 use Rattle.std.specs.Prelude.{All}
 use Rattle.std.specs.declared.convert.Infallible.{Infallible}
@@ -30,9 +30,8 @@ use Rattle.hprof_objects.specs.ObjectCursors.{AllOpen, ObjectCursor, ObjectsCome
 use Rattle.hprof_objects.specs.PartsRead.{PartRead}
 use Rattle.hprof_objects.specs.ReadAgain.{IsSameAt}
 use Rattle.hprof_objects.specs.StretchCursor as stretch
-use Rattle.hprof_objects.specs.StretchKnown.{stretch_known}
+use Rattle.hprof_objects.specs.StretchKnown.{StretchComes, stretch_known}
 use Rattle.hprof_objects.specs.Stretches.{AreStretches, IsStretch}
-use Rattle.hprof_objects.proofs.StretchCursors as cursors
 
 module _ {C : Type 0} (shown : C → Option ByteRow) (goes : C → C → Type 0) where
   -- the cursor at a place showed some rows; past the last there is only the default
@@ -67,7 +66,7 @@ module _ {S R : Type 0} (written : S → Option (List ℕ)) (unreadable : S → 
   known =
       either_known (of_either (of_either firsts_shown others_shown) run.run_shown) stretch.stretch_shown
       (goes_either (goes_either FirstsGo OthersGo) (run.GoesOn written)) (stretch.GoesOn left health pulls) (AnyComesTo written)
-      (stretch.ComesTo left health pulls)
+      (StretchComes left health pulls)
       (either_known (of_either firsts_shown others_shown) run.run_shown (goes_either FirstsGo OthersGo) (run.GoesOn written)
       (comes_either FirstsCome OthersCome) (run.ComesTo written)
       (either_known firsts_shown others_shown FirstsGo OthersGo FirstsCome OthersCome firsts_known others_known) (run_known written))
@@ -249,15 +248,16 @@ module _ {S R : Type 0} (written : S → Option (List ℕ)) (unreadable : S → 
               (subst (λ (c : ObjectCursor S R). Shows shown goes c seen.0 after) it.is seen.1) in
               let those = it.among reads lists are in
               let comes = it.opens reads those.0 those.1 (subst (IsSameAt limits told reads) (sym it.in_part) same) in
-              let rest = cursors.shows_first left health pulls it.it kept.0 those.0 seen.0 comes kept.2 in
+              let rest = known_so_far stretch.stretch_shown (stretch.GoesOn left health pulls) (StretchComes left health pulls)
+              (stretch_known left health pulls) seen.0 it.it kept.0 those.0 (limits.max_reads, comes) kept.2 in
               of_part kept.0 next rest.0 rest.2
               (subst (λ (c : ObjectCursor S R). fails c (Second stretches.Changed) next) kept.1 failed)
         ]
       where
-        of_part : (it : StretchCursor R) (next : ObjectCursor S R) (rows : List ByteRow) → stretch.ComesTo left health pulls it rows
+        of_part : (it : StretchCursor R) (next : ObjectCursor S R) (rows : List ByteRow) → StretchComes left health pulls it rows
             → fails (Second it) (Second stretches.Changed) next → ⊥
         of_part it (First next) rows comes failed = absurd failed
-        of_part it (Second next) rows comes failed = failed rows comes
+        of_part it (Second next) rows comes failed = failed comes.0 rows comes.1
 
         of_rows : (here after : ObjectCursor S R) (rows : List ByteRow) → Shows shown goes here rows after → IsOverRows scratch here
             → fails after (Second stretches.Changed) next → ⊥

@@ -1,6 +1,6 @@
 -- What a log keeps, as facts and bytes come, and as rows move.
-use Rattle.std.proofs.Common.{◌≡◌, ◌⊎◌, ◌<◌, ◌≤◌, ◌+◌, ℕ, zero, suc, List, [], ◌∷◌, ◌++◌, length, Option, Some, None, slice_get}
-use Rattle.std.proofs.Common.{refl, sym, subst, ap, ◌∙◌, append-nil, append_assoc, inl, inr, arith, take}
+use Rattle.std.proofs.Common.{◌≡◌, ◌⊎◌, ◌<◌, ℕ, zero, suc, List, [], ◌∷◌, ◌++◌, length, Option, Some, None, slice_get}
+use Rattle.std.proofs.Common.{refl, sym, subst, ap, ◌∙◌, append-nil, inl, inr}
 use Rattle.hprof_devices.specs.declared.health.Health.{Health}
 use Rattle.hprof_items.specs.FactValue.{FactValue}
 use Rattle.hprof_stream.specs.declared.limits.Limits.{Limits}
@@ -10,7 +10,7 @@ use Rattle.hprof_merge.specs.Union.{AnyHas}
 use Rattle.hprof_merge.proofs.Lists.{Has-append, append-has, append-last}
 use Rattle.hprof_merge.proofs.Unions.{back_has, either_has, front_has}
 use Rattle.hprof_runs.specs.declared.runs.Runs.{Runs}
-use Rattle.hprof_runs.specs.Runs.{AddsRuns, HoldsRuns, KeepsRuns}
+use Rattle.hprof_runs.specs.Runs.{KeepsRuns}
 use Rattle.hprof_objects.specs.declared.growing.Growing.{Growing}
 use Rattle.hprof_objects.specs.declared.growing.Stands.{Stands}
 use Rattle.hprof_objects.specs.declared.growing.Stands.TheVariants.{InMemory, InPart}
@@ -20,7 +20,7 @@ use Rattle.hprof_objects.specs.Log.{IsKept, Keeps}
 use Rattle.hprof_objects.specs.ObjectRows.{object_row}
 use Rattle.hprof_objects.specs.Growing.{extended, longer, staying, staying_at}
 use Rattle.hprof_objects.specs.Store.{Spills}
-use Rattle.hprof_objects.specs.PartsRead.{PartRead, part_begun, rows_of_part, rows_of_parts, with_bytes, with_fact}
+use Rattle.hprof_objects.specs.PartsRead.{PartRead, rows_of_parts, with_bytes, with_fact}
 use Rattle.hprof_objects.specs.Stretches.{AreStretches, EndsAt, IsGrowingIn, IsGrowingStretch, IsStretch, StandAt, StandsIn}
 use Rattle.hprof_objects.proofs.Enough.{enough_moved, enough_of, enough_with}
 use Rattle.hprof_objects.proofs.Rows.{rows_of_parts-append, rows_of_parts-with}
@@ -74,7 +74,8 @@ module _ (limits : Limits) where
 
   -- each of several stretches
   each_stretch : (old new : List PartRead) → ((stretch : Stretch) (rows : List ByteRow) → IsStretch limits old stretch rows
-      → IsStretch limits new stretch rows) → (stretches : List Stretch) (lists : List (List ByteRow)) → AreStretches limits old stretches lists
+      → IsStretch limits new stretch rows) → (stretches : List Stretch) (lists : List (List ByteRow))
+      → AreStretches limits old stretches lists
       → AreStretches limits new stretches lists
   each_stretch old new moves [] [] are = tt
   each_stretch old new moves [] (rows ∷ lists) are = absurd are
@@ -177,7 +178,8 @@ module _ {S : Type 0} (written : S → Option (List ℕ)) (health : S → Health
       same : rows_of_parts (parts ++ with_fact part fact ∷ []) ≡ rows_of_parts (parts ++ part ∷ [])
       same =
           rows_of_parts-with parts part fact
-          ∙ (ap (λ (o : Option ByteRow). rows_of_parts (parts ++ part ∷ []) ++ only o) none ∙ append-nil (rows_of_parts (parts ++ part ∷ [])))
+          ∙ (ap (λ (o : Option ByteRow). rows_of_parts (parts ++ part ∷ []) ++ only o) none
+          ∙ append-nil (rows_of_parts (parts ++ part ∷ [])))
 
   -- and of which bytes came
   pub keeps_bytes : (extra : List ℕ) (memory : List ByteRow) (scratch : Runs S) (stays : List Stretch) (growing : Option Growing)
@@ -222,7 +224,8 @@ module _ {S : Type 0} (written : S → Option (List ℕ)) (health : S → Health
     grown = [];
     grows = refl;
     enough = enough_moved (rows_of_parts (parts ++ part ∷ [])) (IsKept memory it.runs it.lists it.grown) (IsKept memory it.runs it.lists [])
-        it.enough (λ row h. kept memory it.runs it.lists it.grown row h inl (λ b. inr (inl b)) (λ c. inr (inr (inl c))) (λ d. inl (inside row d)))
+        it.enough (λ row h. kept memory it.runs it.lists it.grown row h inl (λ b. inr (inl b)) (λ c. inr (inr (inl c))) (λ d. inl
+        (inside row d)))
         (λ row h. kept memory it.runs it.lists [] row h inl (λ b. inr (inl b)) (λ c. inr (inr (inl c))) (λ d. absurd d));
   }
     where
@@ -325,10 +328,12 @@ module _ {S : Type 0} (written : S → Option (List ℕ)) (health : S → Health
     are_stretches = stretches_with_fact limits parts part fact stays it.lists it.are_stretches;
     grown = [];
     grows = refl;
-    enough = subst (λ (rows : List ByteRow). IsEnough rows (IsKept after (it.runs ++ spill.lists) it.lists [])) (sym (rows_with fact row object))
+    enough = subst (λ (rows : List ByteRow). IsEnough rows (IsKept after (it.runs
+        ++ spill.lists) it.lists [])) (sym (rows_with fact row object))
         (enough_with (rows_of_parts (parts ++ part ∷ [])) (IsKept [] (it.runs ++ spill.lists) it.lists [])
         (IsKept after (it.runs ++ spill.lists) it.lists []) row fewer
-        (λ r h. kept [] (it.runs ++ spill.lists) it.lists [] r h (λ a. absurd a) (λ b. inr (inl b)) (λ c. inr (inr (inl c))) (λ d. absurd d))
+        (λ r h. kept [] (it.runs
+        ++ spill.lists) it.lists [] r h (λ a. absurd a) (λ b. inr (inl b)) (λ c. inr (inr (inl c))) (λ d. absurd d))
         (inl (subst (λ (l : List ByteRow). Has l row) (sym alone) (inl refl)))
         (λ r h. kept after (it.runs ++ spill.lists) it.lists [] r h (λ a. elim (subst (λ (l : List ByteRow). Has l r) alone a) [
           | inl is ↦ inr is
@@ -427,7 +432,8 @@ module _ {S : Type 0} (written : S → Option (List ℕ)) (health : S → Health
       none r h = subst (λ (l : List ByteRow). Has l r) it.grows h
 
   -- an object behind those that stay in the part
-  pub keeps_extended : (fact : FactValue) (row : ByteRow) (memory : List ByteRow) (scratch : Runs S) (stays : List Stretch) (growing : Growing)
+  pub keeps_extended : (fact : FactValue) (row : ByteRow) (memory : List ByteRow) (scratch : Runs S) (stays : List Stretch)
+      (growing : Growing)
       (len : ℕ) → object_row part.ids fact ≡ Some row → growing.last < row.0 → growing.stands ≡ InPart
       → Keeps written health limits parts part number memory scratch stays (Some growing)
       → Keeps written health limits parts (with_fact part fact) number memory scratch stays (Some (extended growing row.0 len))

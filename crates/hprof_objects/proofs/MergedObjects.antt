@@ -1,5 +1,5 @@
 -- A merge of cursors over stored objects.
-use Rattle.std.proofs.Common.{◌≡◌, ◌<◌, ◌≤◌, ◌+◌, ◌-◌, ◌++◌, ℕ, List, [], ◌∷◌, length, map, Option, slice_index_or, refl, sym, ap, subst, arith}
+use Rattle.std.proofs.Common.{◌≡◌, ◌+◌, ◌-◌, ◌++◌, ℕ, List, [], ◌∷◌, length, map, Option, slice_index_or, sym, subst, arith}
 use Rattle.std.specs.Prelude.{All}
 use Rattle.std.specs.declared.convert.Infallible.{Infallible}
 use Rattle.hprof_devices.specs.declared.health.Health.{Health}
@@ -23,7 +23,6 @@ use Rattle.hprof_runs.specs.RowsIn.{sorted_in}
 use Rattle.hprof_runs.specs.Runs.{run_count}
 use Rattle.hprof_runs.proofs.AllRows.{all_come, below_come, least_come}
 use Rattle.hprof_runs.proofs.Lying.{sorted_rows}
-use Rattle.hprof_objects.specs.declared.object_stop.ObjectStop.{ObjectStop}
 use Rattle.hprof_objects.specs.declared.stored_objects.StoredObjects.{StoredObjects}
 use Rattle.hprof_objects.specs.declared.stretch.Stretch.{Stretch}
 use Rattle.hprof_objects.specs.declared.stretch_cursor.StretchCursor.{StretchCursor}
@@ -66,7 +65,7 @@ module _ {S R : Type 0} (written : S → Option (List ℕ)) (well : S → Health
   opened_come (one ∷ list) [] reads lists each are same = absurd each
   opened_come (one ∷ list) (it ∷ opened) reads [] each are same = absurd are
   opened_come (one ∷ list) (it ∷ opened) reads (rows ∷ lists) each are same =
-      (each.0 reads rows are.0 (same one.part), opened_come list opened reads lists each.1 are.1 same)
+      ((limits.max_reads, each.0 reads rows are.0 (same one.part)), opened_come list opened reads lists each.1 are.1 same)
 
   first_over : (scratch : S) (over_rows : List (ObjectCursor S R)) (count : ℕ) → length over_rows ≡ count + 2
       → All (IsOverRows scratch) over_rows → (it : ObjectCursor S R) × IsOverRows scratch it

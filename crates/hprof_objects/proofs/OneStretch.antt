@@ -1,11 +1,11 @@
 -- Objects that are stored as one stretch.
-use Rattle.std.proofs.Common.{◌≡◌, ◌≤◌, ◌<◌, ◌++◌, ◌⊎◌, ℕ, zero, suc, List, [], ◌∷◌, length, Option, Some, None, slice_index_or, inl, inr, refl, sym}
+use Rattle.std.proofs.Common.{◌≡◌, ◌≤◌, ◌++◌, ℕ, zero, suc, List, [], ◌∷◌, length, Option, inl, inr, refl, sym}
 use Rattle.std.proofs.Common.{ap, subst, ◌∙◌, arith}
 use Rattle.hprof_devices.specs.declared.health.Health.{Health}
 use Rattle.hprof_stream.specs.declared.limits.Limits.{Limits}
 use Rattle.hprof_merge.specs.Rows.{ByteRow, Has}
 use Rattle.hprof_merge.specs.TwoContents.{HasEnoughOf, HasTwoContents}
-use Rattle.hprof_merge.specs.Union.{AnyHas, rows_at}
+use Rattle.hprof_merge.specs.Union.{rows_at}
 use Rattle.hprof_merge.proofs.Lists.{one_at_key}
 use Rattle.hprof_runs.specs.RowsIn.{sorted_in}
 use Rattle.hprof_runs.proofs.Added.{runs_count}

@@ -1,6 +1,6 @@
 -- What a fault tells as stored objects are opened.
 use Rattle.std.proofs.lemmas.List.{get_or_past}
-use Rattle.std.proofs.Common.{◌≡◌, ◌<◌, ◌≤◌, None, ℕ, zero, suc, List, [], ◌∷◌, length, Option, slice_index_or, refl, sym, subst, arith}
+use Rattle.std.proofs.Common.{◌≡◌, ◌<◌, ◌≤◌, None, ℕ, zero, suc, List, [], ◌∷◌, length, Option, slice_index_or, sym, subst, arith}
 use Rattle.std.proofs.lemmas.List.Elements.{at_from_Contains}
 use Rattle.hprof_devices.specs.declared.health.Health.{Health}
 use Rattle.hprof_stream.specs.declared.limits.Limits.{Limits}
@@ -8,13 +8,13 @@ use Rattle.hprof_parts.specs.Parts.{bytes_at}
 use Rattle.hprof_merge.specs.Rows.{ByteRow}
 use Rattle.hprof_runs.specs.declared.run_fault.RunFault.{RunFault}
 use Rattle.hprof_runs.specs.declared.run_fault.RunFault.TheVariants as runs
-use Rattle.hprof_runs.specs.RunFault.{IfDamaged, IfReadFailed}
+use Rattle.hprof_runs.specs.RunFault.{IfDamaged}
 use Rattle.hprof_runs.specs.Runs.{HoldsRuns}
 use Rattle.hprof_objects.specs.declared.stored_objects.StoredObjects.{StoredObjects}
 use Rattle.hprof_objects.specs.declared.stretch.Stretch.{Stretch}
 use Rattle.hprof_objects.specs.declared.stretch_fault.StretchFault.{StretchFault}
 use Rattle.hprof_objects.specs.declared.stretch_fault.StretchFault.TheVariants as stretches
-use Rattle.hprof_objects.specs.MergedObjects.{IfScratchFails, TellsChange}
+use Rattle.hprof_objects.specs.MergedObjects.{TellsChange}
 use Rattle.hprof_objects.specs.ObjectCursors.{part_stop, scratch_stop}
 use Rattle.hprof_objects.specs.PartsRead.{PartRead}
 use Rattle.hprof_objects.specs.ReadAgain.{IsSameAt}

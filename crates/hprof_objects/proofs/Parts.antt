@@ -1,12 +1,9 @@
 -- Parts that begin and end in a log.
-use Rattle.std.proofs.Common.{◌≡◌, ◌⊎◌, ℕ, List, [], ◌∷◌, ◌++◌, length, Option, Some, None, refl, sym, subst, ap, ◌∙◌, append-nil, inl, inr}
+use Rattle.std.proofs.Common.{◌≡◌, ℕ, List, [], ◌∷◌, ◌++◌, length, Option, Some, None, refl, sym, subst, ap, ◌∙◌, append-nil, inl, inr}
 use Rattle.hprof_devices.specs.declared.health.Health.{Health}
 use Rattle.hprof_stream.specs.declared.limits.Limits.{Limits}
 use Rattle.hprof_values.specs.declared.ids.IdSize.{IdSize}
 use Rattle.hprof_merge.specs.Rows.{ByteRow, Has}
-use Rattle.hprof_merge.specs.Union.{AnyHas}
-use Rattle.hprof_runs.specs.declared.runs.Runs.{Runs}
-use Rattle.hprof_runs.specs.Runs.{HoldsRuns}
 use Rattle.hprof_objects.specs.declared.growing.Growing.{Growing}
 use Rattle.hprof_objects.specs.declared.object_log.ObjectLog.{ObjectLog}
 use Rattle.hprof_objects.specs.declared.row_store.RowStore.{RowStore}
@@ -15,7 +12,7 @@ use Rattle.hprof_objects.specs.Enough.{IsEnough}
 use Rattle.hprof_objects.specs.Growing.{piece_begun, staying}
 use Rattle.hprof_stream.specs.declared.part_place.PartPlace.{PartPlace}
 use Rattle.hprof_objects.specs.Log.{HasLogged, HoldsParts, IsKept, IsPlaceNow, Keeps}
-use Rattle.hprof_objects.specs.PartsRead.{PartRead, part_begun, rows_of_part, rows_of_parts}
+use Rattle.hprof_objects.specs.PartsRead.{PartRead, part_begun, rows_of_parts}
 use Rattle.hprof_objects.specs.Store.{rows_of_store, runs_of_store}
 use Rattle.hprof_objects.specs.Stretches.{AreStretches, IsPieceOf}
 use Rattle.hprof_objects.proofs.Logged.{stretches_begun}

@@ -16,7 +16,8 @@ object_rows-append ids (fact ∷ facts) more =
     ∙ sym (append_assoc (only (object_row ids fact)) (object_rows ids facts) (object_rows ids more))
 
 -- rows of parts one after the other
-pub rows_of_parts-append : (parts : List PartRead) (part : PartRead) → rows_of_parts (parts ++ part ∷ []) ≡ rows_of_parts parts ++ rows_of_part part
+pub rows_of_parts-append : (parts : List PartRead) (part : PartRead)
+    → rows_of_parts (parts ++ part ∷ []) ≡ rows_of_parts parts ++ rows_of_part part
 rows_of_parts-append [] part = append-nil (rows_of_part part)
 rows_of_parts-append (first ∷ parts) part =
     ap (λ (rows : List ByteRow). rows_of_part first ++ rows) (rows_of_parts-append parts part)

@@ -1,11 +1,12 @@
 -- A stretch that goes on.
-use Rattle.std.proofs.Common.{◌≡◌, ◌+◌, ◌<◌, ℕ, List, [], ◌∷◌, ◌++◌, length, take, Option, Some, None, refl, sym, subst, ap, ◌∙◌, append_assoc}
+use Rattle.std.proofs.Common.{◌≡◌, ◌+◌, ◌<◌, ℕ, List, [], ◌∷◌, ◌++◌, length, take, Option, Some, None, refl, sym, subst, ap, ◌∙◌}
+use Rattle.std.proofs.Common.{append_assoc}
 use Rattle.std.proofs.Common.{length-append, Bool, true, false, Result, Ok, Err}
 use Rattle.std.specs.Prelude.{IfOk, OnOk}
 use Rattle.hprof_devices.specs.declared.health.Health.{Health}
 use Rattle.hprof_items.specs.FactValue.{FactValue}
 use Rattle.hprof_stream.specs.declared.limits.Limits.{Limits}
-use Rattle.hprof_merge.specs.Rows.{ByteRow, Has}
+use Rattle.hprof_merge.specs.Rows.{ByteRow}
 use Rattle.hprof_merge.specs.Showing.{only}
 use Rattle.hprof_runs.specs.declared.runs.Runs.{Runs}
 use Rattle.hprof_objects.specs.declared.growing.Growing.{Growing}
@@ -13,14 +14,14 @@ use Rattle.hprof_objects.specs.declared.growing.Piece.{Piece}
 use Rattle.hprof_objects.specs.declared.growing.Stands.{Stands}
 use Rattle.hprof_objects.specs.declared.growing.Stands.TheVariants.{InMemory, InPart}
 use Rattle.hprof_objects.specs.declared.stretch.Stretch.{Stretch}
-use Rattle.hprof_objects.specs.Growing.{extended, grown_first, grown_in_part, longer}
+use Rattle.hprof_objects.specs.Growing.{extended, grown_first, grown_in_part}
 use Rattle.hprof_objects.specs.Log.{Keeps}
 use Rattle.hprof_objects.specs.ObjectRows.{object_row}
 use Rattle.hprof_objects.specs.PartsRead.{PartRead, with_fact}
 use Rattle.hprof_objects.specs.Stretches.{IsGrowingStretch, IsPiece, IsPlaceIn, StandAt, StandsIn}
 use Rattle.hprof_objects.specs.declared.row_store.RowStore.{RowStore}
 use Rattle.hprof_objects.specs.Store.{Pushes, rows_of_store, runs_of_store}
-use Rattle.hprof_objects.proofs.Logged.{keeps_extended, keeps_forgotten, keeps_growing, keeps_pushed, keeps_spilled, keeps_staying}
+use Rattle.hprof_objects.proofs.Logged.{keeps_extended, keeps_forgotten, keeps_pushed, keeps_spilled, keeps_staying}
 use Rattle.hprof_objects.proofs.Stretches.{all_below, place_with_fact, stands_alone, stands_longer, stands_with_fact}
 
 -- a front that is taken
@@ -132,7 +133,8 @@ pub record WasGrowing {S : Type 0} (written : S → Option (List ℕ)) (health :
   pub keeps : Keeps written health limits parts part number memory scratch stays None
 
 pub was_growing : {S : Type 0} (written : S → Option (List ℕ)) (health : S → Health) (limits : Limits) (parts : List PartRead)
-    (part : PartRead) (number : ℕ) (memory : List ByteRow) (scratch : Runs S) (stays : List Stretch) (known : Option Growing) (growing : Growing)
+    (part : PartRead) (number : ℕ) (memory : List ByteRow) (scratch : Runs S) (stays : List Stretch) (known : Option Growing)
+    (growing : Growing)
     (from : ℕ) → known ≡ Some growing → growing.stands ≡ InMemory from
     → Keeps written health limits parts part number memory scratch stays known
     → WasGrowing written health limits parts part number memory scratch stays growing
@@ -151,7 +153,8 @@ pub grows_in_part : {S : Type 0} (written : S → Option (List ℕ)) (health : S
     → growing.last < id → object_row part.ids fact ≡ Some (id, bytes) → next ≡ extended growing id len
     → Keeps written health limits parts part number memory scratch stays known
     → Keeps written health limits parts (with_fact part fact) number memory scratch stays (Some next)
-grows_in_part written health limits parts part number memory scratch stays known growing next fact id len bytes is stands above object same it =
+grows_in_part written health limits parts part number memory scratch stays known growing next fact id len bytes is stands above object same
+    it =
     subst (λ (g : Growing). Keeps written health limits parts (with_fact part fact) number memory scratch stays (Some g)) (sym same)
     (keeps_extended written health limits parts part number fact (id, bytes) memory scratch stays growing len object above stands
     (subst (λ (g : Option Growing). Keeps written health limits parts part number memory scratch stays g) is it))

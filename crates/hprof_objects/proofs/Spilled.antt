@@ -1,5 +1,5 @@
 -- What of rows goes to scratch is enough of them.
-use Rattle.std.proofs.Common.{◌≡◌, ◌⊎◌, ℕ, List, [], ◌∷◌, ◌++◌, inl, inr, refl, sym, subst}
+use Rattle.std.proofs.Common.{ℕ, List, [], ◌∷◌, inl, inr}
 use Rattle.std.specs.List.Sorted.{IsPermutation}
 use Rattle.hprof_merge.specs.Rows.{ByteRow, Has}
 use Rattle.hprof_merge.specs.TwoContents.{HasEnoughOf, HasTwoContents}
@@ -56,7 +56,8 @@ two_of sorted key two = record {
 }
 
 -- the runs of sorted rows are enough of the rows
-pub enough_spilled : (rows sorted : List ByteRow) → IsPermutation rows sorted → IsSortedByKey sorted → IsEnough rows (AnyHas (run_lists sorted))
+pub enough_spilled : (rows sorted : List ByteRow) → IsPermutation rows sorted → IsSortedByKey sorted
+    → IsEnough rows (AnyHas (run_lists sorted))
 enough_spilled rows sorted moves up = record {
   only = λ row h. alone_has rows row ((reordered rows sorted moves row).1 (of.only row (have_runs sorted row h)));
   each = λ row h. elim (of.each row ((reordered rows sorted moves row).0 (has_alone rows row h))) [

@@ -1,11 +1,11 @@
 -- What a merge of lists that are enough tells of all.
-use Rattle.std.proofs.Common.{◌≡◌, ◌<◌, ◌≤◌, ◌+◌, ◌++◌, ℕ, List, [], ◌∷◌, inl, inr, refl, sym, subst, arith}
+use Rattle.std.proofs.Common.{◌≡◌, ◌≤◌, ◌+◌, ◌++◌, ℕ, List, [], ◌∷◌, inl, inr, refl, arith}
 use Rattle.std.specs.declared.convert.Infallible.{Infallible}
 use Rattle.hprof_merge.specs.declared.merge_stop.MergeStop.{MergeStop}
 use Rattle.hprof_merge.specs.declared.merge_stop.MergeStop.TheVariants as stops
 use Rattle.hprof_merge.specs.declared.one_of.OneOf.{OneOf}
 use Rattle.hprof_merge.specs.declared.one_of.OneOf.TheVariants.{First, Second}
-use Rattle.hprof_merge.specs.Merging.{RefusesRow, TakesAll, TakesBelow}
+use Rattle.hprof_merge.specs.Merging.{TakesAll, TakesBelow}
 use Rattle.hprof_merge.specs.Rows.{ByteRow}
 use Rattle.hprof_merge.specs.Stopping.{StopsBecause, TakesUpTo}
 use Rattle.hprof_merge.specs.TwoContents.{HasEnoughOf, IsLeastWithTwoContents}

@@ -1,7 +1,7 @@
 -- What stored objects hold is enough, also without further rows of keys with two contents.
-use Rattle.std.proofs.Common.{◌≡◌, ◌≢◌, ◌<◌, ◌⊎◌, ℕ, zero, suc, List, [], ◌∷◌, ◌++◌, map, inl, inr, refl, sym, ap, subst}
+use Rattle.std.proofs.Common.{◌≢◌, ◌⊎◌, ℕ, zero, suc, List, [], ◌∷◌, ◌++◌, inl, inr}
 use Rattle.std.specs.List.Sorted.{IsPermutation}
-use Rattle.hprof_merge.specs.Rows.{ByteRow, Has, IsAscending}
+use Rattle.hprof_merge.specs.Rows.{ByteRow, Has}
 use Rattle.hprof_merge.specs.TwoContents.{HasEnoughOf, HasTwoContents}
 use Rattle.hprof_merge.specs.Union.{AnyHas, IsUnionBelow, rows_at}
 use Rattle.hprof_merge.proofs.Lists.{one_at_key}
@@ -9,7 +9,7 @@ use Rattle.hprof_merge.proofs.Unions.{back_has, either_has, first_has, front_has
 use Rattle.hprof_runs.specs.Picked.{IsSortedByKey, firsts_of, others_of}
 use Rattle.hprof_runs.proofs.Groups.{enough_both}
 use Rattle.hprof_runs.proofs.Picked.{enough, reordered}
-use Rattle.hprof_objects.specs.Enough.{HasTwo, IsEnough}
+use Rattle.hprof_objects.specs.Enough.{IsEnough}
 use Rattle.hprof_objects.specs.Log.{IsKept}
 use Rattle.hprof_objects.specs.PartsRead.{PartRead, rows_of_part, rows_of_parts}
 use Rattle.hprof_objects.specs.StoredObjects.{objects_of}

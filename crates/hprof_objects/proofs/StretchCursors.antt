@@ -1,17 +1,16 @@
 -- Cursors over stretches, as objects come.
-use Rattle.std.proofs.Common.{◌≡◌, ◌<◌, ◌≤◌, ◌-◌, ℕ, List, [], ◌∷◌, ◌++◌, length, drop, Option, Some, None, inl}
+use Rattle.std.proofs.Common.{◌≡◌, ◌⊎◌, ◌<◌, ◌≤◌, ◌-◌, ◌^◌, ℕ, List, [], ◌∷◌, ◌++◌, length, drop, Option, Some, None, inl, inr}
 use Rattle.std.proofs.Common.{refl, sym, ap, subst, ◌∙◌, append_assoc, append-nil, arith}
 use Rattle.std.proofs.Math.Seq.{drop-append_seam}
 use Rattle.std.specs.Option.{option_map}
 use Rattle.hprof_devices.specs.declared.health.Health.{Health}
 use Rattle.hprof_items.specs.FactValue.{FactValue}
 use Rattle.hprof_stream.specs.declared.limits.Limits.{Limits}
-use Rattle.hprof_stream.specs.declared.part_place.PartPlace.{PartPlace}
 use Rattle.hprof_stream.specs.PartPlaces.{IsPlaceBehind}
 use Rattle.hprof_facts.specs.declared.fact_place.FactPlace.{FactPlace}
 use Rattle.hprof_facts.specs.declared.fact_reader.FactReader.{FactReader}
 use Rattle.hprof_facts.specs.FactPlaces.{begins_at, passed_of}
-use Rattle.hprof_facts.specs.FactReader.{HasPassed, Origin, spelled_of}
+use Rattle.hprof_facts.specs.FactReader.{HasGivenFrom, HasGivenOrFails, HasPassed, Origin, spelled_of}
 use Rattle.hprof_facts.proofs.Standing.{stands_in_part}
 use Rattle.hprof_parts.specs.Parts.{Gives, bytes_at}
 use Rattle.hprof_merge.specs.Rows.{ByteRow, IsAscending}
@@ -19,24 +18,19 @@ use Rattle.hprof_merge.specs.Showing.{Shows, only}
 use Rattle.hprof_objects.specs.declared.stretch.Stretch.{Stretch}
 use Rattle.hprof_objects.specs.declared.stretch_cursor.StretchCursor.{StretchCursor}
 use Rattle.hprof_objects.specs.PartsRead.{PartRead}
-use Rattle.hprof_objects.specs.ReadAgain.{HasObjects, IsSameAt, IsWhole}
+use Rattle.hprof_objects.specs.ReadAgain.{HasObjects, IsOverBefore, IsSameAt, IsWhole}
 use Rattle.hprof_objects.specs.StretchCursor.{ComesTo, GoesOn, StandsAt, stretch_shown}
 use Rattle.hprof_objects.specs.Stretches.{IsStretch}
 
--- what is shown of an identifier that is shown
-shown_none : (A B : Type 0) (f : A → B) (shown : Option A) → option_map f shown ≡ None → shown ≡ None
-shown_none A B f None none = refl
-shown_none A B f (Some id) none = absurd cc
-
-module _ {R : Type 0} (left : R → Option (List ℕ)) (health : R → Health) (pulls : R → ℕ) where
+module _ {R : Type 0} (left : R → Option (List ℕ)) (health : R → Health) (pulls : R → ℕ) (reads : ℕ) where
   -- ---- the next object
 
   -- it came
   pub stands_on : (old new : FactReader R) (id count : ℕ) → (count ≡ 0 → ⊥)
-      → ((row : ByteRow) (rows : List ByteRow) → HasObjects left health pulls old (row ∷ rows)
-      → (row ≡ (id, spelled_of new)) × HasObjects left health pulls new rows)
-      → (rows : List ByteRow) → HasObjects left health pulls old rows → count ≡ length rows
-      → StandsAt left health pulls (record { reader = new; shown = Some id; left = count - 1 }) rows
+      → ((row : ByteRow) (rows : List ByteRow) → HasObjects left health pulls reads old (row ∷ rows)
+      → (row ≡ (id, spelled_of new)) × HasObjects left health pulls reads new rows)
+      → (rows : List ByteRow) → HasObjects left health pulls reads old rows → count ≡ length rows
+      → StandsAt left health pulls reads (record { reader = new; shown = Some id; left = count - 1 }) rows
   stands_on old new id count some next [] has long = absurd (some long)
   stands_on old new id count some next (row ∷ rows) has long =
       let it = next row rows has in
@@ -48,34 +42,33 @@ module _ {R : Type 0} (left : R → Option (List ℕ)) (health : R → Health) (
         objects = it.1;
       }
 
-  -- one that was to come cannot come
-  pub none_comes : (old : FactReader R) (count : ℕ) → (count ≡ 0 → ⊥)
-      → ((row : ByteRow) (rows : List ByteRow) → HasObjects left health pulls old (row ∷ rows) → ⊥)
-      → (rows : List ByteRow) → HasObjects left health pulls old rows → count ≡ length rows → ⊥
-  none_comes old count some never [] has long = some long
-  none_comes old count some never (row ∷ rows) has long = never row rows has
+  -- what holds where one comes
+  pub one_comes : (old : FactReader R) (count : ℕ) (P : Type 0) → (count ≡ 0 → ⊥)
+      → ((row : ByteRow) (rows : List ByteRow) → HasObjects left health pulls reads old (row ∷ rows) → P)
+      → (rows : List ByteRow) → HasObjects left health pulls reads old rows → count ≡ length rows → P
+  one_comes old count P some holds [] has long = absurd (some long)
+  one_comes old count P some holds (row ∷ rows) has long = holds row rows has
 
   -- ---- the row that is shown
 
   -- one that is shown is the first
-  first_shown : (it : StretchCursor R) (rows : List ByteRow) (id : ℕ) → it.shown ≡ Some id → (stands : StandsAt left health pulls it rows)
+  first_shown : (it : StretchCursor R) (rows : List ByteRow) (id : ℕ) → it.shown ≡ Some id
+      → (stands : StandsAt left health pulls reads it rows)
       → rows ≡ (id, spelled_of it.reader) ∷ stands.behind
   first_shown it rows id is stands =
       stands.are
       ∙ ap (λ (shown : Option ℕ). only (option_map (λ (n : ℕ). (n, spelled_of it.reader)) shown) ++ stands.behind) is
 
   -- none is shown at the end
-  none_shown : (it : StretchCursor R) (rows : List ByteRow) → it.shown ≡ None → StandsAt left health pulls it rows → rows ≡ []
+  none_shown : (it : StretchCursor R) (rows : List ByteRow) → stretch_shown it ≡ None → StandsAt left health pulls reads it rows → rows ≡ []
   none_shown it rows is stands =
-      stands.are
-      ∙ (ap (λ (shown : Option ℕ). only (option_map (λ (n : ℕ). (n, spelled_of it.reader)) shown) ++ stands.behind) is
-      ∙ stands.none is)
+      stands.are ∙ (ap (λ (shown : Option ByteRow). only shown ++ stands.behind) is ∙ stands.none is)
 
   -- the next one is above it
   pub never_late : (old new : StretchCursor R) (before id : ℕ) → old.shown ≡ Some before → new.shown ≡ Some id → id ≤ before
-      → ((rows : List ByteRow) → HasObjects left health pulls old.reader rows → old.left ≡ length rows
-      → StandsAt left health pulls new rows)
-      → (rows : List ByteRow) → ComesTo left health pulls old rows → ⊥
+      → ((rows : List ByteRow) → HasObjects left health pulls reads old.reader rows → old.left ≡ length rows
+      → StandsAt left health pulls reads new rows)
+      → (rows : List ByteRow) → ComesTo left health pulls reads old rows → ⊥
   never_late old new before id is is_next late goes rows comes =
       let stands = comes.stands in
       let next = goes stands.behind stands.objects stands.count in
@@ -87,28 +80,40 @@ module _ {R : Type 0} (left : R → Option (List ℕ)) (health : R → Health) (
       let above : before < id = ascends.0 (id, spelled_of new.reader) (inl refl) in
       omega (arith, above, late)
 
-  -- it goes past the row that it showed
-  pub goes_past : (old new : StretchCursor R) (before : ℕ) → old.shown ≡ Some before
-      → ((rows : List ByteRow) → HasObjects left health pulls old.reader rows → old.left ≡ length rows
-      → StandsAt left health pulls new rows)
-      → (row : ByteRow) (rest : List ByteRow) → ComesTo left health pulls old (row ∷ rest) → ComesTo left health pulls new rest
-  goes_past old new before is goes row rest comes =
+  -- ---- all that is shown
+
+  pub shows_first : (old new : StretchCursor R) (rows shown : List ByteRow) → ComesTo left health pulls reads old rows
+      → Shows stretch_shown (GoesOn left health pulls) old shown new
+      → (rest : List ByteRow) × (rows ≡ shown ++ rest) × ComesTo left health pulls reads new rest
+  shows_first old new rows [] comes shows =
+      (rows, refl, subst (λ (it : StretchCursor R). ComesTo left health pulls reads it rows) shows comes)
+  shows_first old new rows (row ∷ shown) comes shows =
       let stands = comes.stands in
-      let first = first_shown old (row ∷ rest) before is stands in
-      let same : stands.behind ≡ rest = cc in
-      record {
-        stands = subst (StandsAt left health pulls new) same (goes stands.behind stands.objects stands.count);
-        ascends = comes.ascends.1;
-      }
+      let all : rows ≡ row ∷ stands.behind = stands.are ∙ ap (λ (one : Option ByteRow). only one ++ stands.behind) shows.0 in
+      let next = shows.1.1.behind reads row stands.behind (subst (ComesTo left health pulls reads old) all comes) in
+      let it = shows_first shows.1.0 new stands.behind shown next shows.1.2 in
+      (it.0, all ∙ ap (λ (l : List ByteRow). row ∷ l) it.1, it.2)
 
-  pub never_past : (it : StretchCursor R) → it.shown ≡ None → (row : ByteRow) (rest : List ByteRow)
-      → ComesTo left health pulls it (row ∷ rest) → ⊥
-  never_past it is row rest comes = let never = none_shown it (row ∷ rest) is comes.stands in absurd cc
+  pub shows_all : (old new : StretchCursor R) (rows shown : List ByteRow) → ComesTo left health pulls reads old rows
+      → Shows stretch_shown (GoesOn left health pulls) old shown new → stretch_shown new ≡ None → shown ≡ rows
+  shows_all old new rows shown comes shows ended =
+      let it = shows_first old new rows shown comes shows in
+      let nothing = none_shown new it.0 ended it.2.stands in
+      sym (it.1 ∙ ap (λ (l : List ByteRow). shown ++ l) nothing ∙ append-nil shown)
 
+module _ {R : Type 0} (left : R → Option (List ℕ)) (health : R → Health) (pulls : R → ℕ) where
   -- ---- a stretch that is opened
 
+  -- the reader stands behind the facts that were to be passed, or it is over before
+  stands_or_over : (origin : Origin) (was : R) (passed : List FactValue) (count : ℕ) (reader : FactReader R)
+      → HasPassed left health pulls origin was count reader → HasGivenOrFails left health pulls origin was passed reader
+      → HasGivenFrom left health pulls origin was passed reader ⊎ IsOverBefore left health pulls origin was reader
+  stands_or_over origin was passed count reader has (inl stands) = inl stands
+  stands_or_over origin was passed count reader has (inr fails) =
+      inr (record { given = has.passed; gave = has.given; over = fails.0; fault = fails.1.0; answers = fails.1.1 })
+
   pub opened : (limits : Limits) (told : List (Option (List ℕ))) (stretch : Stretch) (place : FactPlace) (at : ℕ) (source : R)
-      (reader : FactReader R)
+      (reader : FactReader R) → pulls source ≡ 0
       → begins_at place ≡ stretch.place → passed_of place ≡ stretch.passed
       → ((limits : Limits) (bytes : List ℕ) (facts : List FactValue) → IsPlaceBehind limits bytes facts (begins_at place)
       → at ≡ length bytes)
@@ -117,8 +122,8 @@ module _ {R : Type 0} (left : R → Option (List ℕ)) (health : R → Health) (
       → HasPassed left health pulls (record { limits = its; front = front; told = facts; reads = limits.max_reads }) source
       (passed_of place) reader)
       → (parts : List PartRead) (rows : List ByteRow) → IsStretch limits parts stretch rows → IsSameAt limits told parts stretch.part
-      → HasObjects left health pulls reader rows
-  opened limits told stretch place at source reader begins passed offset gives resumed parts rows is same =
+      → HasObjects left health pulls limits.max_reads reader rows
+  opened limits told stretch place at source reader fresh begins passed offset gives resumed parts rows is same =
       let part = is.part in
       let stands = is.stands in
       let inside = stands.place in
@@ -139,7 +144,10 @@ module _ {R : Type 0} (left : R → Option (List ℕ)) (health : R → Health) (
       (resumed limits inside.front inside.told behind) in
       record {
         origin = origin;
+        allowed = refl;
+        fits = subst (λ (l : Limits). l.max_bytes < 2 ^ 64) inside.behind.has_limits stretch.place.counted.limit;
         was = source;
+        fresh = fresh;
         rest = inside.back;
         tells = tells;
         ids = part.ids;
@@ -148,27 +156,7 @@ module _ {R : Type 0} (left : R → Option (List ℕ)) (health : R → Health) (
         whole = whole;
         more = is.more;
         are = stands.are;
-        stands = stands_in_part left health pulls origin source inside.back tells part.ids whole.millis stands.before stands.after reader
-            whole.sound whole.within whole.states has;
+        stands = stands_or_over origin source stands.before (length stands.before) reader has
+            (stands_in_part left health pulls origin source inside.back tells part.ids whole.millis stands.before stands.after reader
+            whole.sound whole.within whole.states has);
       }
-
-  -- ---- all that is shown
-
-  pub shows_first : (old new : StretchCursor R) (rows shown : List ByteRow) → ComesTo left health pulls old rows
-      → Shows stretch_shown (GoesOn left health pulls) old shown new
-      → (rest : List ByteRow) × (rows ≡ shown ++ rest) × ComesTo left health pulls new rest
-  shows_first old new rows [] comes shows = (rows, refl, subst (λ (it : StretchCursor R). ComesTo left health pulls it rows) shows comes)
-  shows_first old new rows (row ∷ shown) comes shows =
-      let stands = comes.stands in
-      let all : rows ≡ row ∷ stands.behind = stands.are ∙ ap (λ (one : Option ByteRow). only one ++ stands.behind) shows.0 in
-      let next = shows.1.1.behind row stands.behind (subst (ComesTo left health pulls old) all comes) in
-      let it = shows_first shows.1.0 new stands.behind shown next shows.1.2 in
-      (it.0, all ∙ ap (λ (l : List ByteRow). row ∷ l) it.1, it.2)
-
-  pub shows_all : (old new : StretchCursor R) (rows shown : List ByteRow) → ComesTo left health pulls old rows
-      → Shows stretch_shown (GoesOn left health pulls) old shown new → stretch_shown new ≡ None → shown ≡ rows
-  shows_all old new rows shown comes shows ended =
-      let it = shows_first old new rows shown comes shows in
-      let none = shown_none ℕ ByteRow (λ (id : ℕ). (id, spelled_of new.reader)) new.shown ended in
-      let nothing = none_shown new it.0 none it.2.stands in
-      sym (it.1 ∙ ap (λ (l : List ByteRow). shown ++ l) nothing ∙ append-nil shown)

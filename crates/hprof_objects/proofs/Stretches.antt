@@ -16,7 +16,8 @@ use Rattle.hprof_objects.specs.Stretches.{EndsAt, IsPiece, IsPlaceIn, StandsIn}
 use Rattle.hprof_objects.proofs.Rows.{object_rows-append}
 
 -- the last of ascending rows is the highest
-at_most_last : (before : List ByteRow) (last : ByteRow) → IsAscending (before ++ last ∷ []) → (row : ByteRow) → Has (before ++ last ∷ []) row
+at_most_last : (before : List ByteRow) (last : ByteRow) → IsAscending (before ++ last ∷ []) → (row : ByteRow)
+    → Has (before ++ last ∷ []) row
     → row.0 ≤ last.0
 at_most_last [] last up row (inl is) = subst (λ (r : ByteRow). r.0 ≤ last.0) (sym is) (omega arith)
 at_most_last [] last up row (inr never) = absurd never
@@ -103,7 +104,13 @@ module _ (limits : Limits) (part : PartRead) where
   -- an object alone, behind what came of a piece
   pub stands_alone : (fact : FactValue) (row : ByteRow) (number : ℕ) (piece : Piece) → IsPiece limits part piece
       → object_row part.ids fact ≡ Some row
-      → StandsIn limits (with_fact part fact) (record { part = number; place = piece.place; passed = piece.passed; count = 1 }) (row ∷ []) []
+      → StandsIn limits (with_fact part fact) (record {
+        part = number;
+        place = piece.place;
+        passed = piece.passed;
+        count =
+            1;
+      }) (row ∷ []) []
   stands_alone fact row number piece is object = record {
     before = is.since;
     after = fact ∷ [];

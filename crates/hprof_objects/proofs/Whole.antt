@@ -1,10 +1,10 @@
 -- Objects among the facts of parts, and their rows.
-use Rattle.std.proofs.Common.{◌≡◌, ◌≢◌, ◌⊎◌, ◌<◌, ◌≤◌, ◌+◌, ℕ, Bool, true, false, not, List, [], ◌∷◌, ◌++◌, map, Option, Some, None, Result, Ok, Err}
-use Rattle.std.proofs.Common.{refl, sym, subst, ap, ◌∙◌, append-nil, cond, inl, inr, suc, arith}
-use Rattle.std.specs.List.{AllByRecursion, filter, flat_map}
+use Rattle.std.proofs.Common.{◌≡◌, ◌⊎◌, ◌<◌, ℕ, Bool, true, false, not, List, [], ◌∷◌, ◌++◌, map, Option, Some, None}
+use Rattle.std.proofs.Common.{refl, sym, subst, ap, ◌∙◌, cond, inl, inr, arith}
+use Rattle.std.specs.List.{AllByRecursion}
 use Rattle.hprof_values.specs.declared.ids.IdSize.{IdSize}
-use Rattle.hprof_items.specs.declared.header.Header.{Header}
-use Rattle.hprof_items.specs.FactValue.{FactValue, Name, Load, Unload, Frame, Trace, Start, End, Rooted, Class, Instance, ObjArray, PrimArray}
+use Rattle.hprof_items.specs.FactValue.{FactValue, Name, Load, Unload, Frame, Trace, Start, End, Rooted, Class, Instance, ObjArray}
+use Rattle.hprof_items.specs.FactValue.{PrimArray}
 use Rattle.hprof_items.specs.Spelling.{Fits}
 use Rattle.hprof_items.specs.SubRecord.{DumpFits, dump_bytes}
 use Rattle.hprof_items.proofs.Dumps.{dump_once}
@@ -18,8 +18,8 @@ use Rattle.hprof_heap.specs.Gathering.{Given, all_given}
 use Rattle.hprof_merge.specs.Rows.{ByteRow, Has}
 use Rattle.hprof_merge.specs.Showing.{only}
 use Rattle.hprof_merge.specs.Union.{AnyHas}
-use Rattle.hprof_merge.proofs.Unions.{back_has, first_has, front_has}
-use Rattle.hprof_objects.specs.ObjectRows.{object_key, object_row, object_rows}
+use Rattle.hprof_merge.proofs.Unions.{back_has, first_has}
+use Rattle.hprof_objects.specs.ObjectRows.{object_row, object_rows}
 use Rattle.hprof_objects.specs.Whole.{is_object, no_objects, rows_given, without_objects}
 
 -- ---- one fact

@@ -1,6 +1,6 @@
 -- The heap of parts, of the heap without objects and of the objects; and the conflicts of objects.
-use Rattle.std.proofs.Common.{◌≡◌, ◌≢◌, ◌⊎◌, ◌<◌, ◌≤◌, ◌+◌, ℕ, Bool, true, false, List, [], ◌∷◌, ◌++◌, map, Option, Some, None, Ok, Err}
-use Rattle.std.proofs.Common.{refl, sym, subst, ap, ◌∙◌, cond, inl, inr, arith}
+use Rattle.std.proofs.Common.{◌≡◌, ◌≢◌, ◌⊎◌, ◌<◌, ◌≤◌, ℕ, Bool, true, false, List, [], ◌∷◌, ◌++◌, map, Some, Ok, Err}
+use Rattle.std.proofs.Common.{refl, sym, subst, ap, ◌∙◌, inl, inr, arith}
 use Rattle.std.proofs.lemmas.Bool.{cases_lt}
 use Rattle.hprof_heap.proofs.Least.{no_least}
 use Rattle.std.specs.Prelude.{IsTrue}
@@ -17,7 +17,7 @@ use Rattle.hprof_rows.specs.HeapValue.{HeapValue, IsHeap}
 use Rattle.hprof_rows.specs.Key.{key_le, key_of, number_of, rank_of}
 use Rattle.hprof_rows.specs.declared.key.Key.{Key}
 use Rattle.hprof_rows.specs.declared.key.Key.TheVariants as keys
-use Rattle.hprof_rows.specs.Order.{IsBefore, IsCanonicalOrder, order_of}
+use Rattle.hprof_rows.specs.Order.{IsBefore, IsCanonicalOrder}
 use Rattle.hprof_rows.proofs.FactSets.{All-from_has, All-has, Has-parts, Has-front, Has-back}
 use Rattle.hprof_rows.proofs.Keys.{true-key_le}
 use Rattle.hprof_heap.specs.declared.standing.Refusal.{Refusal}
@@ -30,7 +30,8 @@ use Rattle.hprof_merge.specs.Union.{AnyHas, IsUnion}
 use Rattle.hprof_merge.proofs.Lists.{one_at_key}
 use Rattle.hprof_objects.specs.ObjectRows.{object_row}
 use Rattle.hprof_objects.specs.Whole.{AreObjects, FitGiven, is_object, rows_given, with_objects, without_objects}
-use Rattle.hprof_objects.proofs.Whole.{IsFactOf, fact_given, given_others, given_row, has_row, one_object, other_fact, others_given, row_again}
+use Rattle.hprof_objects.proofs.Whole.{IsFactOf, fact_given, given_others, given_row, has_row, one_object, other_fact, others_given}
+use Rattle.hprof_objects.proofs.Whole.{row_again}
 use Rattle.hprof_objects.proofs.Whole.{row_of}
 
 -- a fact of the parts has a spelling
@@ -310,7 +311,8 @@ module _ (parts : List Given) (heap : HeapValue) (told : Tells (map without_obje
               has_other = subst (λ (k : ℕ). AnyHas (map rows_given parts) (k, b.0.1)) (sym same) has_b;
               differ = λ bytes.
                   let rows : a.0 ≡ b.0 = ap (λ (k : ℕ). (k, a.0.1)) same ∙ ap (λ (l : List ℕ). (b.0.0, l)) bytes in
-                  c.differ (one_object heap.ids c.one c.other b.0 (a.1 ∙ ap Some rows) b.1 (fits c.one c.has_one) (fits c.other c.has_other));
+                  c.differ (one_object heap.ids c.one c.other b.0 (a.1
+                  ∙ ap Some rows) b.1 (fits c.one c.has_one) (fits c.other c.has_other));
             },
           )
       | inr not_is ↦ absurd (apart heap.ids c.one c.other key is not_is c.key_of_one c.key_of_other)
@@ -328,7 +330,8 @@ module _ (parts : List Given) (heap : HeapValue) (told : Tells (map without_obje
       no_least heap.millis (subst (λ (l : List Given). IsLeastOf (map (λ part. part.header.millis) (map without_objects l)) heap.millis) e
       told.1)
 
-  pub objects_conflict : (key : ℕ) → IsLeastWithTwoContents (map rows_given parts) key → Tells parts (Err (refusals.Conflict (keys.Object key)))
+  pub objects_conflict : (key : ℕ) → IsLeastWithTwoContents (map rows_given parts) key
+      → Tells parts (Err (refusals.Conflict (keys.Object key)))
   objects_conflict key least = (
     (heap.ids, same_size),
     some_given,
@@ -360,7 +363,8 @@ key_before one fact key other not_is e is f =
     true-key_le key other (inl (omega (arith, low, rank)))
 
 -- a conflict of facts that are no objects is one of all
-more_conflict : (parts : List Given) (key : Key) → HasConflict (all_given (map without_objects parts)) key → HasConflict (all_given parts) key
+more_conflict : (parts : List Given) (key : Key) → HasConflict (all_given (map without_objects parts)) key
+    → HasConflict (all_given parts) key
 more_conflict parts key c = record {
   one = c.one;
   other = c.other;

@@ -12,7 +12,7 @@ use Rattle.hprof_objects.specs.declared.stored_objects.StoredObjects.{StoredObje
 use Rattle.hprof_objects.specs.PartsRead.{PartRead}
 use Rattle.hprof_objects.specs.ReadAgain.{IsSameAt}
 use Rattle.hprof_objects.specs.StoredObjects.{HoldsObjects}
-use Rattle.hprof_objects.specs.StretchFault.{IfChanged}
+use Rattle.hprof_objects.specs.StretchFault.{ByFault}
 
 module _ {T : Type 0} (steps : T → ℕ → List ℕ → T → Type 0) where
   -- the sink was run over the rows of the lists below some key, in order of key, each once
@@ -42,7 +42,7 @@ module _ {S : Type 0} (written : S → Option (List ℕ)) (health : S → Health
   TellsChange OutOfMemory = ⊤
   TellsChange (TwoContents key) = ⊤
   TellsChange (Scratch fault) = IfDamaged fault ((reads : List PartRead) → HoldsObjects written health limits reads objects → ⊥)
-  TellsChange (Part part fault) = IfChanged fault ((reads : List PartRead) → HoldsObjects written health limits reads objects
+  TellsChange (Part part fault) = ByFault fault ⊤ ((reads : List PartRead) → HoldsObjects written health limits reads objects
       → IsSameAt limits told reads part → ⊥)
   TellsChange (Sink fault) = ⊤
 

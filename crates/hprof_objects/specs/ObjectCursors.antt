@@ -26,7 +26,8 @@ use Rattle.hprof_objects.specs.declared.stretch_cursor.StretchCursor.{StretchCur
 use Rattle.hprof_objects.specs.declared.stretch_fault.StretchFault.{StretchFault}
 use Rattle.hprof_objects.specs.declared.stretch_fault.StretchFault.TheVariants as stretches
 use Rattle.hprof_objects.specs.StoredObjects.{scratch_under}
-use Rattle.hprof_objects.specs.StretchCursor.{ComesTo, OpensStretch}
+use Rattle.hprof_objects.specs.StretchCursor.{OpensStretch}
+use Rattle.hprof_objects.specs.StretchKnown.{StretchComes}
 
 -- a cursor over rows in memory, over a run, or over a stretch
 abbrev pub ObjectCursor : Type 0 → Type 0 → Type 0
@@ -78,7 +79,7 @@ IsBefore (Sink fault) = ⊥
 module _ {S R : Type 0} (written : S → Option (List ℕ)) (left : R → Option (List ℕ)) (health : R → Health) (pulls : R → ℕ) where
   -- it comes to these rows
   abbrev pub ObjectsCome : ObjectCursor S R → List ByteRow → Type 0
-  ObjectsCome it rows = comes_either (AnyComesTo written) (ComesTo left health pulls) it rows
+  ObjectsCome it rows = comes_either (AnyComesTo written) (StretchComes left health pulls) it rows
 
 module _ {R : Type 0} (left : R → Option (List ℕ)) (health : R → Health) (pulls : R → ℕ) (limits : Limits)
     (told : List (Option (List ℕ))) where

@@ -1,16 +1,18 @@
 -- A part that is read again, and the objects that come next.
-use Rattle.std.specs.Prelude.{◌≡◌, ◌≤◌, ℕ, List, ◌++◌, length, Option, Some, slice_get}
+use Rattle.std.specs.Prelude.{◌≡◌, ◌⊎◌, ◌≤◌, ◌<◌, ◌-◌, ◌^◌, ℕ, min, List, ◌++◌, length, Option, Some, Err, slice_get}
 use Rattle.hprof_values.specs.declared.ids.IdSize.{IdSize}
 use Rattle.hprof_items.specs.FactValue.{FactValue}
 use Rattle.hprof_devices.specs.declared.health.Health.{Health}
+use Rattle.hprof_devices.specs.declared.health.Health.TheVariants.{Failed}
 use Rattle.hprof_stream.specs.declared.limits.Limits.{Limits}
+use Rattle.hprof_stream.specs.declared.part_fault.PartFault.{PartFault}
 use Rattle.hprof_stream.specs.Part.{IsPart}
 use Rattle.hprof_stream.specs.Fault.{HasNoFault}
 use Rattle.hprof_facts.specs.declared.fact_reader.FactReader.{FactReader}
-use Rattle.hprof_facts.specs.FactReader.{HasGivenOrFails, IsCurrent, Origin}
+use Rattle.hprof_facts.specs.FactReader.{HasGivenFrom, IsOver, Origin, answer_of}
 use Rattle.hprof_parts.specs.Parts.{bytes_at}
 use Rattle.hprof_merge.specs.Rows.{ByteRow}
-use Rattle.hprof_objects.specs.ObjectRows.{object_key, object_rows}
+use Rattle.hprof_objects.specs.ObjectRows.{object_rows}
 use Rattle.hprof_objects.specs.PartsRead.{PartRead}
 
 -- the bytes are a part with no fault, within the limits, and state these facts
@@ -30,13 +32,27 @@ pub record IsSame (limits : Limits) (told : Option (List ℕ)) (part : PartRead)
 abbrev pub IsSameAt : Limits → List (Option (List ℕ)) → List PartRead → ℕ → Type 0
 IsSameAt limits told parts number = (part : PartRead) → slice_get parts number ≡ Some part → IsSame limits (bytes_at told number) part
 
+-- the source failed, or was pulled as often as it may be
+abbrev pub CannotRead : {R : Type 0} → (R → Health) → (R → ℕ) → ℕ → R → Type 0
+CannotRead health pulls reads is = (health is ≡ Failed) ⊎ (pulls is ≡ min reads (2 ^ 64 - 1))
+
 module _ {R : Type 0} (left : R → Option (List ℕ)) (health : R → Health) (pulls : R → ℕ) where
-  -- of a part that is read again, and whose source tells its bytes, these are the next objects; or reading it fails, for a reason that the
-  -- bytes do not decide
+  -- it is over behind some facts, and answers a fault
+  pub record IsOverBefore (origin : Origin) (was : R) (reader : FactReader R) : Type 0 where
+    pub given : List FactValue
+    pub gave : HasGivenFrom left health pulls origin was given reader
+    pub over : IsOver reader
+    pub fault : PartFault
+    pub answers : answer_of reader ≡ Err fault
+
+  -- of a part that is read again with so many reads, and whose source tells its bytes, these are the next objects; or reading it has failed
   --   rest: the bytes behind the origin;  given, behind: the facts that were given behind it, and those that come
-  pub record HasObjects (reader : FactReader R) (rows : List ByteRow) : Type 0 where
+  pub record HasObjects (reads : ℕ) (reader : FactReader R) (rows : List ByteRow) : Type 0 where
     pub origin : Origin
+    pub allowed : origin.reads ≡ reads
+    pub fits : origin.limits.max_bytes < 2 ^ 64
     pub was : R
+    pub fresh : pulls was ≡ 0
     pub rest : List ℕ
     pub tells : left was ≡ Some rest
     pub ids : IdSize
@@ -45,4 +61,4 @@ module _ {R : Type 0} (left : R → Option (List ℕ)) (health : R → Health) (
     pub whole : IsWhole origin.limits (origin.front ++ rest) ids ((origin.told ++ given) ++ behind)
     pub more : List ByteRow
     pub are : object_rows ids behind ≡ rows ++ more
-    pub stands : HasGivenOrFails left health pulls origin was given reader
+    pub stands : HasGivenFrom left health pulls origin was given reader ⊎ IsOverBefore origin was reader

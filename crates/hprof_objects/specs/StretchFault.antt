@@ -1,4 +1,4 @@
--- What a changed part tells.
+-- What the faults of a stretch tell.
 use Rattle.std.specs.Prelude.{⊤}
 use Rattle.hprof_stream.specs.declared.part_fault.PartFault.{PartFault}
 use Rattle.hprof_stream.specs.declared.part_fault.PartFault.TheVariants as faults
@@ -16,8 +16,8 @@ stretch_fault faults.Failed = Read
 stretch_fault faults.Read = Read
 stretch_fault faults.ReadsExceeded = Read
 
--- if the part has changed, this holds
-abbrev pub IfChanged : StretchFault → Type 0 → Type 0
-IfChanged OutOfMemory P = ⊤
-IfChanged Read P = ⊤
-IfChanged Changed P = P
+-- if the part could not be read, the first holds; if it has changed, the second
+abbrev pub ByFault : StretchFault → Type 0 → Type 0 → Type 0
+ByFault OutOfMemory P Q = ⊤
+ByFault Read P Q = P
+ByFault Changed P Q = Q

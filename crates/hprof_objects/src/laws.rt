@@ -35,7 +35,8 @@ pub fn objects_stand_behind()
 pub fn conflicts_of_objects_come_last()
     ensures objects { (parts : List Given) (heap : HeapValue) (key : ℕ) → Tells (map without_objects parts) (Ok heap) → FitGiven parts
         → IsLeastWithTwoContents (map rows_given parts) key → Tells parts (Err (Conflict (Object key))) }
-    ensures others { (parts : List Given) (refusal : Refusal) → Tells (map without_objects parts) (Err refusal) → Tells parts (Err refusal) }
+    ensures others { (parts : List Given) (refusal : Refusal) → Tells (map without_objects parts) (Err refusal)
+        → Tells parts (Err refusal) }
 {}
 
 /// If one stretch has all objects of parts, no identifier has objects with two contents.

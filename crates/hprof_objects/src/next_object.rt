@@ -1,12 +1,12 @@
 //! The next object of a part.
 
-ghost use Rattle.std.specs.Prelude.{◌≡◌, ◌∷◌, List, IfOk, IfErr, OnOk};
+ghost use Rattle.std.specs.Prelude.{◌≡◌, ◌∷◌, ℕ, List, IfOk, IfErr, OnOk};
 ghost use Rattle.hprof_items.specs.FactValue.{FactValue};
-ghost use Rattle.hprof_facts.specs.FactReader.{CanAdvance, IsCurrent, spelled_of};
+ghost use Rattle.hprof_facts.specs.FactReader.{CanAdvance, IsCurrent, source_of, spelled_of};
 ghost use Rattle.hprof_merge.specs.Rows.{ByteRow};
 ghost use Rattle.hprof_objects.specs.ObjectRows.{object_key};
-ghost use Rattle.hprof_objects.specs.ReadAgain.{HasObjects};
-ghost use Rattle.hprof_objects.specs.StretchFault.{IfChanged};
+ghost use Rattle.hprof_objects.specs.ReadAgain.{CannotRead, HasObjects};
+ghost use Rattle.hprof_objects.specs.StretchFault.{ByFault};
 
 use crate::identifying::object_id;
 use crate::stretch_fault::StretchFault;
@@ -24,10 +24,13 @@ fn current_id<R: Source + Drop>(reader: &FactReader<R>) -> Option<u64>
 pub(crate) fn next_object<R: Source + Drop>(reader: &mut FactReader<R>) -> Result<u64, StretchFault>
     requires { CanAdvance R.health reader.old }
     ensures can { OnOk result (CanAdvance R.health reader.new) }
-    ensures next { IfOk result (λ id. (row : ByteRow) (rows : List ByteRow) → HasObjects R.left R.health R.pulls reader.old (row ∷ rows)
-        → (row ≡ (id, spelled_of reader.new)) × HasObjects R.left R.health R.pulls reader.new rows) }
-    ensures fault { IfErr result (λ fault. IfChanged fault ((row : ByteRow) (rows : List ByteRow)
-        → HasObjects R.left R.health R.pulls reader.old (row ∷ rows) → ⊥)) }
+    ensures next { IfOk result (λ id. (reads : ℕ) (row : ByteRow) (rows : List ByteRow)
+        → HasObjects R.left R.health R.pulls reads reader.old (row ∷ rows)
+        → (row ≡ (id, spelled_of reader.new)) × HasObjects R.left R.health R.pulls reads reader.new rows) }
+    ensures fault { IfErr result (λ fault. ByFault fault
+        ((reads : ℕ) (row : ByteRow) (rows : List ByteRow) → HasObjects R.left R.health R.pulls reads reader.old (row ∷ rows)
+        → CannotRead R.health R.pulls reads (source_of reader.new))
+        ((reads : ℕ) (row : ByteRow) (rows : List ByteRow) → HasObjects R.left R.health R.pulls reads reader.old (row ∷ rows) → ⊥)) }
 {
     for _ in 0..u64::MAX {
         match reader.advance() {
@@ -40,5 +43,6 @@ pub(crate) fn next_object<R: Source + Drop>(reader: &mut FactReader<R>) -> Resul
             Err(fault) => return Err(StretchFault::of(fault)),
         }
     }
+    // No part has so many facts.
     Err(StretchFault::Read)
 }

@@ -1,6 +1,7 @@
 //! The log of the objects of parts, as they are read.
 
-ghost use Rattle.std.specs.Prelude.{ℕ, ◌≡◌, ◌<◌, ◌-◌, ◌^◌, ◌∷◌, ◌++◌, [], List, length, vec_len, vec_capacity, true, Some, None, IfOk, OnOk, IsSome};
+ghost use Rattle.std.specs.Prelude.{ℕ, ◌≡◌, ◌<◌, ◌-◌, ◌^◌, ◌∷◌, ◌++◌, [], List, length, vec_len, vec_capacity, true, Some, None, IfOk};
+ghost use Rattle.std.specs.Prelude.{OnOk, IsSome};
 ghost use Rattle.hprof_devices.specs.declared.health.Health.TheVariants.{Well};
 ghost use Rattle.hprof_items.specs.FactValue.{FactValue};
 ghost use Rattle.hprof_runs.specs.ReadBack.{HoldsNothing};
@@ -36,7 +37,8 @@ pub struct ObjectLog<S> {
     pub(crate) piece: Option<Piece>,
     pub(crate) growing: Option<Growing>,
     // There is room for a growing stretch that stays.
-    ghost reserved: { IsReserved growing (vec_len stretches) (vec_capacity stretches) } by { IsReserved-prop growing (vec_len stretches) (vec_capacity stretches) },
+    ghost reserved: { IsReserved growing (vec_len stretches) (vec_capacity stretches) } by { IsReserved-prop growing (vec_len stretches)
+        (vec_capacity stretches) },
 }
 
 /// Adds the growing stretch to those that stay, if it stays. There is room for it.
@@ -198,7 +200,8 @@ impl<S: Scratch + Drop> ObjectLog<S> {
         self.stretches.reserve(1).is_ok()
     }
 
-    /// Goes on with a stretch whose rows are the last ones in memory, from this one on. If it is long enough, it stays in its part, and they
+    /// Goes on with a stretch whose rows are the last ones in memory, from this one on. If it is long enough, it stays in its part, and
+    /// they
     /// leave the memory.
     fn settle(&mut self, growing: Growing, from: usize)
         requires { growing.stands ≡ InMemory from }
@@ -244,7 +247,8 @@ impl<S: Scratch + Drop> ObjectLog<S> {
         ensures log { OnOk result ((limits : Limits) (parts : List PartRead) (part : PartRead) (fact : FactValue)
             → KeepsUngrown S.written S.health limits parts part self.old → object_row part.ids fact ≡ Some (id, spelled.now)
             → KeepsUngrown S.written S.health limits parts (with_fact part fact) self.new) }
-        ensures row { IfOk result (λ spilled. StandsLast spilled (rows_of_store self.old.store) (id, spelled.now) (rows_of_store self.new.store)) }
+        ensures row { IfOk result (λ spilled. StandsLast spilled (rows_of_store self.old.store) (id, spelled.now)
+            (rows_of_store self.new.store)) }
         ensures none { self.new.growing ≡ None }
         ensures piece { self.new.piece ≡ self.old.piece }
         ensures part { self.new.part ≡ self.old.part }

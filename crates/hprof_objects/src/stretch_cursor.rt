@@ -1,9 +1,9 @@
 //! Cursors over stretches.
 
-ghost use Rattle.std.specs.Prelude.{◌≡◌, ◌<◌, List, length, IfOk, IfErr, OnOk};
+ghost use Rattle.std.specs.Prelude.{◌≡◌, ◌<◌, ℕ, List, length, IfOk, IfErr, OnOk};
 ghost use Rattle.hprof_merge.specs.Rows.{ByteRow};
-ghost use Rattle.hprof_objects.specs.ReadAgain.{HasObjects};
-ghost use Rattle.hprof_objects.specs.StretchFault.{IfChanged};
+ghost use Rattle.hprof_objects.specs.ReadAgain.{CannotRead, HasObjects};
+ghost use Rattle.hprof_objects.specs.StretchFault.{ByFault};
 
 use crate::next_object::next_object;
 use crate::stretch::Stretch;
@@ -28,7 +28,7 @@ pub struct StretchCursor<R: Source + Drop> {
 }
 
 impl<R: Source + Drop> StretchCursor<R> {
-    ghost use Rattle.hprof_objects.specs.StretchCursor.{CanGoOn, OpensStretch, RefusesStretch, StandsAt};
+    ghost use Rattle.hprof_objects.specs.StretchCursor.{CanGoOn, OpensStretch, RefusesStretch, StandsAt, source_under};
 
     /// Opens the part of a stretch at its place, and returns a cursor that shows the first object. The limits are those of the first
     /// reading; the reads are counted anew.
@@ -63,10 +63,13 @@ impl<R: Source + Drop> StretchCursor<R> {
     fn go_on(&mut self) -> Result<(), StretchFault>
         requires { CanGoOn R.health self.old }
         ensures can { OnOk result (CanGoOn R.health self.new) }
-        ensures rows { OnOk result ((rows : List ByteRow) → HasObjects R.left R.health R.pulls self.old.reader rows
-            → self.old.left ≡ length rows → StandsAt R.left R.health R.pulls self.new rows) }
-        ensures fault { IfErr result (λ fault. IfChanged fault ((rows : List ByteRow)
-            → HasObjects R.left R.health R.pulls self.old.reader rows → self.old.left ≡ length rows → ⊥)) }
+        ensures rows { OnOk result ((reads : ℕ) (rows : List ByteRow) → HasObjects R.left R.health R.pulls reads self.old.reader rows
+            → self.old.left ≡ length rows → StandsAt R.left R.health R.pulls reads self.new rows) }
+        ensures fault { IfErr result (λ fault. ByFault fault
+            ((reads : ℕ) (rows : List ByteRow) → HasObjects R.left R.health R.pulls reads self.old.reader rows
+            → self.old.left ≡ length rows → CannotRead R.health R.pulls reads (source_under self.new))
+            ((reads : ℕ) (rows : List ByteRow) → HasObjects R.left R.health R.pulls reads self.old.reader rows
+            → self.old.left ≡ length rows → ⊥)) }
     {
         self.shown = None;
         if self.left == 0 {
@@ -122,10 +125,9 @@ impl<R: Source + Drop> AscendingCursor for StretchCursor<R> {
 }
 
 impl<R: Source + Drop> KnownCursor for StretchCursor<R> {
-    ghost use Rattle.hprof_objects.specs.StretchCursor.{ComesTo};
-    ghost use Rattle.hprof_objects.specs.StretchKnown.{stretch_known};
+    ghost use Rattle.hprof_objects.specs.StretchKnown.{StretchComes, stretch_known};
 
-    ghost comes_to = { ComesTo R.left R.health R.pulls };
+    ghost comes_to = { StretchComes R.left R.health R.pulls };
 
     ghost known = { stretch_known R.left R.health R.pulls };
 }

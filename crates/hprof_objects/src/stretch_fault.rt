@@ -9,7 +9,7 @@ use hprof_stream::PartFault;
 pub enum StretchFault {
     /// Memory ran out.
     OutOfMemory,
-    /// The source of the part failed, or there were more reads than the limit.
+    /// The source of the part failed, or more reads are needed than the limit.
     Read,
     /// The part has changed: it ended or was refused before all objects came, or an object is not above the one before.
     Changed,

@@ -1,6 +1,6 @@
 //! Laws of cursors over stretches. The contract of each function is a theorem; its body is empty.
 
-ghost use Rattle.std.specs.Prelude.{◌≡◌, ◌++◌, List, None};
+ghost use Rattle.std.specs.Prelude.{◌≡◌, ◌++◌, ℕ, List, None};
 ghost use Rattle.hprof_merge.specs.Rows.{ByteRow, IsAscending};
 ghost use Rattle.hprof_merge.specs.Showing.{Shows};
 ghost use Rattle.hprof_objects.specs.declared.stretch_cursor.StretchCursor.{StretchCursor};
@@ -8,14 +8,14 @@ ghost use Rattle.hprof_objects.specs.StretchCursor.{ComesTo, GoesOn, stretch_sho
 
 use hprof_devices::Source;
 
-/// If the part is the same as when it was read, a cursor over a stretch shows, up to its end, the rows of the stretch. Before the end it has
-/// shown the first of them.
+/// If the part is the same as when it was read, a cursor over a stretch shows, up to its end, the rows of the stretch. Before the end it
+/// has shown the first of them.
 pub fn stretch_cursors_show_stretches<R: Source + Drop>()
-    ensures all { (old new : StretchCursor R) (rows shown : List ByteRow) → ComesTo R.left R.health R.pulls old rows
+    ensures all { (reads : ℕ) (old new : StretchCursor R) (rows shown : List ByteRow) → ComesTo R.left R.health R.pulls reads old rows
         → Shows stretch_shown (GoesOn R.left R.health R.pulls) old shown new → stretch_shown new ≡ None → shown ≡ rows }
-    ensures first { (old new : StretchCursor R) (rows shown : List ByteRow) → ComesTo R.left R.health R.pulls old rows
+    ensures first { (reads : ℕ) (old new : StretchCursor R) (rows shown : List ByteRow) → ComesTo R.left R.health R.pulls reads old rows
         → Shows stretch_shown (GoesOn R.left R.health R.pulls) old shown new
-        → (rest : List ByteRow) × (rows ≡ shown ++ rest) × ComesTo R.left R.health R.pulls new rest }
+        → (rest : List ByteRow) × (rows ≡ shown ++ rest) × ComesTo R.left R.health R.pulls reads new rest }
 {}
 
 /// Whatever a cursor over a stretch shows ascends.

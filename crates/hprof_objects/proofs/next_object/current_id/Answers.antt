@@ -1,6 +1,6 @@
-use Rattle.std.proofs.Common.{◌≡◌, Option, Some, None, sym, ap, ◌∙◌}
+use Rattle.std.proofs.Common.{◌≡◌, Some, None, sym, ap, ◌∙◌}
 use Rattle.std.specs.Option.{option_map}
-use Rattle.hprof_items.specs.FactValue.{FactValue, value_of}
+use Rattle.hprof_items.specs.FactValue.{value_of}
 use Rattle.hprof_objects.specs.ObjectRows.{object_key}
 use Rattle.hprof_objects.proofs.next_object.current_id.Goals as goal
 

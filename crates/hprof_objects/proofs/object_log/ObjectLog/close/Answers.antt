@@ -1,4 +1,4 @@
-use Rattle.std.proofs.Common.{◌≡◌, List, subst, sym, None}
+use Rattle.std.proofs.Common.{List, subst, sym, None}
 use Rattle.hprof_objects.specs.declared.stretch.Stretch.{Stretch}
 use Rattle.hprof_objects.specs.Log.{Keeps}
 use Rattle.hprof_objects.specs.Store.{rows_of_store, runs_of_store}

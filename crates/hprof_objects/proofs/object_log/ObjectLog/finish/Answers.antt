@@ -1,5 +1,4 @@
-use Rattle.std.proofs.Common.{List, [], ◌++◌, ◌∙◌, ap, append-nil, subst, sym}
-use Rattle.hprof_objects.specs.declared.growing.Growing.{Growing}
+use Rattle.std.proofs.Common.{List, ◌++◌, ◌∙◌, ap, append-nil, subst, sym}
 use Rattle.hprof_objects.specs.declared.stretch.Stretch.{Stretch}
 use Rattle.hprof_objects.specs.Growing.{staying}
 use Rattle.hprof_objects.specs.Store.{rows_of_store}

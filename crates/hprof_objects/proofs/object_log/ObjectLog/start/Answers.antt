@@ -1,4 +1,4 @@
-use Rattle.std.proofs.Common.{◌∙◌, refl, subst, sym, true, Bool, Option, []}
+use Rattle.std.proofs.Common.{◌∙◌, refl, subst, sym, Bool, Option, []}
 use Rattle.hprof_objects.specs.declared.growing.Piece.{Piece}
 use Rattle.hprof_objects.specs.Store.{StandsLast, rows_of_store, runs_of_store}
 use Rattle.hprof_objects.specs.Stretches.{IsPieceOf}

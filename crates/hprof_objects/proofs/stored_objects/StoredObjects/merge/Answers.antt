@@ -1,13 +1,11 @@
 use Rattle.std.proofs.Common.{List, [], subst, sym}
 use Rattle.std.specs.Prelude.{All}
 use Rattle.hprof_merge.specs.OneOf.{holds_either}
-use Rattle.hprof_merge.specs.Rows.{ByteRow}
 use Rattle.hprof_runs.specs.AnyRows.{any_well}
 use Rattle.hprof_objects.specs.declared.object_stop.ObjectStop.{ObjectStop}
 use Rattle.hprof_objects.specs.MergedObjects.{IfScratchFails, StopsWithin, TellsChange}
 use Rattle.hprof_objects.specs.ObjectCursors.{ObjectCursor, OpensObjects}
-use Rattle.hprof_objects.specs.PartsRead.{PartRead}
-use Rattle.hprof_objects.specs.StoredObjects.{AreToldAgain, objects_of, scratch_under}
+use Rattle.hprof_objects.specs.StoredObjects.{objects_of, scratch_under}
 use Rattle.hprof_objects.specs.StretchCursor.{CanGoOn}
 use Rattle.hprof_objects.proofs.MergedObjects.{merged_all, stopped_objects, stopped_reads, stopped_some, stopped_tells}
 use Rattle.hprof_objects.proofs.Stops.{stops_before}

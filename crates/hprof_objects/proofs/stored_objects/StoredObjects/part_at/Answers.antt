@@ -1,4 +1,4 @@
-use Rattle.std.proofs.Common.{◌≡◌, ◌+◌, ◌-◌, ◌∙◌, ap, arith, length, sym}
+use Rattle.std.proofs.Common.{◌≡◌, ◌+◌, ◌-◌, ◌∙◌, ap, arith}
 use Rattle.hprof_runs.specs.Runs.{run_count}
 use Rattle.hprof_objects.specs.ObjectCursors.{part_of}
 use Rattle.hprof_objects.proofs.PartsUnder.{part_found, part_missed}
