@@ -35,10 +35,10 @@ from .threads import HeldAt, StackFrame, Thread
 
 __version__ = "0.1.0"
 __all__ = [
-    "CannotOpen", "Check", "ClassDump", "ClassRow", "Conflict", "Constant", "Contents", "Entry", "Error", "Field", "Frame", "Growth", "Heap",
-    "HeldAt", "HistogramRow", "Holder", "Id", "IdSizesDiffer", "Instance", "Keeps", "Kept", "Malformed", "Name", "NoSuchClass", "Node",
-    "NotUnderstood", "NothingAt", "ObjectArray", "OutOfMemory", "Own", "Part", "Path", "Piece", "PrimitiveArray", "ProgramEnded",
-    "ProgramMissing", "ReadFailed", "Reference", "Referred", "Referrer", "Refused", "RetainedRow", "Root", "Section", "SeveralClasses", "Show",
-    "Size", "SizedObject", "StackFrame", "Static", "Step", "Sum", "Suspect", "Suspects", "Thread", "UnexpectedAnswer", "Who", "Why", "diff",
-    "open",
+    "CannotOpen", "Check", "ClassDump", "ClassRow", "Conflict", "Constant", "Contents", "Entry", "Error", "Field", "Frame",
+    "Growth", "Heap", "HeldAt", "HistogramRow", "Holder", "Id", "IdSizesDiffer", "Instance", "Keeps", "Kept", "Malformed", "Name",
+    "NoSuchClass", "Node", "NotUnderstood", "NothingAt", "ObjectArray", "OutOfMemory", "Own", "Part", "Path", "Piece",
+    "PrimitiveArray", "ProgramEnded", "ProgramMissing", "ReadFailed", "Reference", "Referred", "Referrer", "Refused",
+    "RetainedRow", "Root", "Section", "SeveralClasses", "Show", "Size", "SizedObject", "StackFrame", "Static", "Step", "Sum",
+    "Suspect", "Suspects", "Thread", "UnexpectedAnswer", "Who", "Why", "diff", "open",
 ]

@@ -136,11 +136,11 @@ def class_dump(lines: Lines) -> Optional[ClassDump]:
     head = lines.next_is(CLASS)
     if head is None:
         return None
-    ids = [identifier(head.group(place)) for place in range(1, 6)]
+    this, parent, loader, signers, domain = (identifier(head.group(place)) for place in range(1, 6))
     constants = tuple(Constant(int(one.group(1)), int(one.group(2)), *valued(one, 3)) for one in lines.while_is(CONSTANT))
     statics = tuple(Static(int(one.group(1)), *valued(one, 2), Name(one.group(4))) for one in lines.while_is(STATIC))
     own = tuple(Own(int(one.group(1)), one.group(2), Name(one.group(3))) for one in lines.while_is(OWN))
-    return ClassDump(*ids, int(head.group(6)), Name(head.group(7)), constants, statics, own)
+    return ClassDump(this, parent, loader, signers, domain, int(head.group(6)), Name(head.group(7)), constants, statics, own)
 
 
 def instance(lines: Lines) -> Optional[Instance]:

@@ -1,6 +1,6 @@
 """The reports that count: `check`, `histo`, `classes`, `objects`, `retained` and `diff`."""
 
-from typing import NamedTuple, Optional, Tuple
+from typing import Match, NamedTuple, Optional, Tuple
 
 from .lines import Lines, line
 from .names import Id, Name, identifier
@@ -99,7 +99,7 @@ def check(lines: Lines) -> Check:
 
 
 def histogram(lines: Lines) -> Tuple[HistogramRow, ...]:
-    def made(match):  # type: ignore[no-untyped-def]
+    def made(match: Match[str]) -> HistogramRow:
         size, count, kind, label = match.groups()
         return HistogramRow(int(size), int(count), None if kind == "-" else identifier(kind), Name(label))
 
@@ -107,7 +107,7 @@ def histogram(lines: Lines) -> Tuple[HistogramRow, ...]:
 
 
 def classes(lines: Lines) -> Tuple[ClassRow, ...]:
-    def made(match):  # type: ignore[no-untyped-def]
+    def made(match: Match[str]) -> ClassRow:
         this, parent, size, count, label = match.groups()
         return ClassRow(identifier(this), identifier(parent), int(size), int(count), Name(label))
 
@@ -119,7 +119,7 @@ def objects(lines: Lines) -> Tuple[SizedObject, ...]:
 
 
 def retained(lines: Lines) -> Tuple[RetainedRow, ...]:
-    def made(match):  # type: ignore[no-untyped-def]
+    def made(match: Match[str]) -> RetainedRow:
         held, size, count, label = match.groups()
         return RetainedRow(int(held), int(size), int(count), Name(label))
 

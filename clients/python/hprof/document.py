@@ -8,8 +8,8 @@ from .names import Id
 
 
 def plain(value: Any) -> Any:
-    """A value as JSON has it: a record as an object by the names of its fields, an identifier as `"0x.."`, since JSON numbers lose bits above
-    2 to the power of 53, bytes in hexadecimal, and a float that JSON does not have as its name."""
+    """A value as JSON has it: a record as an object by the names of its fields, bytes in hexadecimal, and a float that JSON does not have
+    as its name. An identifier is `"0x.."`, since JSON numbers lose bits above 2 to the power of 53."""
     if isinstance(value, Id):
         return str(value)
     if isinstance(value, tuple) and hasattr(value, "_fields"):

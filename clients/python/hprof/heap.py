@@ -9,7 +9,7 @@ from .counts import Check, ClassRow, Growth, HistogramRow, RetainedRow, SizedObj
 from .dialogue import Dialogue, Ended, text_of
 from .errors import Error, Refused
 from .holding import Keeps, Kept, Suspects
-from .lines import Lines
+from .lines import Lines, line
 from .paths import Path, Why
 from .program import FileName, Running
 from .referrers import Referrer, Who
@@ -17,12 +17,15 @@ from .reports import Asked, Question, Subject, asked
 from .shown import Show
 from .threads import Thread
 
+# A line of the answer to `help`.
+QUESTION = line(r"[a-z0-9]+( [A-Z]+)?")
+
 
 class Heap:
     """The heap of one or more parts. Its methods are the reports, and raise Refused if hprof refuses.
 
-    A subject is an identifier, which is an int, or the name of a class, which is a str, as `shop.Session`; where a kind is asked for, also a
-    type, as `byte[]`. A str of hexadecimal digits is an identifier."""
+    A subject is an identifier, which is an int, or the name of a class, which is a str, as `shop.Session`. A kind can also be a type, as
+    `byte[]`. A str of hexadecimal digits is an identifier."""
 
     def __init__(self, *parts: FileName, program: Optional[FileName] = None) -> None:
         self._running = Running(program, ["ask"], parts, stdin=subprocess.PIPE, stdout=subprocess.PIPE)
@@ -34,7 +37,7 @@ class Heap:
         self._fault: Optional[Error] = None
         try:
             # The first answer comes once the dump was read.
-            self._answers(["help"])
+            Lines(self._answers(["help"])[0]).each(QUESTION, lambda match: match.group())
         except BaseException:
             process.kill()
             self.close()

@@ -81,10 +81,11 @@ def node_of(text: str) -> Node:
         return Node(identifier(digits), "missing", Name(""))
     quoted = QUOTED.fullmatch(rest)
     label = quoted.group(1) if quoted else rest
-    said = (unescaped(quoted.group(2)), int(quoted.group(3) or 0)) if quoted else (None, 0)
+    text = unescaped(quoted.group(2)) if quoted else None
+    left_out = int(quoted.group(3) or 0) if quoted else 0
     if label.startswith("class "):
-        return Node(identifier(digits), "class", Name(label[6:]), *said)
-    return Node(identifier(digits), "values" if label in ARRAYS else "object", Name(label), *said)
+        return Node(identifier(digits), "class", Name(label[6:]), text, left_out)
+    return Node(identifier(digits), "values" if label in ARRAYS else "object", Name(label), text, left_out)
 
 
 def reference_in(match: Match[str]) -> Reference:

@@ -34,7 +34,7 @@ class Running:
         command = found(program)
         copies: List[int] = []
         names = [part_word(os.fspath(part), copies) for part in parts]
-        kept = [int(match.group(1)) for match in map(DESCRIPTOR.fullmatch, names) if match]
+        kept = [int(match.group(1)) for match in map(DESCRIPTOR.fullmatch, names) if match and os.path.exists(match.group())]
         try:
             # In a session of its own Control-C does not end it: the heap does, in its own time.
             self.process = subprocess.Popen(

@@ -1,7 +1,11 @@
 """Writes values as the reports do, so that a test sees whether a value has all that its text had. docs/FORMAT.md says how."""
 
+import re
+
+from hprof import Referred
 from hprof.names import escaped
 
+REAL = re.compile(r"-?0x[0-9a-f.]+p[+-]?\d+|NaN|nan|-?Infinity|-?inf")
 REACHED = {"not": "not reached\n", "weakly": "only by weak references\n"}
 
 
@@ -87,7 +91,9 @@ def path(found):
     return "not reached\n" if found.distance is None else f"distance {found.distance}\n" + "".join(map("{:x}\n".format, found.ids))
 
 
-def text(found):
+def text(found, word):
+    if found is None:
+        return f"no text at {word}\n"
     return f"text {len(found.encode('utf-16-le', 'surrogatepass')) // 2} {escaped(found)}\n"
 
 
@@ -178,3 +184,60 @@ def dump(found):
 
 def contents(found):
     return (class_dump(found.class_dump) if found.class_dump else "") + (dump(found.dump) if found.dump else "")
+
+
+def value(found):
+    if found is None:
+        return "null"
+    if isinstance(found, Referred):
+        return node(found.node) + ("" if found.length is None else f" of {found.length}")
+    if isinstance(found, bool):
+        return "true" if found else "false"
+    if isinstance(found, str):
+        return f"'{escaped(found)}'"
+    return found.hex() if isinstance(found, float) else str(found)
+
+
+def entry(found, owner):
+    """A line of `show`, behind the line of its owner if this is another one than that of the entry before."""
+    above = "" if found.owner == owner else f"  from {found.owner.printed}\n"
+    words = [found.kind, *([] if found.position is None else [str(found.position)]), *([] if found.type is None else [found.type])]
+    words += [] if found.name is None else [found.name.printed]
+    return above + "  " + " ".join(words) + ("" if found.kind == "own" else " = " + value(found.value)) + "\n"
+
+
+def section(found):
+    lines = [value(Referred(found.node, found.length)) + "\n"]
+    lines += [f"  {found.no_fields}\n"] if found.no_fields else []
+    owner = None
+    for one in found.entries:
+        lines.append(entry(one, owner))
+        owner = one.owner
+    lines += [f"  text{quoted(found.text, found.text_left_out)}\n"] if found.text is not None else []
+    for place in range(0, len(found.numbers), 16):
+        lines.append(f"  {place} = {' '.join(map(value, found.numbers[place : place + 16]))}\n")
+    lines += [f"  .. {found.left_out} more\n"] if found.left_out else []
+    lines += [f"  {found.nulls} null\n"] if found.nulls else []
+    return "".join(lines)
+
+
+def show(found):
+    return "".join(section(one) for one in found if one is not None)
+
+
+def with_numbers(text):
+    """A text of `show` in which each number with a point has one form."""
+    return REAL.sub(lambda real: float.fromhex(real.group()).hex(), text)
+
+
+WRITERS = {
+    "check": check, "histo": histo, "classes": classes, "threads": threads, "suspects": suspects, "retained": retained, "biggest": biggest,
+    "objects": objects, "show": show, "why": why, "keeps": keeps, "object": contents, "refs": refs, "path": path,
+}
+
+
+def report(word, subject, found):
+    """The text of a report."""
+    if word in ("who", "text"):
+        return {"who": who, "text": text}[word](found, subject)
+    return WRITERS[word](found)

@@ -131,6 +131,8 @@ talk(answer)"""
                 self.assertEqual(caught.exception.status, status)
         with script("print('1 2 3')") as path, self.assertRaises(hprof.UnexpectedAnswer):
             hprof.diff("old", "new", program=path)
+        with script("print('Hello! Ask me.', end='\\n\\n')") as path, self.assertRaises(hprof.UnexpectedAnswer):
+            hprof.open("dump", program=path)
 
     def test_much_on_standard_error(self):
         with script("sys.stderr.write('x' * 10000000)\nsys.exit(5)") as path, self.assertRaises(hprof.ProgramEnded) as caught:

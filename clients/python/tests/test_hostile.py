@@ -6,7 +6,9 @@ from pathlib import Path
 
 import hprof
 from hprof import Id, Referred
+from hprof.reports import asked
 
+from . import printing
 from .support import hostile_module
 
 HOSTILE = hostile_module()
@@ -75,6 +77,16 @@ class Hostile(unittest.TestCase):
         self.assertEqual(len(self.heap.threads()), 150)
         self.assertTrue(self.heap.suspects().suspects)
         self.assertTrue(self.heap.retained())
+
+    def test_a_value_has_all_of_its_answer(self):
+        for word in ("object", "show", "who", "why", "keeps", "refs", "path", "text"):
+            questions = [asked((word, id)) for id in self.ids]
+            for question, answer in zip(questions, self.heap._answers([one.line for one in questions])):
+                printed = printing.report(word, question.line.split(" ")[1], question.read(answer))
+                self.assertEqual(printing.with_numbers(printed), printing.with_numbers(answer))
+        for word in ("check", "histo", "classes", "threads", "suspects", "retained"):
+            (answer,) = self.heap._answers([word])
+            self.assertEqual(printing.report(word, None, asked(word).read(answer)), answer)
 
     def test_show_has_the_values_of_object(self):
         raw, shown = (self.heap.ask_all([(word, id) for id in self.ids]) for word in ("object", "show"))

@@ -6,16 +6,10 @@ from collections import Counter
 from hprof.counts import growth
 from hprof.errors import NothingAt, SeveralClasses
 from hprof.lines import Lines
-from hprof.reports import BY_WORD, Asked
+from hprof.reports import BY_WORD, REPORTS, Asked
 
 from . import printing
 from .worked import texts
-
-WRITERS = {
-    "check": printing.check, "histo": printing.histo, "classes": printing.classes, "threads": printing.threads, "suspects": printing.suspects,
-    "retained": printing.retained, "biggest": printing.biggest, "objects": printing.objects, "why": printing.why, "keeps": printing.keeps,
-    "text": printing.text, "object": printing.contents, "refs": printing.refs, "path": printing.path,
-}
 
 
 class Worked(unittest.TestCase):
@@ -24,7 +18,7 @@ class Worked(unittest.TestCase):
         for report, subject, text in texts():
             with self.subTest(report=report, text=text):
                 seen[report] += self.read(report, subject, text)
-        self.assertEqual(set(seen), {*WRITERS, "diff", "who", "show"})
+        self.assertEqual(set(seen), {report.word for report in REPORTS} | {"diff"})
         self.assertTrue(all(number >= 3 for number in seen.values()), seen)
 
     def read(self, report, subject, text):
@@ -40,10 +34,5 @@ class Worked(unittest.TestCase):
         except SeveralClasses as several:
             self.assertEqual(several.text + "\n" + "".join(printing.node(one) + "\n" for one in several.nodes), text)
             return False
-        if report == "text" and value is None:
-            self.assertTrue(text.startswith("no text at "))
-        elif report == "who":
-            self.assertEqual(printing.who(value, subject), text)
-        elif report != "show":
-            self.assertEqual(WRITERS[report](value), text)
+        self.assertEqual(printing.with_numbers(printing.report(report, subject, value)), printing.with_numbers(text))
         return True
