@@ -28,9 +28,11 @@ BELOW_ROOT = line(r"  (?:at (?P<frame>.*)|(?P<node>ID .*))")
 
 
 class Node(NamedTuple):
-    """A class or an object. `kind` is `class`, `object` (an instance or an array of objects), `values` (an array of numbers), or `missing`
-    if the dump does not have it. `label` is the name of its class, of the class itself, or of its type, as `byte[]`. `text` is the name of a
-    thread or, in `show`, the text of a string: its first 100 units; `left_out` is the number of units behind them."""
+    """A class or an object.
+
+    `kind` is `class`, `object` (an instance or an array of objects), `values` (an array of numbers), or `missing` if the dump does not have
+    it. `label` is the name of its class, of the class itself, or of its type, as `byte[]`. `text` is the name of a thread or, in `show`,
+    the text of a string: its first 100 units; `left_out` is the number of units behind them."""
 
     id: Id
     kind: str

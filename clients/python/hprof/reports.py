@@ -15,8 +15,8 @@ SEVERAL, NODE = line(r"\d+ classes have this name"), line("ID .*")
 
 
 class Report(NamedTuple):
-    """A report: its word, the method of a heap, what follows the word (nothing, `kind`, `node` for an identifier or a name, or `id`), and the
-    reader of its lines."""
+    """A report: its word, the method of a heap, what follows the word, and the reader of its lines. What follows is nothing, `kind`, `id`,
+    or `node` for an identifier or a name."""
 
     word: str
     method: str

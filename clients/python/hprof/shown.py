@@ -52,9 +52,9 @@ class Entry(NamedTuple):
 class Section(NamedTuple):
     """A class or an object and its contents.
 
-    `text` is that of an array of chars or bytes, 100 units at most. `numbers` are the first 256 of an array. `left_out` is how many units of
-    the text, elements that are not null, or numbers follow; `nulls` is the number of null elements. `no_fields` says why the fields are not
-    known."""
+    `text` is that of an array of chars or bytes: its first 100 units, and `text_left_out` is the number of units behind them. `numbers` are
+    the first 256 of an array. `left_out` is the number of elements that are not null, or of numbers, behind those that are told; `nulls` is
+    the number of null elements. `no_fields` says why the fields are not known."""
 
     node: Node
     length: Optional[int]

@@ -11,7 +11,7 @@ LETTERS = {"char": "H", "float": "f", "double": "d", "byte": "b", "short": "h", 
 
 
 def value_of(kind: str, bits: str) -> Value:
-    """The value of hexadecimal bits: an Id for a reference, one unit of text for a char, and a number for a boolean that is neither 0 nor 1."""
+    """The value of hexadecimal bits: an Id for a reference, a unit of text for a char, a number for a boolean that is neither 0 nor 1."""
     if kind in ("object", "array"):
         return identifier(bits)
     if kind == "boolean":

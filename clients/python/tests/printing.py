@@ -162,8 +162,8 @@ def threads(found):
 
 
 def class_dump(found):
-    head = "class {0.id:x} super {0.superclass:x} loader {0.loader:x} signers {0.signers:x} domain {0.domain:x} size {0.size} {0.label.printed}\n"
-    lines = [head.format(found)]
+    head = "class {0.id:x} super {0.superclass:x} loader {0.loader:x} signers {0.signers:x} domain {0.domain:x} size {0.size}"
+    lines = [f"{head.format(found)} {found.label.printed}\n"]
     lines += map("constant {0.position} {0.pool_index} {0.type} {0.bits}\n".format, found.constants)
     lines += map("static {0.position} {0.type} {0.bits} {0.name.printed}\n".format, found.statics)
     lines += map("own {0.position} {0.type} {0.name.printed}\n".format, found.own)

@@ -61,14 +61,14 @@ class Command(unittest.TestCase):
     def test_each_number_of_a_hostile_dump(self):
         """Numbers that JSON does not have are words."""
         hostile = hostile_module().hostile()
-        found = json.loads(
-            subprocess.run([sys.executable, "-m", "hprof", "show", "5600", "/dev/stdin", "--json"], input=hostile, stdout=subprocess.PIPE).stdout
-        )
+        command = [sys.executable, "-m", "hprof", "show", "5600", "/dev/stdin", "--json"]
+        found = json.loads(subprocess.run(command, input=hostile, stdout=subprocess.PIPE).stdout)
         self.assertEqual(found["dump"]["numbers"][:3], ["NaN", "Infinity", "-Infinity"])
         self.assertEqual(json.loads(document((float("nan"), b"\x01\xff", True, None))), ["NaN", "01ff", True, None])
 
     def test_refusals(self):
-        for words, text in ((("why", "zz"), "no class has this name"), (("text", "1"), "nothing at 1"), (("check", MONDAY), "conflict at load 1")):
+        refused = ((("why", "zz"), "no class has this name"), (("text", "1"), "nothing at 1"), (("check", MONDAY), "conflict at load 1"))
+        for words, text in refused:
             done = run(*words, FRIDAY, "--json")
             self.assertEqual((done.returncode, done.stdout, done.stderr), (1, "", f"hprof: {text}\n"))
         done = run("histo", FRIDAY, "--json", "--program", "/nowhere/hprof")
@@ -76,7 +76,8 @@ class Command(unittest.TestCase):
         self.assertIn("no program", done.stderr)
 
     def test_words_that_are_not_understood(self):
-        for words in ((), ("histo",), ("nope", FRIDAY), ("why", FRIDAY), ("diff", FRIDAY), ("text", "zz", FRIDAY), ("histo", FRIDAY, "--nope")):
+        of_friday = (("nope",), ("why",), ("diff",), ("text", "zz"), ("histo", "--nope"))
+        for words in ((), ("histo",), *((*words, FRIDAY) for words in of_friday)):
             done = run(*words, "--json")
             self.assertEqual((done.returncode, done.stdout), (2, ""), words)
             self.assertTrue(done.stderr)

@@ -8,7 +8,10 @@ from hprof import Id, Name
 from hprof.names import escaped, unescaped
 
 # The printed forms that "Names as text" of docs/FORMAT.md gives.
-PRINTED = {"shop/Session": "shop/Session", "\u00e9": "\\u00e9", "\\": "\\u005c", "\0": "\\u0000", "\U0001f600": "\\ud83d\\ude00", "~\x7f": "~\\u007f"}
+PRINTED = {
+    "shop/Session": "shop/Session", "\u00e9": "\\u00e9", "\\": "\\u005c", "\0": "\\u0000", "\U0001f600": "\\ud83d\\ude00",
+    "~\x7f": "~\\u007f",
+}
 
 
 class Names(unittest.TestCase):

@@ -26,5 +26,6 @@ class Page(unittest.TestCase):
     def test_all_reports_and_errors_are_named(self):
         text = PAGE.read_text(encoding="utf-8")
         self.assertEqual(set(re.findall(r"`heap\.(\w+)\(", text)), {report.method for report in REPORTS})
-        errors = {name for name in hprof.__all__ if isinstance(getattr(hprof, name), type) and issubclass(getattr(hprof, name), hprof.Error)}
+        values = {name: getattr(hprof, name) for name in hprof.__all__}
+        errors = {name for name, value in values.items() if isinstance(value, type) and issubclass(value, hprof.Error)}
         self.assertEqual(set(re.findall(r"`hprof\.([A-Z]\w+)`", text)), errors)

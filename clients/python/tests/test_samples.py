@@ -62,7 +62,8 @@ class Samples(unittest.TestCase):
         found = self.heap.show(KIM)
         self.assertIsNone(found.class_dump)
         user, cart, page, opened = found.dump.entries
-        self.assertEqual((user.kind, user.position, user.name, user.value.id, user.value.node.text), ("field", 0, "user", 0x740000EC0, "kim"))
+        self.assertEqual((user.kind, user.position, user.name), ("field", 0, "user"))
+        self.assertEqual((user.value.id, user.value.node.text), (0x740000EC0, "kim"))
         self.assertEqual(cart.value.label, "java/util/ArrayList")
         self.assertEqual((page.value.label, page.value.length), ("byte[]", 45))
         self.assertEqual(opened.value, 1795762800000)
@@ -102,7 +103,8 @@ class Samples(unittest.TestCase):
     def test_threads(self):
         mailer = self.heap.threads()[1]
         self.assertEqual((mailer.number, mailer.name, mailer.elsewhere), (2, "mailer", ()))
-        self.assertEqual([one.frame.text for one in mailer.stack][:2], ["java.lang.Thread.sleep(Native Method)", "shop.Mailer.run(Mailer.java:31)"])
+        frames = ["java.lang.Thread.sleep(Native Method)", "shop.Mailer.run(Mailer.java:31)"]
+        self.assertEqual([one.frame.text for one in mailer.stack][:2], frames)
         self.assertTrue(mailer.stack[0].frame.native)
         self.assertEqual([node.id for node in mailer.stack[1].objects], [0x7400012A0])
 
@@ -120,14 +122,16 @@ class Samples(unittest.TestCase):
     def test_keeps(self):
         found = self.heap.keeps(CYD)
         self.assertEqual((found.reached, found.total, found.weak), ("strongly", (1729, 117), None))
-        self.assertEqual([(one.bytes, one.objects, one.id) for one in found.keepers[4:]], [(1066, 60, LIST), (1050, 59, 0x740000DF8), (135, 8, CYD)])
+        keepers = [(1066, 60, LIST), (1050, 59, 0x740000DF8), (135, 8, CYD)]
+        self.assertEqual([(one.bytes, one.objects, one.id) for one in found.keepers[4:]], keepers)
         self.assertEqual([one.label for one in found.kept], ["byte[]", "java/util/ArrayList", "java/lang/String"])
         self.assertEqual(self.heap.keeps(0x7400013C8).reached, "weakly")
         self.assertEqual(self.heap.keeps(0x7400015B0).reached, "not")
         self.assertIsNotNone(self.heap.keeps(0).weak)
 
     def test_many_questions_at_once(self):
-        found = self.heap.ask_all([("text", 0x7400007F0), "check", ("text", 1), ("why", "no.Such"), ("refs", LIST), ("path", 0x7400015B0)] * 500)
+        questions = [("text", 0x7400007F0), "check", ("text", 1), ("why", "no.Such"), ("refs", LIST), ("path", 0x7400015B0)]
+        found = self.heap.ask_all(questions * 500)
         self.assertEqual(len(found), 3000)
         self.assertEqual(set(found[::6]), {"cyd"})
         self.assertEqual({type(one) for one in found[2::6]}, {hprof.NothingAt})
