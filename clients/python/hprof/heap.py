@@ -136,11 +136,14 @@ class Heap:
         if self._closed:
             return
         self._closed = True
-        try:
-            if not self._dialogue.broken:
+        if self._dialogue.broken:
+            # An answer was broken off, and nobody reads on.
+            self._running.process.terminate()
+        else:
+            try:
                 self._dialogue.send(b"quit\n")
-        except (Ended, ValueError, OSError):
-            pass
+            except (Ended, OSError):
+                pass
         self._close_pipes()
         self._running.wait()
 

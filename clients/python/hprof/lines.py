@@ -18,11 +18,14 @@ def matched(pattern: Pattern[str], line: str) -> Match[str]:
 
 
 class Lines:
-    """The lines of an answer, and how many were taken."""
+    """The lines of an answer, each with its end, and how many were taken."""
 
     def __init__(self, text: str) -> None:
-        self.lines: List[str] = text.split("\n")[:-1]
+        self.lines: List[str] = text.split("\n")
         self.place = 0
+        last = self.lines.pop()
+        if last:
+            raise UnexpectedAnswer(last)
 
     def next_is(self, pattern: Pattern[str]) -> Optional[Match[str]]:
         """Takes the next line if the pattern matches it, and returns the match."""

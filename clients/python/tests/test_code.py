@@ -1,6 +1,7 @@
 """The code of the package: it runs with Python 3.8 and its standard library, and keeps to what CONTRIBUTING asks for."""
 
 import ast
+import subprocess
 import sys
 import unittest
 from pathlib import Path
@@ -28,6 +29,11 @@ class Code(unittest.TestCase):
         later = {"removeprefix", "removesuffix", "cache", "bit_count", "pairwise", "enterContext", "hardlink_to", "to_thread"}
         for path, tree in self.trees():
             self.assertEqual({node.attr for node in ast.walk(tree) if isinstance(node, ast.Attribute)} & later, set(), path)
+
+    def test_the_tests_need_a_program(self):
+        done = subprocess.run([sys.executable, str(HERE / "test"), "--hprof", "/nowhere/hprof"], stderr=subprocess.PIPE, text=True)
+        self.assertEqual(done.returncode, 1)
+        self.assertIn("no program at /nowhere/hprof", done.stderr)
 
     def test_length(self):
         for path, tree in self.trees():

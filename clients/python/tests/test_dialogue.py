@@ -131,6 +131,8 @@ talk(answer)"""
                 self.assertEqual(caught.exception.status, status)
         with script("print('1 2 3')") as path, self.assertRaises(hprof.UnexpectedAnswer):
             hprof.diff("old", "new", program=path)
+        with script("print('+1 +1 whole\\n+1 +1 cut', end='')") as path, self.assertRaises(hprof.UnexpectedAnswer):
+            hprof.diff("old", "new", program=path)
         with script("print('Hello! Ask me.', end='\\n\\n')") as path, self.assertRaises(hprof.UnexpectedAnswer):
             hprof.open("dump", program=path)
 
@@ -163,6 +165,15 @@ talk(answer)"""
             heap.histogram()
         with self.assertRaises(hprof.UnexpectedAnswer):
             heap.histogram()
+        heap.close()
+
+    def test_an_answer_that_is_broken_off_is_not_waited_for(self):
+        heap = self.opened("talk(lambda question: time.sleep(60))")
+        start = time.monotonic()
+        with mock.patch("hprof.dialogue.Dialogue.answer", side_effect=KeyboardInterrupt), self.assertRaises(KeyboardInterrupt):
+            heap.histogram()
+        heap.close()
+        self.assertLess(time.monotonic() - start, 8)
 
     def test_a_part_that_looks_like_an_option(self):
         heap = self.opened("words = sys.argv[1:]\ntalk(lambda question: 'text %d %s' % (len(words[1]), words[1]) + chr(10))")

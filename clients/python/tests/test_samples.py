@@ -5,7 +5,7 @@ import unittest
 import hprof
 from hprof import Growth, HistogramRow, Kept, Name, Node, Reference, RetainedRow, Size
 
-from .support import FRIDAY, MONDAY, program
+from .support import FRIDAY, MONDAY, program, within
 
 CYD, KIM, LIST = 0x740000850, 0x740000F20, 0x740000E58
 
@@ -138,6 +138,11 @@ class Samples(unittest.TestCase):
         self.assertEqual({type(one) for one in found[3::6]}, {hprof.NoSuchClass})
         self.assertEqual(found[-2], ((0x740000410, "static", 0),))
         self.assertEqual(self.heap.text(0x7400007F0), "cyd")
+
+    def test_more_questions_and_answers_than_pipes_hold(self):
+        with within(60):
+            found = self.heap.ask_all([("text", 0x740000810)] * 50_000)
+        self.assertEqual((len(found), set(found)), (50_000, {"<h1>Hello cyd</h1><p>1 items in your cart</p>"}))
 
     def test_all_objects_at_once(self):
         """Long answers to many questions, in the order of the questions."""
