@@ -26,7 +26,7 @@ class Names(unittest.TestCase):
         self.assertEqual((Name("\\u005cxff"), Name("\\u005cxff").is_text), ("\\xff", True))
 
     def test_copies(self):
-        name = Name("\\u005c\\u00e9")
+        name = Name("\\u005cu00e9")
         for again in (copy.deepcopy(name), pickle.loads(pickle.dumps(name))):
             self.assertEqual((again, again.printed), (name, name.printed))
         self.assertEqual(pickle.loads(pickle.dumps(Id(16))), 16)
