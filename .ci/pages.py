@@ -37,7 +37,7 @@ def words_of(path):
 def tree():
     """The words of each file of the tree that has names, by the file."""
     crates = ("crates/*/src/**/*.rt", "crates/*/specs/**/*.antt", "crates/*/proofs/*.antt", "crates/*/must-fail/*.edit")
-    files = {path: words_of(path) for kind in (*crates, "bench/**/*.py", "viewer/**/*.py") for path in ROOT.glob(kind)}
+    files = {path: words_of(path) for kind in (*crates, "bench/**/*.py", "viewer/**/*.py", "clients/**/*.py") for path in ROOT.glob(kind)}
     known = set().union(*files.values(), *({*path.parts, path.stem} for path in files))
     return files, known
 

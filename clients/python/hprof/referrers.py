@@ -1,0 +1,76 @@
+"""The reports `refs` and `who`: what refers to a class or an object."""
+
+from typing import Match, NamedTuple, Optional, Tuple
+
+from .lines import Lines, line
+from .names import Id, Name, identifier
+from .nodes import STEP, UNNAMED, Node, Reference, Root, node_of, reference_in, roots_of
+
+REFERRER = line(rf"(ID) ({UNNAMED}|static|field) (\d+)")
+# A label may have spaces: that of a line ends where the last reference begins, and that of a sum where the first one does.
+EDGE = line(rf"(?P<node>ID .*)(?<! weak) {STEP}")
+SUM = line(rf"(\d+) times (class )?(.*?) (weak )?(?:({UNNAMED})|(static|field) (.*))")
+NOTHING = line("nothing refers to ID")
+
+
+class Referrer(NamedTuple):
+    """A class or an object that refers to another: the kind of reference, and its position there."""
+
+    id: Id
+    kind: str
+    position: int
+
+
+class Holder(NamedTuple):
+    """A class or an object that refers to another, and how."""
+
+    node: Node
+    reference: Reference
+
+    @property
+    def id(self) -> Id:
+        return self.node.id
+
+    @property
+    def label(self) -> Name:
+        return self.node.label
+
+
+class Sum(NamedTuple):
+    """How many references of one kind and name come from the objects of one label, or from the class of this label if `of_class`."""
+
+    count: int  # type: ignore[assignment]
+    of_class: bool
+    label: Name
+    kind: str
+    name: Optional[Name]
+    weak: bool
+
+
+class Who(NamedTuple):
+    """The GC roots of a class or an object, sums of the references to it if there are more than 20, and each of these references."""
+
+    roots: Tuple[Root, ...]
+    sums: Tuple[Sum, ...]
+    holders: Tuple[Holder, ...]
+
+
+def refs(lines: Lines) -> Tuple[Referrer, ...]:
+    def made(match: Match[str]) -> Referrer:
+        return Referrer(identifier(match.group(1)), match.group(2), int(match.group(3)))
+
+    return lines.each(REFERRER, made)
+
+
+def sum_of(match: Match[str]) -> Sum:
+    count, of_class, label, weak, kind, named, name = match.groups()
+    return Sum(int(count), of_class is not None, Name(label), kind or named, None if name is None else Name(name), weak is not None)
+
+
+def who(lines: Lines) -> Who:
+    roots = roots_of(lines)
+    if lines.next_is(NOTHING):
+        lines.end()
+        return Who(roots, (), ())
+    sums = tuple(map(sum_of, lines.while_is(SUM)))
+    return Who(roots, sums, lines.each(EDGE, lambda match: Holder(node_of(match.group("node")), reference_in(match))))

@@ -1,0 +1,1 @@
+"""Tests of the package. `clients/python/test` runs them."""
