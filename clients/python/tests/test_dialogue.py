@@ -11,7 +11,7 @@ import hprof
 from hprof import program as program_module
 from hprof.dialogue import TURN, turns
 
-from .support import script
+from .support import script, within
 
 # A program that answers each line with `answer(question)`, and `help` with one line.
 TALK = """
@@ -19,7 +19,7 @@ def talk(answer):
     for line in sys.stdin:
         question = line.rstrip("\\n")
         if question == "quit":
-            break
+            return "ended by quit"
         sys.stdout.write("check\\n\\n" if question == "help" else answer(question) + "\\n")
         sys.stdout.flush()
 """
@@ -27,6 +27,9 @@ HISTO = "1 1 - byte[]\\n"
 
 
 class Dialogue(unittest.TestCase):
+    def setUp(self):
+        self.enterContextOf(within(60))
+
     def opened(self, body):
         """A heap of a script, which is closed at the end of the test."""
         path = self.enterContextOf(script(TALK + body))
@@ -124,7 +127,8 @@ talk(answer)"""
                     self.assertEqual({name: getattr(caught.exception, name) for name in values}, values)
 
     def test_another_program(self):
-        for body, status in (("sys.exit('usage: no such command')", 1), ("", 0), ("sys.exit(3)", 3)):
+        late = "sys.stderr.write('hprof: out of memory'); sys.exit(9)"
+        for body, status in (("sys.exit('usage: no such command')", 1), ("", 0), ("sys.exit(3)", 3), (late, 9)):
             with self.subTest(body=body), script(body) as path:
                 with self.assertRaises(hprof.ProgramEnded) as caught:
                     hprof.open("dump", program=path)
@@ -144,8 +148,7 @@ talk(answer)"""
     def test_closing_waits_for_the_end(self):
         with tempfile.TemporaryDirectory() as folder:
             note = Path(folder) / "note"
-            heap = self.opened(f"talk(lambda question: '{HISTO}')\ntime.sleep(0.3)\nopen({str(note)!r}, 'w').write(line_of_end)".replace(
-                "line_of_end", "'ended by quit'"))
+            heap = self.opened(f"how = talk(lambda question: '{HISTO}')\ntime.sleep(0.3)\nopen({str(note)!r}, 'w').write(str(how))")
             heap.histogram()
             heap.close()
             self.assertEqual(note.read_text(), "ended by quit")
