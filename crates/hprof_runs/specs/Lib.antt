@@ -19,3 +19,4 @@ pub mod Header
 pub mod RunCursor
 pub mod Known
 pub mod AnyRows
+pub mod FileScratch

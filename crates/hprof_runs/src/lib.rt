@@ -2,6 +2,7 @@
 //! says so. The cursors over both are merged by `hprof_merge`.
 #![tactic(auto)]
 
+mod file_scratch;
 mod firsts;
 mod header;
 mod known_cursor;
@@ -24,6 +25,7 @@ mod sorted_rows;
 #[cfg(test)]
 mod tests;
 
+pub use file_scratch::FileScratch;
 pub use firsts::Firsts;
 pub use known_cursor::KnownCursor;
 pub use memory_scratch::MemoryScratch;

@@ -2,6 +2,7 @@
 
 ghost use Rattle.std.specs.Prelude.{◌≡◌, ◌++◌, ◌∷◌, [], None, ⊤};
 
+use crate::file_scratch::FileScratch;
 use crate::firsts::Firsts;
 use crate::memory_scratch::MemoryScratch;
 use crate::opening::open_all;
@@ -14,7 +15,9 @@ use hprof_devices::{ReadFault, Target, WriteFault};
 use hprof_merge::{MergeStop, OneOf, RowCursor, RowSink, merge_rows};
 use std::alloc::{AllocError, Global};
 use std::convert::Infallible;
+use std::fs::{File, OpenOptions};
 use std::test::Fail;
+use std::{env, fs};
 
 /// A sink that keeps keys, and bytes one after the other.
 #[derive(Drop)]
@@ -213,5 +216,42 @@ fn keeps_the_first_rows(rt: HostRuntime) -> Result<(), Fail> {
     rows.push(1, b"one")?;
     rows.clear();
     assert_eq!(rt; rows.len(), 0);
+    Ok(())
+}
+
+/// A file that is read and written, and that no folder names.
+fn nameless(rt: &HostRuntime) -> Result<File, Fail> {
+    let folder = env::temp_dir(rt)?;
+    let folder = folder.to_str().ok_or("the folder's name is text")?;
+    let path = format!(in rt.alloc(); "{folder}/hprof-scratch-of-a-test")?;
+    let _ = fs::remove_file(rt, path.as_str());
+    let file = OpenOptions::new()
+        .read(true)
+        .write(true)
+        .create_new(true)
+        .open(rt, path.as_str())?;
+    fs::remove_file(rt, path.as_str())?;
+    Ok(file)
+}
+
+#[test]
+fn keeps_runs_in_a_file(rt: HostRuntime) -> Result<(), Fail> {
+    let alloc = rt.alloc();
+    let long = vec![in alloc; 7; 100_000]?;
+    let mut runs = Runs::new(alloc, FileScratch::new(nameless(&rt)?))?;
+    runs.add(&sorted(alloc, &[(5, b"e"), (1, &long), (5, b"e")])?)?;
+    runs.add(&sorted(alloc, &[(3, b"c"), (2, b"b")])?)?;
+    assert_eq!(rt; runs.count(), 2);
+    let rows = sorted(alloc, &[(4, b"d")])?;
+    let mut cursors = open_all::<FileScratch, Firsts<'_>>(alloc, &rows, &runs)?;
+    let mut sink = Collected {
+        keys: Vec::new(alloc),
+        bytes: Vec::new(alloc),
+    };
+    let outcome = merge_rows(alloc, &mut cursors, &mut sink);
+    assert!(rt; outcome.is_ok());
+    assert_eq!(rt; sink.keys.as_slice(), [1, 2, 3, 4, 5].as_slice());
+    assert_eq!(rt; sink.bytes.len(), 100_004);
+    assert!(rt; sink.bytes.ends_with(b"bcde"));
     Ok(())
 }
