@@ -99,6 +99,7 @@ class LinesOfReports(unittest.TestCase):
         self.assertEqual([(one.name, one.owner) for one in fields], [("a", None), ("c", "p/A"), ("d", "p/A"), ("e", "p/A")])
         self.assertEqual((fields[0].value.id, fields[0].value.node.text), (0x11, "x = y"))
         self.assertEqual([one.value for one in fields[1:]], ["\u00e9", -3.0, False])
+        self.assertEqual(asked(("show", 2)).read("2 classes have this name\n").dump.node, Node(2, "object", "classes have this name"))
         array = self.read("show", "10 [Lp/A; of 9\n  element 3 = 11 p/A\n  .. 2 more\n  6 null\n").dump
         self.assertEqual((array.length, array.node.label, array.left_out, array.nulls, array.entries[0].position), (9, "[Lp/A;", 2, 6, 3))
 
