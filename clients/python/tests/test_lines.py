@@ -20,7 +20,7 @@ root thread object thread 7 trace 2
 11 p/Test$adds field 2 of it field 0 this$0
 12 p/A static 1 
 """
-THREADS = """thread 1 20 java/lang/Thread "main" .. 3 more
+THREADS = """thread 1 20 java/lang/Thread "the "main" one" .. 3 more
   at java.lang.Thread.park(Native Method)
   at shop.Node.go(Unknown Source:7)
   at \\?.x(Node.java, compiled)
@@ -75,7 +75,7 @@ class LinesOfReports(unittest.TestCase):
 
     def test_threads(self):
         one, other = self.read("threads", THREADS)
-        self.assertEqual((one.name, one.node.left_out, other.name, other.node), ("main", 3, None, None))
+        self.assertEqual((one.name, one.node.left_out, other.name, other.node), ('the "main" one', 3, None, None))
         frames = [(found.frame.class_name, found.frame.method, found.frame.source, found.frame.line) for found in one.stack]
         self.assertEqual(frames, [
             ("java.lang.Thread", "park", None, None), ("shop.Node", "go", None, 7), ("\\?", "x", "Node.java", None),
