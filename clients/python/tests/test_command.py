@@ -15,7 +15,7 @@ KIM = 0x740000F20
 
 def run(*words, **options):
     command = [sys.executable, "-m", "hprof", *map(str, words)]
-    return subprocess.run(command, stdout=subprocess.PIPE, stderr=subprocess.PIPE, text=True, cwd=SAMPLES, **options)
+    return subprocess.run(command, stdout=subprocess.PIPE, stderr=subprocess.PIPE, text=True, cwd=SAMPLES, timeout=60, **options)
 
 
 class Command(unittest.TestCase):

@@ -20,7 +20,7 @@ root thread object thread 7 trace 2
 11 p/Test$adds field 2 of it field 0 this$0
 12 p/A static 1 
 """
-THREADS = """thread 1 20 java/lang/Thread "main" .. 3 more
+THREADS = """thread 1 20 java/lang/Thread "the "main" one" .. 3 more
   at java.lang.Thread.park(Native Method)
   at shop.Node.go(Unknown Source:7)
   at \\?.x(Node.java, compiled)
@@ -75,7 +75,7 @@ class LinesOfReports(unittest.TestCase):
 
     def test_threads(self):
         one, other = self.read("threads", THREADS)
-        self.assertEqual((one.name, one.node.left_out, other.name, other.node), ("main", 3, None, None))
+        self.assertEqual((one.name, one.node.left_out, other.name, other.node), ('the "main" one', 3, None, None))
         frames = [(found.frame.class_name, found.frame.method, found.frame.source, found.frame.line) for found in one.stack]
         self.assertEqual(frames, [
             ("java.lang.Thread", "park", None, None), ("shop.Node", "go", None, 7), ("\\?", "x", "Node.java", None),
@@ -99,6 +99,7 @@ class LinesOfReports(unittest.TestCase):
         self.assertEqual([(one.name, one.owner) for one in fields], [("a", None), ("c", "p/A"), ("d", "p/A"), ("e", "p/A")])
         self.assertEqual((fields[0].value.id, fields[0].value.node.text), (0x11, "x = y"))
         self.assertEqual([one.value for one in fields[1:]], ["\u00e9", -3.0, False])
+        self.assertEqual(asked(("show", 2)).read("2 classes have this name\n").dump.node, Node(2, "object", "classes have this name"))
         array = self.read("show", "10 [Lp/A; of 9\n  element 3 = 11 p/A\n  .. 2 more\n  6 null\n").dump
         self.assertEqual((array.length, array.node.label, array.left_out, array.nulls, array.entries[0].position), (9, "[Lp/A;", 2, 6, 3))
 
