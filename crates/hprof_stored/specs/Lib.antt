@@ -3,3 +3,4 @@ pub mod Storing
 pub mod Holding
 pub mod HoldingLaws
 pub mod Reading
+pub mod Dumping

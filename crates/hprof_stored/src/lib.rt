@@ -1,13 +1,16 @@
 //! The first reading of parts that are larger than the memory: all facts but objects go into a heap, and the objects into a log.
 #![tactic(auto)]
 
+mod dumping;
 mod reading;
 mod stored_fault;
 mod stored_heap;
 mod stored_sink;
+mod sub_buffer;
 #[cfg(test)]
 mod tests;
 
+pub use dumping::write_stored_dump;
 pub use reading::read_stored;
 pub use stored_fault::StoredFault;
 pub use stored_heap::StoredHeap;
