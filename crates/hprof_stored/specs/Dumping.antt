@@ -12,6 +12,7 @@ use Rattle.hprof_rows.specs.HeapValue.{HeapValue}
 use Rattle.hprof_rows.specs.SubFacts.{sub_facts}
 use Rattle.hprof_dump.specs.Dump.{record_facts_bytes}
 use Rattle.hprof_merge.specs.Rows.{ByteRow}
+use Rattle.hprof_merge.specs.TwoContents.{IsLeastWithTwoContents}
 use Rattle.hprof_segments.specs.declared.segment_fault.SegmentFault.{SegmentFault}
 use Rattle.hprof_segments.specs.declared.segment_fault.SegmentFault.TheVariants as segments
 use Rattle.hprof_segments.specs.ByteSegments.{segment_records}
@@ -57,3 +58,11 @@ LeavesTarget (Err (stops.Scratch fault)) health = health ≡ Well
 LeavesTarget (Err (stops.Part part fault)) health = health ≡ Well
 LeavesTarget (Err (stops.Sink segments.NoSubRecord)) health = ⊤
 LeavesTarget (Err (stops.Sink (segments.Write fault))) health = health ≡ health_after fault
+
+-- a merge that stops at two contents has found the least key that has them
+abbrev pub FindsLeast : List (List ByteRow) → ObjectStop SegmentFault → Type 0
+FindsLeast lists stops.OutOfMemory = ⊤
+FindsLeast lists (stops.TwoContents key) = IsLeastWithTwoContents lists key
+FindsLeast lists (stops.Scratch fault) = ⊤
+FindsLeast lists (stops.Part part fault) = ⊤
+FindsLeast lists (stops.Sink fault) = ⊥

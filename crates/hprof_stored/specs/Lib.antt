@@ -4,3 +4,4 @@ pub mod Holding
 pub mod HoldingLaws
 pub mod Reading
 pub mod Dumping
+pub mod JoiningStored

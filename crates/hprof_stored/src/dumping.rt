@@ -46,11 +46,14 @@ fn take_sub<W: Target>(
     requires target { W.health target.old ≡ Well }
     requires writable { IsWritable ids row }
     ensures taken { (start : Option (List ℕ)) (subs : List (List ℕ)) → HasTaken start (W.written target.old) (held_bytes writer.old) subs
-        → TakesSubs start (W.written target.new) (held_bytes writer.new) (subs ++ dump_bytes ids (sub_fact ids row) ∷ []) result }
+        → TakesSubs start (W.written target.new) (held_bytes writer.new) (subs ++ dump_bytes ids (sub_fact ids row.entry) ∷ []) result }
     ensures buffer { OnOk result (buffer.new.health ≡ Well) }
     ensures health { LeavesTarget result (W.health target.new) }
 {
-    buffer.clear();
+    let len = row.len(ids);
+    if buffer.begin(len as usize).is_err() {
+        return Err(ObjectStop::OutOfMemory);
+    }
     if row.write(ids, buffer).is_err() {
         return Err(ObjectStop::OutOfMemory);
     }
@@ -76,7 +79,9 @@ fn take_subs<W: Target>(
     let mut rows = heap.sub_rows();
     let ids = rows.ids();
     while let Some(row) = rows.next() {
-        take_sub(row, ids, &mut buffer, writer, target)?;
+        if let Err(stop) = take_sub(row, ids, &mut buffer, writer, target) {
+            return Err(stop);
+        }
     }
     Ok(())
 }
@@ -159,8 +164,12 @@ pub fn write_stored_dump<S: Scratch + Drop, R: Source + Drop, P: Parts<Reader = 
     if let Err(fault) = write_front(heap, target) {
         return Err(ObjectStop::Sink(SegmentFault::Write(fault)));
     }
-    take_subs(alloc, heap, writer, target)?;
-    take_objects(alloc, objects, parts, limits, writer, target)?;
+    if let Err(stop) = take_subs(alloc, heap, writer, target) {
+        return Err(stop);
+    }
+    if let Err(stop) = take_objects(alloc, objects, parts, limits, writer, target) {
+        return Err(stop);
+    }
     match write_end(writer, target) {
         Ok(()) => Ok(()),
         Err(fault) => Err(ObjectStop::Sink(SegmentFault::Write(fault))),

@@ -2,6 +2,10 @@
 #![tactic(auto)]
 
 mod dumping;
+mod finding;
+mod join_stop;
+mod joining;
+pub mod laws;
 mod reading;
 mod stored_fault;
 mod stored_heap;
@@ -11,6 +15,9 @@ mod sub_buffer;
 mod tests;
 
 pub use dumping::write_stored_dump;
+pub use finding::find_conflict;
+pub use join_stop::JoinStop;
+pub use joining::join_stored;
 pub use reading::read_stored;
 pub use stored_fault::StoredFault;
 pub use stored_heap::StoredHeap;

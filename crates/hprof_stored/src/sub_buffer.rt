@@ -4,7 +4,7 @@ ghost use Rattle.std.specs.Prelude.{◌≡◌, [], Some};
 ghost use Rattle.hprof_devices.specs.declared.health.Health.TheVariants.{Well};
 
 use hprof_devices::{Health, Target, WriteFault};
-use std::alloc::Global;
+use std::alloc::{AllocError, Global};
 
 /// Bytes in memory. A write fails if memory runs out.
 #[derive(Drop)]
@@ -24,12 +24,13 @@ impl SubBuffer {
         }
     }
 
-    /// Forgets the bytes, and keeps their room.
-    pub(crate) fn clear(&mut self)
+    /// Forgets the bytes, and makes room for so many.
+    pub(crate) fn begin(&mut self, count: usize) -> Result<(), AllocError>
         ensures bytes { self.new.bytes.items ≡ [] }
         ensures health { self.new.health ≡ self.old.health }
     {
         self.bytes.clear();
+        self.bytes.reserve(count)
     }
 }
 
