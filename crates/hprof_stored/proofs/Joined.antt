@@ -1,9 +1,8 @@
 -- The dump of parts, of the heap without objects and of the stored objects.
-use Rattle.std.proofs.Common.{◌≡◌, ℕ, zero, suc, List, [], ◌∷◌, ◌++◌, length, map, take, Option, Some, None, Result, Ok, Err, refl, sym, ap, subst, ◌∙◌}
-use Rattle.std.specs.Prelude.{slice_get, ⊤}
+use Rattle.std.proofs.Common.{◌≡◌, ℕ, zero, suc, List, [], ◌∷◌, length, map, take, Option, Some, Ok, Err, refl, sym, ap, subst}
+use Rattle.std.specs.Prelude.{slice_get}
 use Rattle.std.specs.List.{AllByRecursion}
 use Rattle.std.proofs.Math.Seq.{take-length}
-use Rattle.std.specs.Io.KnownBytes.{Appends}
 use Rattle.hprof_devices.specs.declared.health.Health.{Health}
 use Rattle.hprof_values.specs.declared.ids.IdSize.{IdSize}
 use Rattle.hprof_items.specs.FactValue.{FactValue}
@@ -24,13 +23,13 @@ use Rattle.hprof_objects.specs.PartsRead.{PartRead}
 use Rattle.hprof_objects.specs.ReadAgain.{IsSame, IsSameAt}
 use Rattle.hprof_objects.specs.StoredObjects.{AreToldAgain, HoldsObjects, objects_of}
 use Rattle.hprof_objects.specs.Whole.{AreObjects, FitGiven, rows_given, with_objects, without_objects}
-use Rattle.hprof_engine.specs.Joining.{AreGiven, Disagree, Tell}
-use Rattle.hprof_engine.specs.Makes.{IsDump, WritesAll, WritesFront}
+use Rattle.hprof_engine.specs.Joining.{AreGiven, Tell}
+use Rattle.hprof_engine.specs.Makes.{IsDump}
 use Rattle.hprof_engine.specs.Summaries.{AreSummaries}
 use Rattle.hprof_engine.proofs.Answers.{agree, disagree}
 use Rattle.hprof_engine.proofs.OneSummary.{some_summary_each}
 use Rattle.hprof_engine.proofs.Together.{part_fits}
-use Rattle.hprof_stored.specs.Dumping.{FindsLeast, WritesOrStops, dump_with}
+use Rattle.hprof_stored.specs.Dumping.{FindsLeast, dump_with}
 use Rattle.hprof_stored.specs.JoiningStored.{IsFound}
 use Rattle.hprof_stored.specs.Parts.{AreStored, PartStored, all_read, given_of, others_of, read_of}
 use Rattle.hprof_stored.proofs.Dumped.{dump_of_all}
@@ -137,8 +136,3 @@ module _ {R : Type 0} (left : R → Option (List ℕ)) (limits : Limits) (old : 
   is_found last (stops.Scratch fault) finds = tt
   is_found last (stops.Part part fault) finds = tt
   is_found last (stops.Sink fault) finds = finds
-
--- a front of the dump
-pub front_written : {A E : Type 0} (parts : List (List ℕ)) (before after : Option (List ℕ)) (text : List ℕ) (stop : E)
-    → IsDump parts text → WritesOrStops {A = A} before after (Err stop) text → WritesFront IsDump parts before after
-front_written parts before after text stop is writes = (text, writes.0, is, writes.2)
