@@ -1,10 +1,13 @@
-//! The first reading of parts that are larger than the memory: all facts but objects go into a heap, and the objects into a log.
+//! Parts that are larger than the memory: at the first reading all facts but objects go into a heap, and the objects into a log. The canonical
+//! dump of the parts is written of both.
 #![tactic(auto)]
 
 mod dumping;
 mod finding;
 mod join_stop;
 mod joining;
+#[cfg(test)]
+mod joining_tests;
 pub mod laws;
 mod reading;
 mod stored_fault;
