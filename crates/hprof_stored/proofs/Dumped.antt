@@ -18,7 +18,10 @@ use Rattle.hprof_segments.specs.ByteSegments.{segment_records}
 use Rattle.hprof_segments.proofs.Mapped.{facts_packed}
 use Rattle.hprof_objects.specs.ObjectRows.{object_row}
 use Rattle.hprof_objects.specs.Whole.{AreObjects}
-use Rattle.hprof_stored.specs.Dumping.{bytes_of, dump_with, subs_of}
+use Rattle.std.proofs.Common.{subst}
+use Rattle.hprof_segments.specs.ByteSegments.{IsSub}
+use Rattle.hprof_segments.proofs.FactSubs.{fact_is_sub}
+use Rattle.hprof_stored.specs.Dumping.{AreSubRecords, bytes_of, dump_with, subs_of}
 
 -- what stands before the sub-records
 abbrev pub front_bytes : HeapValue → List ℕ
@@ -100,3 +103,13 @@ dump_of_all heap rows objects are =
     ∙ ap (λ (l : List (List ℕ)). header ++ (record_facts_bytes ids (heap.facts ++ objects) ++ (segment_records l ++ end))) all
     ∙ ap (λ (l : List ℕ). header ++ (record_facts_bytes ids (heap.facts ++ objects) ++ (l ++ end)))
     (facts_packed ids (heap.facts ++ objects))
+
+pub rows_are_subs : (ids : IdSize) (rows : List ByteRow) (objects : List FactValue) → AreObjects ids rows objects → AreSubRecords rows
+rows_are_subs ids [] [] are = tt
+rows_are_subs ids [] (fact ∷ objects) are = absurd are
+rows_are_subs ids (row ∷ rows) [] are = absurd are
+rows_are_subs ids (row ∷ rows) (fact ∷ objects) are =
+    let first = sub_of ids fact row are.1 in (
+      subst IsSub first.bytes (fact_is_sub ids fact are.0 (ap not first.none)),
+      rows_are_subs ids rows objects are.2,
+    )

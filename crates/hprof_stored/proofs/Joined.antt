@@ -29,10 +29,15 @@ use Rattle.hprof_engine.specs.Summaries.{AreSummaries}
 use Rattle.hprof_engine.proofs.Answers.{agree, disagree}
 use Rattle.hprof_engine.proofs.OneSummary.{some_summary_each}
 use Rattle.hprof_engine.proofs.Together.{part_fits}
-use Rattle.hprof_stored.specs.Dumping.{FindsLeast, dump_with}
-use Rattle.hprof_stored.specs.JoiningStored.{IsFound}
+use Rattle.std.proofs.Common.{sym, ◌∙◌}
+use Rattle.hprof_devices.specs.declared.health.Health.{Health}
+use Rattle.hprof_devices.specs.declared.health.Health.TheVariants as healths
+use Rattle.hprof_devices.specs.declared.health.WriteFault.TheVariants as writes
+use Rattle.hprof_segments.specs.declared.segment_fault.SegmentFault.TheVariants as segments
+use Rattle.hprof_stored.specs.Dumping.{AreSubRecords, IsOfDevices, LeavesTarget, FindsLeast, dump_with}
+use Rattle.hprof_stored.specs.JoiningStored.{IsFound, IsHinderedStop, IsTwoContents}
 use Rattle.hprof_stored.specs.Parts.{AreStored, PartStored, all_read, given_of, others_of, read_of}
-use Rattle.hprof_stored.proofs.Dumped.{dump_of_all}
+use Rattle.hprof_stored.proofs.Dumped.{dump_of_all, rows_are_subs}
 
 -- ---- parts that are read again
 
@@ -136,3 +141,31 @@ module _ {R : Type 0} (left : R → Option (List ℕ)) (limits : Limits) (old : 
   is_found last (stops.Scratch fault) finds = tt
   is_found last (stops.Part part fault) finds = tt
   is_found last (stops.Sink fault) finds = finds
+
+  pub are_subs : StandBehind → (rows : List ByteRow) → IsUnion (objects_of (all_read stored)) rows → AreSubRecords rows
+  are_subs behind rows union =
+      let objects = behind (given_of stored) heap.ids rows (same_ids heap.ids (given_of stored) tells.0) (fits limits parts stored by_parts)
+      (subst (λ (l : List (List ByteRow)). IsUnion l rows) (rows_same stored) union) in
+      rows_are_subs heap.ids rows objects.0 objects.1
+
+-- ---- no other answer
+
+pub found_other : (parts : List (List ℕ)) (stop : ObjectStop SegmentFault) → IsFound parts stop → (IsHinderedStop stop → ⊥)
+    → IsTwoContents stop
+found_other parts stops.OutOfMemory found unhindered = unhindered tt
+found_other parts (stops.TwoContents key) found unhindered = tt
+found_other parts (stops.Scratch fault) found unhindered = unhindered tt
+found_other parts (stops.Part part fault) found unhindered = unhindered tt
+found_other parts (stops.Sink fault) found unhindered = found
+
+pub written_other : (stop : ObjectStop SegmentFault) (health : Health) → IsOfDevices stop → LeavesTarget {A = Unit {0}} (Err stop) health
+    → health ≡ healths.Well → (IsHinderedStop stop → ⊥) → ⊥
+written_other stops.OutOfMemory health device left well unhindered = unhindered tt
+written_other (stops.TwoContents key) health device left well unhindered = device
+written_other (stops.Scratch fault) health device left well unhindered = unhindered tt
+written_other (stops.Part part fault) health device left well unhindered = unhindered tt
+written_other (stops.Sink segments.NoSubRecord) health device left well unhindered = device
+written_other (stops.Sink (segments.Write writes.Failed)) health device left well unhindered =
+    let no : healths.Failed ≡ healths.Well = sym left ∙ well in cc
+written_other (stops.Sink (segments.Write writes.Stuck)) health device left well unhindered =
+    let no : healths.Stuck ≡ healths.Well = sym left ∙ well in cc

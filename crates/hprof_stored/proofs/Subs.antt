@@ -11,12 +11,12 @@ use Rattle.hprof_merge.specs.Rows.{ByteRow}
 use Rattle.hprof_merge.specs.Run.{Runs}
 use Rattle.hprof_merge.specs.Merging.{TakesBelow}
 use Rattle.hprof_merge.specs.Union.{IsUnion}
-use Rattle.hprof_merge.proofs.Unions.{union_unique, union_front}
+use Rattle.hprof_merge.proofs.Unions.{union_apart, union_unique, union_front}
 use Rattle.hprof_segments.specs.declared.segment_sink.SegmentSink.{SegmentSink}
 use Rattle.hprof_segments.specs.declared.segment_writer.SegmentWriter.{SegmentWriter}
 use Rattle.hprof_segments.specs.declared.segment_fault.SegmentFault.{SegmentFault}
 use Rattle.hprof_segments.specs.declared.segment_fault.SegmentFault.TheVariants as segments
-use Rattle.hprof_segments.specs.ByteSegments.{segment_records}
+use Rattle.hprof_segments.specs.ByteSegments.{IsSub, segment_records}
 use Rattle.hprof_segments.specs.Sink.{sink_state, IsOverSame, HasTakenRows, TakesRow, TakesIntoSink, SinkRefuses}
 use Rattle.hprof_segments.specs.Taking.{HasTaken, EndsTaking}
 use Rattle.hprof_segments.specs.Writer.{held_bytes}
@@ -26,7 +26,11 @@ use Rattle.hprof_segments.proofs.Viewed.{run_viewed}
 use Rattle.hprof_objects.specs.declared.object_stop.ObjectStop.{ObjectStop}
 use Rattle.hprof_objects.specs.declared.object_stop.ObjectStop.TheVariants as stops
 use Rattle.hprof_objects.specs.MergedObjects.{MergesLists, UnlessRefused}
-use Rattle.hprof_stored.specs.Dumping.{LeavesTarget, TakesSubs, WritesSome, bytes_of}
+use Rattle.std.specs.Prelude.{IfErr}
+use Rattle.std.specs.List.{AllByRecursion}
+use Rattle.hprof_objects.specs.PartsRead.{PartRead}
+use Rattle.hprof_objects.specs.StoredObjects.{objects_of}
+use Rattle.hprof_stored.specs.Dumping.{AreSubRecords, IsOfDevices, LeavesTarget, TakesSubs, WritesSome, bytes_of}
 
 -- a front of some bytes
 pub some_of : (start now : Option (List ℕ)) (sent rest text : List ℕ) → Appends start now sent → text ≡ sent ++ rest → WritesSome start now text
@@ -187,3 +191,35 @@ module _ {A : Type 0} (f : A → List ℕ) where
       (sym (ap (λ (l : List (List ℕ)). l ++ more) (so_far done next rest all is)
       ∙ append_assoc (map f done ++ f next ∷ []) (map f rest) more))
       (some (map f rest ++ more))
+
+-- ---- why a merge stops
+
+middle : (P : ByteRow → Type 0) (front : List ByteRow) (row : ByteRow) (rest : List ByteRow)
+    → AllByRecursion P ((front ++ row ∷ []) ++ rest) → P row
+middle P [] row rest all = all.0
+middle P (first ∷ front) row rest all = middle P front row rest all.1
+
+module _ {W : Type 0} (written : W → Option (List ℕ)) (health : W → Health) where
+  of_devices : (lists : List (List ByteRow)) (rows : List ByteRow) → IsUnion lists rows → AreSubRecords rows
+      → (stop : ObjectStop SegmentFault) (old new : SegmentSink W)
+      → MergesLists (TakesIntoSink written) {A = Unit {0}} (SinkRefuses written health) lists (Err stop) old new → IsOfDevices stop
+  of_devices lists rows union all stops.OutOfMemory old new merged = tt
+  of_devices lists rows union all (stops.TwoContents key) old new merged = union_apart lists rows key union merged.0.contents
+  of_devices lists rows union all (stops.Scratch fault) old new merged = tt
+  of_devices lists rows union all (stops.Part part fault) old new merged = tt
+  of_devices lists rows union all (stops.Sink segments.NoSubRecord) old new merged =
+      let row = merged.0 in
+      let it = merged.1 in
+      let cut = union_front lists (row.0 + 1) (it.front ++ row ∷ []) rows it.union union in
+      it.refused.1.0 (middle (λ (r : ByteRow). IsSub r.1) it.front row cut.0
+      (subst (λ (l : List ByteRow). AllByRecursion (λ (r : ByteRow). IsSub r.1) l) cut.1 all))
+  of_devices lists rows union all (stops.Sink (segments.Write fault)) old new merged = tt
+
+  pub stops_of_devices : (Told : List PartRead → Type 0) (r : Result (Unit {0}) (ObjectStop SegmentFault)) (old new : SegmentSink W)
+      → ((reads : List PartRead) → Told reads
+      → MergesLists (TakesIntoSink written) (SinkRefuses written health) (objects_of reads) r old new)
+      → IfErr r (λ stop. (reads : List PartRead) (rows : List ByteRow) → Told reads → IsUnion (objects_of reads) rows
+      → AreSubRecords rows → IsOfDevices stop)
+  stops_of_devices Told (Ok done) old new merged = tt
+  stops_of_devices Told (Err stop) old new merged = λ reads rows told union all.
+      of_devices (objects_of reads) rows union all stop old new (merged reads told)

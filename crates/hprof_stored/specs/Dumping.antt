@@ -1,5 +1,6 @@
 -- The dump of a heap, whose objects are rows.
 use Rattle.std.specs.Prelude.{◌≡◌, ◌≤◌, ℕ, List, ◌++◌, length, map, take, Option, Result, Ok, Err, ⊤}
+use Rattle.std.specs.List.{AllByRecursion}
 use Rattle.std.specs.Io.KnownBytes.{Appends}
 use Rattle.hprof_devices.specs.declared.health.Health.{Health}
 use Rattle.hprof_devices.specs.declared.health.Health.TheVariants.{Well}
@@ -15,7 +16,7 @@ use Rattle.hprof_merge.specs.Rows.{ByteRow}
 use Rattle.hprof_merge.specs.TwoContents.{IsLeastWithTwoContents}
 use Rattle.hprof_segments.specs.declared.segment_fault.SegmentFault.{SegmentFault}
 use Rattle.hprof_segments.specs.declared.segment_fault.SegmentFault.TheVariants as segments
-use Rattle.hprof_segments.specs.ByteSegments.{segment_records}
+use Rattle.hprof_segments.specs.ByteSegments.{IsSub, segment_records}
 use Rattle.hprof_segments.specs.Taking.{HasTaken}
 use Rattle.hprof_objects.specs.declared.object_stop.ObjectStop.{ObjectStop}
 use Rattle.hprof_objects.specs.declared.object_stop.ObjectStop.TheVariants as stops
@@ -66,3 +67,16 @@ FindsLeast lists (stops.TwoContents key) = IsLeastWithTwoContents lists key
 FindsLeast lists (stops.Scratch fault) = ⊤
 FindsLeast lists (stops.Part part fault) = ⊤
 FindsLeast lists (stops.Sink fault) = ⊥
+
+-- each row may be a sub-record
+abbrev pub AreSubRecords : List ByteRow → Type 0
+AreSubRecords rows = AllByRecursion (λ row. IsSub row.1) rows
+
+-- memory, the scratch, a part or the target is the reason, and not the objects
+abbrev pub IsOfDevices : ObjectStop SegmentFault → Type 0
+IsOfDevices stops.OutOfMemory = ⊤
+IsOfDevices (stops.TwoContents key) = ⊥
+IsOfDevices (stops.Scratch fault) = ⊤
+IsOfDevices (stops.Part part fault) = ⊤
+IsOfDevices (stops.Sink segments.NoSubRecord) = ⊥
+IsOfDevices (stops.Sink (segments.Write fault)) = ⊤

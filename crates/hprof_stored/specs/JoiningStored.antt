@@ -1,5 +1,5 @@
 -- What joining parts answers, whose objects are stored.
-use Rattle.std.specs.Prelude.{◌≡◌, ℕ, List, Option, Some, None, Result, Ok, Err, ⊤}
+use Rattle.std.specs.Prelude.{◌≡◌, ℕ, List, length, Option, Some, None, Result, Ok, Err, ⊤}
 use Rattle.hprof_devices.specs.declared.health.Health.{Health}
 use Rattle.hprof_devices.specs.declared.health.Health.TheVariants.{Well}
 use Rattle.hprof_stream.specs.declared.limits.Limits.{Limits}
@@ -7,12 +7,12 @@ use Rattle.hprof_rows.specs.declared.key.Key.TheVariants as keys
 use Rattle.hprof_segments.specs.declared.segment_fault.SegmentFault.{SegmentFault}
 use Rattle.hprof_objects.specs.declared.object_stop.ObjectStop.{ObjectStop}
 use Rattle.hprof_objects.specs.declared.object_stop.ObjectStop.TheVariants as stops
-use Rattle.hprof_engine.specs.Joining.{Disagree}
+use Rattle.hprof_engine.specs.Joining.{AreReadOut, Disagree}
 use Rattle.hprof_engine.specs.Makes.{IsDump, WritesAll, WritesFront}
 use Rattle.hprof_stored.specs.declared.join_stop.JoinStop.{JoinStop}
 use Rattle.hprof_stored.specs.declared.join_stop.JoinStop.TheVariants as joins
 use Rattle.hprof_stored.specs.Dumping.{LeavesTarget}
-use Rattle.hprof_stored.specs.Reading.{ReadsStored}
+use Rattle.hprof_stored.specs.Reading.{AreSoMany, IsHinderedStored, IsOkOrConflictStored, ReadsStored}
 
 -- why nothing was written, where all parts were read: two objects of the parts have this identifier and different contents, and this is the
 -- least key with two contents; or the objects cannot be read again
@@ -48,3 +48,44 @@ ReadsJoined left health pulls limits old new (Err joins.OutOfMemory) = new ≡ o
 ReadsJoined left health pulls limits old new (Err (joins.Reading fault)) = ReadsStored left health pulls limits old new (Some fault)
 ReadsJoined left health pulls limits old new (Err (joins.Objects stop)) = ReadsStored left health pulls limits old new None
 ReadsJoined left health pulls limits old new (Err (joins.Writing stop)) = ReadsStored left health pulls limits old new None
+
+-- the readers that were read to their ends: all, or those before the one that was refused, or some
+abbrev pub ReadsOut : {R : Type 0} → (R → Option (List ℕ)) → (R → Health) → (R → ℕ) → Limits → (old new : List R)
+    → Result (Unit {0}) JoinStop → Type 0
+ReadsOut left health pulls limits old new (Ok done) = AreReadOut left health pulls limits old new (length old)
+ReadsOut left health pulls limits old new (Err joins.OutOfMemory) = ⊤
+ReadsOut left health pulls limits old new (Err (joins.Reading fault)) =
+    (count : ℕ) × AreSoMany (Some fault) (length old) count × AreReadOut left health pulls limits old new count
+ReadsOut left health pulls limits old new (Err (joins.Objects stop)) = AreReadOut left health pulls limits old new (length old)
+ReadsOut left health pulls limits old new (Err (joins.Writing stop)) = AreReadOut left health pulls limits old new (length old)
+
+-- ---- no other answer
+
+-- memory was wanted, or the scratch or a part failed
+abbrev pub IsHinderedStop : ObjectStop SegmentFault → Type 0
+IsHinderedStop stops.OutOfMemory = ⊤
+IsHinderedStop (stops.TwoContents id) = ⊥
+IsHinderedStop (stops.Scratch fault) = ⊤
+IsHinderedStop (stops.Part part fault) = ⊤
+IsHinderedStop (stops.Sink fault) = ⊥
+
+abbrev pub IsHinderedJoin : Result (Unit {0}) JoinStop → Type 0
+IsHinderedJoin (Ok done) = ⊥
+IsHinderedJoin (Err joins.OutOfMemory) = ⊤
+IsHinderedJoin (Err (joins.Reading fault)) = IsHinderedStored (Some fault)
+IsHinderedJoin (Err (joins.Objects stop)) = IsHinderedStop stop
+IsHinderedJoin (Err (joins.Writing stop)) = IsHinderedStop stop
+
+abbrev pub IsTwoContents : ObjectStop SegmentFault → Type 0
+IsTwoContents stops.OutOfMemory = ⊥
+IsTwoContents (stops.TwoContents id) = ⊤
+IsTwoContents (stops.Scratch fault) = ⊥
+IsTwoContents (stops.Part part fault) = ⊥
+IsTwoContents (stops.Sink fault) = ⊥
+
+abbrev pub IsJoinedOrConflict : Result (Unit {0}) JoinStop → Type 0
+IsJoinedOrConflict (Ok done) = ⊤
+IsJoinedOrConflict (Err joins.OutOfMemory) = ⊥
+IsJoinedOrConflict (Err (joins.Reading fault)) = IsOkOrConflictStored (Some fault)
+IsJoinedOrConflict (Err (joins.Objects stop)) = IsTwoContents stop
+IsJoinedOrConflict (Err (joins.Writing stop)) = ⊥

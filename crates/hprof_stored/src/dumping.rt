@@ -1,6 +1,6 @@
 //! Writing the dump of a heap whose objects are stored.
 
-ghost use Rattle.std.specs.Prelude.{◌≡◌, ◌∷◌, ◌++◌, [], ℕ, List, Option, OnOk};
+ghost use Rattle.std.specs.Prelude.{◌≡◌, ◌∷◌, ◌++◌, [], ℕ, List, Option, IfErr, OnOk};
 ghost use Rattle.hprof_devices.specs.declared.health.Health.TheVariants.{Well};
 ghost use Rattle.hprof_devices.specs.Device.{LeavesHealth, Writes};
 ghost use Rattle.hprof_items.specs.Head.{head_bytes};
@@ -17,7 +17,7 @@ ghost use Rattle.hprof_objects.specs.StoredObjects.{AreToldAgain, objects_of};
 ghost use Rattle.hprof_segments.specs.ByteSegments.{segment_records};
 ghost use Rattle.hprof_segments.specs.Taking.{HasTaken};
 ghost use Rattle.hprof_segments.specs.Writer.{held_bytes};
-ghost use Rattle.hprof_stored.specs.Dumping.{LeavesTarget, TakesSubs, WritesOrStops, bytes_of, dump_with, subs_of};
+ghost use Rattle.hprof_stored.specs.Dumping.{AreSubRecords, IsOfDevices, LeavesTarget, TakesSubs, WritesOrStops, bytes_of, dump_with, subs_of};
 
 use crate::sub_buffer::SubBuffer;
 use hprof_devices::{Source, Target, WriteFault};
@@ -47,6 +47,7 @@ fn take_sub<W: Target>(
     requires writable { IsWritable ids row }
     ensures taken { (start : Option (List ℕ)) (subs : List (List ℕ)) → HasTaken start (W.written target.old) (held_bytes writer.old) subs
         → TakesSubs start (W.written target.new) (held_bytes writer.new) (subs ++ dump_bytes ids (sub_fact ids row.entry) ∷ []) result }
+    ensures stops { IfErr result IsOfDevices }
     ensures buffer { OnOk result (buffer.new.health ≡ Well) }
     ensures health { LeavesTarget result (W.health target.new) }
 {
@@ -73,6 +74,7 @@ fn take_subs<W: Target>(
     requires target { W.health target.old ≡ Well }
     requires empty { held_bytes writer.old ≡ [] }
     ensures taken { TakesSubs (W.written target.old) (W.written target.new) (held_bytes writer.new) (subs_of (heap_of heap.now)) result }
+    ensures stops { IfErr result IsOfDevices }
     ensures health { LeavesTarget result (W.health target.new) }
 {
     let mut buffer = SubBuffer::new(alloc);
@@ -100,6 +102,9 @@ fn take_objects<S: Scratch + Drop, R: Source + Drop, P: Parts<Reader = R>, W: Ta
         → IsUnion (objects_of reads) rows → (start : Option (List ℕ)) (subs : List (List ℕ))
         → HasTaken start (W.written target.old) (held_bytes writer.old) subs
         → TakesSubs start (W.written target.new) (held_bytes writer.new) (subs ++ bytes_of rows) result }
+    ensures stops { IfErr result (λ stop. (reads : List PartRead) (rows : List ByteRow)
+        → AreToldAgain S.written S.health limits (P.bytes parts.now) reads objects.now → IsUnion (objects_of reads) rows → AreSubRecords rows
+        → IsOfDevices stop) }
     ensures health { LeavesTarget result (W.health target.new) }
 {
     let mut sink = SegmentSink::new(writer, target);
@@ -159,6 +164,9 @@ pub fn write_stored_dump<S: Scratch + Drop, R: Source + Drop, P: Parts<Reader = 
     ensures dump { (reads : List PartRead) (rows : List ByteRow) → AreToldAgain S.written S.health limits (P.bytes parts.now) reads objects.now
         → IsUnion (objects_of reads) rows
         → WritesOrStops (W.written target.old) (W.written target.new) result (dump_with (heap_of heap.now) rows) }
+    ensures stops { IfErr result (λ stop. (reads : List PartRead) (rows : List ByteRow)
+        → AreToldAgain S.written S.health limits (P.bytes parts.now) reads objects.now → IsUnion (objects_of reads) rows → AreSubRecords rows
+        → IsOfDevices stop) }
     ensures health { LeavesTarget result (W.health target.new) }
 {
     if let Err(fault) = write_front(heap, target) {

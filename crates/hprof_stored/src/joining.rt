@@ -2,9 +2,12 @@
 
 ghost use Rattle.std.specs.Prelude.{◌≡◌, ℕ, List, Some, map, All, IsSome};
 ghost use Rattle.hprof_devices.specs.declared.health.Health.TheVariants.{Well};
+ghost use Rattle.hprof_values.specs.declared.ids.IdSize.{IdSize};
+ghost use Rattle.hprof_items.specs.FactValue.{FactValue};
+ghost use Rattle.hprof_heap.specs.State.{IsState};
 ghost use Rattle.hprof_engine.specs.Joining.{Tell};
 ghost use Rattle.hprof_runs.specs.ReadBack.{HoldsNothing};
-ghost use Rattle.hprof_stored.specs.JoiningStored.{EndsJoin, LeavesJoined, ReadsJoined};
+ghost use Rattle.hprof_stored.specs.JoiningStored.{EndsJoin, IsHinderedJoin, IsJoinedOrConflict, LeavesJoined, ReadsJoined, ReadsOut};
 
 use crate::dumping::write_stored_dump;
 use crate::finding::find_conflict;
@@ -52,7 +55,15 @@ pub fn join_stored<R: Source, S: Scratch + Drop, Q: Source + Drop, P: Parts<Read
 
     // What is said of the parts.
     ensures reads { ReadsJoined R.left R.health R.pulls limits readers.old readers.new result }
+    ensures read_out { ReadsOut R.left R.health R.pulls limits readers.old readers.new result }
     ensures target { LeavesJoined W.health target.old target.new result }
+
+    // No other answer where the parts state something together, readers and target stay well, no want of memory was answered, no limit was
+    // met, and neither the scratch nor a part failed.
+    ensures no_other { (told : List (List ℕ)) (ids : IdSize) (millis : ℕ) (facts : List FactValue) → Tell R.left readers.old told
+        → IsState told ids millis facts → P.bytes parts.now ≡ map Some told → IsSome (S.written scratch)
+        → All (λ reader. R.health reader ≡ Well) readers.new → W.health target.new ≡ Well → (IsHinderedJoin result → ⊥)
+        → IsJoinedOrConflict result }
 {
     objects_stand_behind();
     conflicts_of_objects_come_last();
