@@ -4,3 +4,7 @@ mod Ended
 mod Fresh
 mod Read
 mod Answered
+mod Subs
+mod Dumped
+mod Found
+mod Joined

@@ -1,13 +1,26 @@
-//! The first reading of parts that are larger than the memory: all facts but objects go into a heap, and the objects into a log.
+//! Parts that are larger than the memory: at the first reading all facts but objects go into a heap, and the objects into a log. The canonical
+//! dump of the parts is written of both.
 #![tactic(auto)]
 
+mod dumping;
+mod finding;
+mod join_stop;
+mod joining;
+#[cfg(test)]
+mod joining_tests;
+pub mod laws;
 mod reading;
 mod stored_fault;
 mod stored_heap;
 mod stored_sink;
+mod sub_buffer;
 #[cfg(test)]
 mod tests;
 
+pub use dumping::write_stored_dump;
+pub use finding::find_conflict;
+pub use join_stop::JoinStop;
+pub use joining::join_stored;
 pub use reading::read_stored;
 pub use stored_fault::StoredFault;
 pub use stored_heap::StoredHeap;

@@ -18,7 +18,7 @@ use std::alloc::{AllocError, Global};
 use std::test::*;
 
 /// The name 2, and a heap dump record with the byte arrays 16 and 32, a class 64 and a root of it.
-const ORDERED: &[u8; 134] = b"JAVA PROFILE 1.0.2\0\0\0\0\x04\0\0\0\0\0\0\0\x02\
+pub(crate) const ORDERED: &[u8; 134] = b"JAVA PROFILE 1.0.2\0\0\0\0\x04\0\0\0\0\0\0\0\x02\
     \x01\0\0\0\0\0\0\0\x05\0\0\0\x02B\
     \x1c\0\0\0\0\0\0\0\x50\
     \x23\0\0\0\x10\0\0\0\x01\0\0\0\x02\x08\x01\x02\
@@ -27,7 +27,7 @@ const ORDERED: &[u8; 134] = b"JAVA PROFILE 1.0.2\0\0\0\0\x04\0\0\0\0\0\0\0\x02\
     \x05\0\0\0\x40";
 
 /// A heap dump record with the byte arrays 16 and 32, which stay in the part, and 9, 8 and 7 behind them.
-const UNORDERED: &[u8; 120] = b"JAVA PROFILE 1.0.2\0\0\0\0\x04\0\0\0\0\0\0\0\x01\
+pub(crate) const UNORDERED: &[u8; 120] = b"JAVA PROFILE 1.0.2\0\0\0\0\x04\0\0\0\0\0\0\0\x01\
     \x1c\0\0\0\0\0\0\0\x50\
     \x23\0\0\0\x10\0\0\0\x01\0\0\0\x02\x08\x01\x02\
     \x23\0\0\0\x20\0\0\0\x01\0\0\0\x02\x08\x03\x04\
@@ -73,7 +73,7 @@ impl Scratch for Broken {
 }
 
 /// Two byte arrays fit into memory, and a stretch of two stays in its part.
-fn keeping() -> Keeping {
+pub(crate) fn keeping() -> Keeping {
     Keeping {
         memory: 90,
         stretch: 32,
@@ -85,7 +85,10 @@ fn keeping() -> Keeping {
 type Outcome = Result<(u128, usize, u64), StoredFault>;
 
 /// Returns readers of the parts.
-fn readers_of<'a>(alloc: Global, parts: &[&'a [u8]]) -> Result<Vec<Device<&'a [u8]>>, AllocError>
+pub(crate) fn readers_of<'a>(
+    alloc: Global,
+    parts: &[&'a [u8]],
+) -> Result<Vec<Device<&'a [u8]>>, AllocError>
     ensures { IfOk result (λ readers. All (λ reader. health_of reader ≡ Well) readers.items) }
 {
     let mut readers = Vec::new(alloc);

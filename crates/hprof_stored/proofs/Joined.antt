@@ -1,0 +1,171 @@
+-- The dump of parts, of the heap without objects and of the stored objects.
+use Rattle.std.proofs.Common.{◌≡◌, ℕ, zero, suc, List, [], ◌∷◌, length, map, take, Option, Some, Ok, Err, refl, sym, ap, subst}
+use Rattle.std.specs.Prelude.{slice_get}
+use Rattle.std.specs.List.{AllByRecursion}
+use Rattle.std.proofs.Math.Seq.{take-length}
+use Rattle.hprof_devices.specs.declared.health.Health.{Health}
+use Rattle.hprof_values.specs.declared.ids.IdSize.{IdSize}
+use Rattle.hprof_items.specs.FactValue.{FactValue}
+use Rattle.hprof_stream.specs.declared.limits.Limits.{Limits}
+use Rattle.hprof_rows.specs.declared.key.Key.TheVariants as keys
+use Rattle.hprof_rows.specs.HeapValue.{HeapValue}
+use Rattle.hprof_heap.specs.declared.standing.Refusal.TheVariants as refusals
+use Rattle.hprof_heap.specs.Gathering.{Given, Tells}
+use Rattle.hprof_merge.specs.Rows.{ByteRow}
+use Rattle.hprof_merge.specs.TwoContents.{IsLeastWithTwoContents}
+use Rattle.hprof_merge.specs.Union.{IsUnion}
+use Rattle.hprof_parts.specs.Parts.{bytes_at}
+use Rattle.hprof_segments.specs.declared.segment_fault.SegmentFault.{SegmentFault}
+use Rattle.hprof_objects.specs.declared.object_stop.ObjectStop.{ObjectStop}
+use Rattle.hprof_objects.specs.declared.object_stop.ObjectStop.TheVariants as stops
+use Rattle.hprof_objects.specs.declared.stored_objects.StoredObjects.{StoredObjects}
+use Rattle.hprof_objects.specs.PartsRead.{PartRead}
+use Rattle.hprof_objects.specs.ReadAgain.{IsSame, IsSameAt}
+use Rattle.hprof_objects.specs.StoredObjects.{AreToldAgain, HoldsObjects, objects_of}
+use Rattle.hprof_objects.specs.Whole.{AreObjects, FitGiven, rows_given, with_objects, without_objects}
+use Rattle.hprof_engine.specs.Joining.{AreGiven, Tell}
+use Rattle.hprof_engine.specs.Makes.{IsDump}
+use Rattle.hprof_engine.specs.Summaries.{AreSummaries}
+use Rattle.hprof_engine.proofs.Answers.{agree, disagree}
+use Rattle.hprof_engine.proofs.OneSummary.{some_summary_each}
+use Rattle.hprof_engine.proofs.Together.{part_fits}
+use Rattle.std.proofs.Common.{sym, ◌∙◌}
+use Rattle.hprof_devices.specs.declared.health.Health.{Health}
+use Rattle.hprof_devices.specs.declared.health.Health.TheVariants as healths
+use Rattle.hprof_devices.specs.declared.health.WriteFault.TheVariants as writes
+use Rattle.hprof_segments.specs.declared.segment_fault.SegmentFault.TheVariants as segments
+use Rattle.hprof_stored.specs.Dumping.{AreSubRecords, IsOfDevices, LeavesTarget, FindsLeast, dump_with}
+use Rattle.hprof_stored.specs.JoiningStored.{IsFound, IsHinderedStop, IsTwoContents}
+use Rattle.hprof_stored.specs.Parts.{AreStored, PartStored, all_read, given_of, others_of, read_of}
+use Rattle.hprof_stored.proofs.Dumped.{dump_of_all, rows_are_subs}
+
+-- ---- parts that are read again
+
+module _ (limits : Limits) where
+  same_part : (parts : List (List ℕ)) (stored : List PartStored) → AreStored limits (map Some parts) stored → (number : ℕ) (part : PartRead)
+      → slice_get (all_read stored) number ≡ Some part → IsSame limits (bytes_at (map Some parts) number) part
+  same_part [] [] are number part e = absurd cc
+  same_part [] (first ∷ stored) are number part e = absurd are
+  same_part (bytes ∷ parts) [] are number part e = absurd are
+  same_part (bytes ∷ parts) (first ∷ stored) are zero part e =
+      let same : read_of first ≡ part = cc in
+      subst (IsSame limits (Some bytes)) same (record {
+        tells = ap Some (sym are.0.all);
+        whole = record {
+          sound = are.0.accepted.0;
+          within = are.0.accepted.1;
+          millis = first.given.header.millis;
+          states = are.0.states;
+        };
+      })
+  same_part (bytes ∷ parts) (first ∷ stored) are (suc number) part e = same_part parts stored are.1 number part e
+
+  pub told_again : {S : Type 0} (written : S → Option (List ℕ)) (health : S → Health) (parts : List (List ℕ)) (stored : List PartStored)
+      (told : List (Option (List ℕ))) (objects : StoredObjects S) → told ≡ map Some parts → AreStored limits (map Some parts) stored
+      → HoldsObjects written health limits (all_read stored) objects
+      → AreToldAgain written health limits told (all_read stored) objects
+  told_again written health parts stored told objects is are holds = record {
+    holds = holds;
+    same = λ number. subst (λ (t : List (Option (List ℕ))). IsSameAt limits t (all_read stored) number) (sym is)
+        (same_part parts stored are number);
+  }
+
+  fits : (parts : List (List ℕ)) (stored : List PartStored) → AreStored limits (map Some parts) stored → FitGiven (given_of stored)
+  fits [] [] are = tt
+  fits [] (first ∷ stored) are = absurd are
+  fits (bytes ∷ parts) [] are = absurd are
+  fits (bytes ∷ parts) (first ∷ stored) are = (
+    part_fits first.bytes first.given.header.ids first.given.header.millis first.given.facts are.0.states,
+    fits parts stored are.1,
+  )
+
+rows_same : (stored : List PartStored) → objects_of (all_read stored) ≡ map rows_given (given_of stored)
+rows_same [] = refl
+rows_same (first ∷ stored) = ap (λ (l : List (List ByteRow)). rows_given first.given ∷ l) (rows_same stored)
+
+same_ids : (ids : IdSize) (parts : List Given) → AllByRecursion (λ part. part.header.ids ≡ ids) (map without_objects parts)
+    → AllByRecursion (λ part. part.header.ids ≡ ids) parts
+same_ids ids [] all = tt
+same_ids ids (part ∷ parts) all = (all.0, same_ids ids parts all.1)
+
+-- ---- what the laws of objects say
+
+abbrev pub StandBehind : Type 0
+StandBehind = (parts : List Given) (ids : IdSize) (rows : List ByteRow) → AllByRecursion (λ part. part.header.ids ≡ ids) parts
+    → FitGiven parts → IsUnion (map rows_given parts) rows → (objects : List FactValue) × AreObjects ids rows objects
+
+abbrev pub TellWhole : Type 0
+TellWhole = (parts : List Given) (heap : HeapValue) (rows : List ByteRow) (objects : List FactValue)
+    → Tells (map without_objects parts) (Ok heap) → FitGiven parts → IsUnion (map rows_given parts) rows
+    → AreObjects heap.ids rows objects → Tells parts (Ok (with_objects heap objects))
+
+abbrev pub ComeLast : Type 0
+ComeLast = (parts : List Given) (heap : HeapValue) (key : ℕ) → Tells (map without_objects parts) (Ok heap) → FitGiven parts
+    → IsLeastWithTwoContents (map rows_given parts) key → Tells parts (Err (refusals.Conflict (keys.Object key)))
+
+-- ---- the parts
+
+module _ {R : Type 0} (left : R → Option (List ℕ)) (limits : Limits) (old : List R) (stored : List PartStored)
+    (are : AreStored limits (map left old) stored) (given : AreGiven limits (map left old) (given_of stored)) (heap : HeapValue)
+    (tells : Tells (others_of stored) (Ok heap)) (parts : List (List ℕ)) (told : Tell left old parts) where
+  pub by_parts : AreStored limits (map Some parts) stored
+  by_parts = subst (λ (ls : List (Option (List ℕ))). AreStored limits ls stored) told are
+
+  by_all : AreGiven limits (map left (take (length old) old)) (given_of stored)
+  by_all = subst (λ (rs : List R). AreGiven limits (map left rs) (given_of stored)) (sym (take-length old)) given
+
+  pub is_dump : StandBehind → TellWhole → (rows : List ByteRow) → IsUnion (objects_of (all_read stored)) rows
+      → IsDump parts (dump_with heap rows)
+  is_dump behind whole rows union =
+      let fit = fits limits parts stored by_parts in
+      let same = subst (λ (l : List (List ByteRow)). IsUnion l rows) (rows_same stored) union in
+      let objects = behind (given_of stored) heap.ids rows (same_ids heap.ids (given_of stored) tells.0) fit same in
+      let all = with_objects heap objects.0 in
+      let agrees = agree left limits old (given_of stored) by_all parts told all
+      (whole (given_of stored) heap rows objects.0 tells fit same objects.1) in
+      let summaries = some_summary_each agrees.state.states agrees.state.each in
+      record {
+        heap = all;
+        agree = agrees;
+        summaries = summaries.0;
+        of_parts = subst (λ (l : List (List ℕ)). AreSummaries l summaries.0) agrees.state.of_parts summaries.1;
+        is = dump_of_all heap rows objects.0 objects.1;
+      }
+
+  pub is_found : ComeLast → (stop : ObjectStop SegmentFault) → FindsLeast (objects_of (all_read stored)) stop → IsFound parts stop
+  is_found last stops.OutOfMemory finds = tt
+  is_found last (stops.TwoContents key) finds =
+      disagree left limits old (given_of stored) by_all parts told (keys.Object key)
+      (last (given_of stored) heap key tells (fits limits parts stored by_parts)
+      (subst (λ (l : List (List ByteRow)). IsLeastWithTwoContents l key) (rows_same stored) finds))
+  is_found last (stops.Scratch fault) finds = tt
+  is_found last (stops.Part part fault) finds = tt
+  is_found last (stops.Sink fault) finds = finds
+
+  pub are_subs : StandBehind → (rows : List ByteRow) → IsUnion (objects_of (all_read stored)) rows → AreSubRecords rows
+  are_subs behind rows union =
+      let objects = behind (given_of stored) heap.ids rows (same_ids heap.ids (given_of stored) tells.0) (fits limits parts stored by_parts)
+      (subst (λ (l : List (List ByteRow)). IsUnion l rows) (rows_same stored) union) in
+      rows_are_subs heap.ids rows objects.0 objects.1
+
+-- ---- no other answer
+
+pub found_other : (parts : List (List ℕ)) (stop : ObjectStop SegmentFault) → IsFound parts stop → (IsHinderedStop stop → ⊥)
+    → IsTwoContents stop
+found_other parts stops.OutOfMemory found unhindered = unhindered tt
+found_other parts (stops.TwoContents key) found unhindered = tt
+found_other parts (stops.Scratch fault) found unhindered = unhindered tt
+found_other parts (stops.Part part fault) found unhindered = unhindered tt
+found_other parts (stops.Sink fault) found unhindered = found
+
+pub written_other : (stop : ObjectStop SegmentFault) (health : Health) → IsOfDevices stop → LeavesTarget {A = Unit {0}} (Err stop) health
+    → health ≡ healths.Well → (IsHinderedStop stop → ⊥) → ⊥
+written_other stops.OutOfMemory health device left well unhindered = unhindered tt
+written_other (stops.TwoContents key) health device left well unhindered = device
+written_other (stops.Scratch fault) health device left well unhindered = unhindered tt
+written_other (stops.Part part fault) health device left well unhindered = unhindered tt
+written_other (stops.Sink segments.NoSubRecord) health device left well unhindered = device
+written_other (stops.Sink (segments.Write writes.Failed)) health device left well unhindered =
+    let no : healths.Failed ≡ healths.Well = sym left ∙ well in cc
+written_other (stops.Sink (segments.Write writes.Stuck)) health device left well unhindered =
+    let no : healths.Stuck ≡ healths.Well = sym left ∙ well in cc

@@ -1,0 +1,112 @@
+//! Plain parts, joined with their objects stored, and in memory.
+
+use crate::join_stop::JoinStop;
+use crate::joining::join_stored;
+use crate::tests::{ORDERED, UNORDERED, keeping, readers_of};
+use hprof_devices::{Device, WriteFault};
+use hprof_engine::join_to;
+use hprof_objects::ObjectStop;
+use hprof_parts::Slices;
+use hprof_runs::MemoryScratch;
+use hprof_segments::SegmentFault;
+use hprof_stream::Limits;
+use std::alloc::{AllocError, Global};
+use std::io;
+use std::io::Write;
+use std::test::*;
+
+/// The byte array 8 of `UNORDERED` with other bytes.
+const OTHER: &[u8; 56] = b"JAVA PROFILE 1.0.2\0\0\0\0\x04\0\0\0\0\0\0\0\x01\
+    \x1c\0\0\0\0\0\0\0\x10\
+    \x23\0\0\0\x08\0\0\0\x01\0\0\0\x02\x08\x07\x09";
+
+/// A writer that takes no more bytes than it has room for.
+#[derive(Drop)]
+struct Short {
+    bytes: Vec<u8>,
+    room: usize,
+}
+
+impl Write for Short {
+    fn write(&mut self, bytes: &[u8]) -> io::Result<usize> {
+        let count = bytes.len().min(self.room);
+        self.bytes.extend_from_slice(&bytes[..count])?;
+        self.room -= count;
+        Ok(count)
+    }
+
+    fn flush(&mut self) -> io::Result<()> {
+        Ok(())
+    }
+}
+
+/// Joins the parts into a writer with so much room, and returns what it holds.
+fn joined(
+    alloc: Global,
+    parts: &[&[u8]],
+    room: usize,
+) -> Result<(Result<(), JoinStop>, Vec<u8>), AllocError> {
+    let mut readers = readers_of(alloc, parts)?;
+    let mut target = Device::new(Short {
+        bytes: Vec::new(alloc),
+        room,
+    });
+    let outcome = join_stored(
+        alloc,
+        &mut readers,
+        &Slices::new(parts),
+        Limits::usual(),
+        keeping(),
+        MemoryScratch::new(alloc),
+        &mut target,
+    );
+    Ok((outcome, target.into_inner().bytes))
+}
+
+/// Returns the dump of the parts, joined in memory.
+fn joined_in_memory(alloc: Global, parts: &[&[u8]]) -> Result<Vec<u8>, Fail> {
+    let mut readers = readers_of(alloc, parts)?;
+    let mut target = Device::new(Vec::new(alloc));
+    match join_to(alloc, &mut readers, &mut target, Limits::usual()) {
+        Ok(_) => Ok(target.into_inner()),
+        Err(_) => Err("not joined".into()),
+    }
+}
+
+#[test]
+fn the_same_dump(rt: HostRuntime) -> Result<(), Fail> {
+    let alloc = rt.alloc();
+    let dump = joined_in_memory(alloc, &[ORDERED, UNORDERED])?;
+    let (outcome, bytes) = joined(alloc, &[ORDERED, UNORDERED], 1000)?;
+    assert!(rt; outcome == Ok(()));
+    assert!(rt; bytes.as_slice() == dump.as_slice());
+    let (outcome, bytes) = joined(alloc, &[UNORDERED, ORDERED, UNORDERED], 1000)?;
+    assert!(rt; outcome == Ok(()));
+    assert!(rt; bytes.as_slice() == dump.as_slice());
+
+    let dump = joined_in_memory(alloc, &[ORDERED])?;
+    let (outcome, bytes) = joined(alloc, &[ORDERED], 1000)?;
+    assert!(rt; outcome == Ok(()));
+    assert!(rt; bytes.as_slice() == dump.as_slice());
+    Ok(())
+}
+
+#[test]
+fn objects_with_two_contents(rt: HostRuntime) -> Result<(), Fail> {
+    let (outcome, bytes) = joined(rt.alloc(), &[ORDERED, OTHER, UNORDERED], 1000)?;
+    assert!(rt; outcome == Err(JoinStop::Objects(ObjectStop::TwoContents(8))));
+    assert!(rt; bytes.is_empty());
+    Ok(())
+}
+
+#[test]
+fn a_writer_that_fails(rt: HostRuntime) -> Result<(), Fail> {
+    let alloc = rt.alloc();
+    let dump = joined_in_memory(alloc, &[ORDERED, UNORDERED])?;
+    let (outcome, bytes) = joined(alloc, &[ORDERED, UNORDERED], 100)?;
+    let stuck = SegmentFault::Write(WriteFault::Stuck);
+    assert!(rt; outcome == Err(JoinStop::Writing(ObjectStop::Sink(stuck))));
+    assert_eq!(rt; bytes.len(), 100);
+    assert!(rt; dump.as_slice().starts_with(&bytes));
+    Ok(())
+}
