@@ -5,7 +5,8 @@ use Rattle.std.proofs.lemmas.List.{map-append}
 use Rattle.std.proofs.lemmas.List.Elements.{filter-append}
 use Rattle.hprof_values.specs.declared.ids.IdSize.{IdSize}
 use Rattle.hprof_items.specs.declared.header.Version.TheVariants.{V102}
-use Rattle.hprof_items.specs.FactValue.{FactValue, Name, Load, Unload, Frame, Trace, Start, End, Rooted, Class, Instance, ObjArray, PrimArray}
+use Rattle.hprof_items.specs.FactValue.{FactValue, Name, Load, Unload, Frame, Trace, Start, End}
+use Rattle.hprof_items.specs.FactValue.{Rooted, Class, Instance, ObjArray, PrimArray}
 use Rattle.hprof_items.specs.Header.{header_bytes}
 use Rattle.hprof_items.specs.Head.{head_bytes}
 use Rattle.hprof_items.specs.Spelling.{spelling}

@@ -33,7 +33,8 @@ use Rattle.hprof_objects.specs.StoredObjects.{objects_of}
 use Rattle.hprof_stored.specs.Dumping.{AreSubRecords, IsOfDevices, LeavesTarget, TakesSubs, WritesSome, bytes_of}
 
 -- a front of some bytes
-pub some_of : (start now : Option (List ℕ)) (sent rest text : List ℕ) → Appends start now sent → text ≡ sent ++ rest → WritesSome start now text
+pub some_of : (start now : Option (List ℕ)) (sent rest text : List ℕ) → Appends start now sent → text ≡ sent ++ rest
+    → WritesSome start now text
 some_of start now sent rest text appends is = (
   length sent,
   omega (arith, ap length is, length-append sent rest),

@@ -17,7 +17,8 @@ ghost use Rattle.hprof_objects.specs.StoredObjects.{AreToldAgain, objects_of};
 ghost use Rattle.hprof_segments.specs.ByteSegments.{segment_records};
 ghost use Rattle.hprof_segments.specs.Taking.{HasTaken};
 ghost use Rattle.hprof_segments.specs.Writer.{held_bytes};
-ghost use Rattle.hprof_stored.specs.Dumping.{AreSubRecords, IsOfDevices, LeavesTarget, TakesSubs, WritesOrStops, bytes_of, dump_with, subs_of};
+ghost use Rattle.hprof_stored.specs.Dumping.{AreSubRecords, IsOfDevices, LeavesTarget, TakesSubs, WritesOrStops};
+ghost use Rattle.hprof_stored.specs.Dumping.{bytes_of, dump_with, subs_of};
 
 use crate::sub_buffer::SubBuffer;
 use hprof_devices::{Source, Target, WriteFault};
@@ -98,13 +99,14 @@ fn take_objects<S: Scratch + Drop, R: Source + Drop, P: Parts<Reader = R>, W: Ta
     target: &mut W,
 ) -> Result<(), ObjectStop<SegmentFault>>
     requires { W.health target.old ≡ Well }
-    ensures taken { (reads : List PartRead) (rows : List ByteRow) → AreToldAgain S.written S.health limits (P.bytes parts.now) reads objects.now
+    ensures taken { (reads : List PartRead) (rows : List ByteRow)
+        → AreToldAgain S.written S.health limits (P.bytes parts.now) reads objects.now
         → IsUnion (objects_of reads) rows → (start : Option (List ℕ)) (subs : List (List ℕ))
         → HasTaken start (W.written target.old) (held_bytes writer.old) subs
         → TakesSubs start (W.written target.new) (held_bytes writer.new) (subs ++ bytes_of rows) result }
     ensures stops { IfErr result (λ stop. (reads : List PartRead) (rows : List ByteRow)
-        → AreToldAgain S.written S.health limits (P.bytes parts.now) reads objects.now → IsUnion (objects_of reads) rows → AreSubRecords rows
-        → IsOfDevices stop) }
+        → AreToldAgain S.written S.health limits (P.bytes parts.now) reads objects.now → IsUnion (objects_of reads) rows
+        → AreSubRecords rows → IsOfDevices stop) }
     ensures health { LeavesTarget result (W.health target.new) }
 {
     let mut sink = SegmentSink::new(writer, target);
@@ -161,12 +163,13 @@ pub fn write_stored_dump<S: Scratch + Drop, R: Source + Drop, P: Parts<Reader = 
 ) -> Result<(), ObjectStop<SegmentFault>>
     requires target { W.health target.old ≡ Well }
     requires empty { held_bytes writer.old ≡ [] }
-    ensures dump { (reads : List PartRead) (rows : List ByteRow) → AreToldAgain S.written S.health limits (P.bytes parts.now) reads objects.now
+    ensures dump { (reads : List PartRead) (rows : List ByteRow)
+        → AreToldAgain S.written S.health limits (P.bytes parts.now) reads objects.now
         → IsUnion (objects_of reads) rows
         → WritesOrStops (W.written target.old) (W.written target.new) result (dump_with (heap_of heap.now) rows) }
     ensures stops { IfErr result (λ stop. (reads : List PartRead) (rows : List ByteRow)
-        → AreToldAgain S.written S.health limits (P.bytes parts.now) reads objects.now → IsUnion (objects_of reads) rows → AreSubRecords rows
-        → IsOfDevices stop) }
+        → AreToldAgain S.written S.health limits (P.bytes parts.now) reads objects.now → IsUnion (objects_of reads) rows
+        → AreSubRecords rows → IsOfDevices stop) }
     ensures health { LeavesTarget result (W.health target.new) }
 {
     if let Err(fault) = write_front(heap, target) {

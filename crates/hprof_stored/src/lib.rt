@@ -1,5 +1,5 @@
-//! Parts that are larger than the memory: at the first reading all facts but objects go into a heap, and the objects into a log. The canonical
-//! dump of the parts is written of both.
+//! Parts that are larger than the memory. At the first reading all facts but objects go into a heap, and the objects into a log. The
+//! canonical dump of the parts is written of both.
 #![tactic(auto)]
 
 mod dumping;

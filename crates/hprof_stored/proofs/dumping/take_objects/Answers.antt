@@ -15,7 +15,8 @@ returns-clause-taken g c = λ reads rows told union start subs has.
     let m = c.merge in
     let sink = c.new-sink.result in
     let same = same_lists g.W.Target.written g.W.Target.health m.ensures.rows.0 m.result sink m.new.sink m.ensures.rows.1 in
-    taken_into g.W.Target.written g.W.Target.health m.new.sink c.writer-1.given.0 c.target-1.given.0 (search rules) (search rules) m.result start (subs ++ bytes_of rows)
+    taken_into g.W.Target.written g.W.Target.health m.new.sink c.writer-1.given.0 c.target-1.given.0
+    (search rules) (search rules) m.result start (subs ++ bytes_of rows)
     (lists_taken g.W.Target.written g.W.Target.health (objects_of reads) rows union start subs m.result sink m.new.sink
     (m.ensures.objects reads told)
     (subst (λ (s : SegmentWriter × g.row.W.Denot). HasTakenRows g.W.Target.written s start subs) (sym c.new-sink.ensures.state) has))

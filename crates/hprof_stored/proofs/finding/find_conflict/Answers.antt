@@ -11,10 +11,10 @@ returns-then-is_one_stretch-clause-none g c = λ reads told.
 
 pub returns-clause-none : goal.returns-clause-none
 returns-clause-none g c =
-    none_found (λ (reads : List PartRead). AreToldAgain g.S.Target.written g.S.Target.health c.args.limits (g.P.Parts.bytes c.args.parts.now)
-    reads c.args.objects.now) _ _ c.merge.result c.merge.ensures.objects
+    none_found (λ (reads : List PartRead). AreToldAgain g.S.Target.written g.S.Target.health c.args.limits
+    (g.P.Parts.bytes c.args.parts.now) reads c.args.objects.now) _ _ c.merge.result c.merge.ensures.objects
 
 pub returns-clause-least : goal.returns-clause-least
 returns-clause-least g c =
-    least_found (λ (reads : List PartRead). AreToldAgain g.S.Target.written g.S.Target.health c.args.limits (g.P.Parts.bytes c.args.parts.now)
-    reads c.args.objects.now) _ _ c.merge.result c.merge.ensures.objects
+    least_found (λ (reads : List PartRead). AreToldAgain g.S.Target.written g.S.Target.health c.args.limits
+    (g.P.Parts.bytes c.args.parts.now) reads c.args.objects.now) _ _ c.merge.result c.merge.ensures.objects
