@@ -77,7 +77,7 @@ fn joined(alloc: Global, pieces: &[&[u8]]) -> Result<Vec<u8>, AllocError> {
 
 /// Asks for the same as a call, before and after a question that is not understood. Checks that both answers are the call's output, or that
 /// the parts are refused as before.
-pub(crate) fn check_asked(
+pub fn check_asked(
     alloc: Global,
     call: Call<'_>,
     parts: &[&[u8]],

@@ -17,7 +17,7 @@ use std::alloc::{AllocError, Global};
 
 /// A question about a heap.
 #[derive(Clone, Copy)]
-pub(crate) enum Question {
+pub enum Question {
     /// The edges from an identifier.
     Edges(u64),
     /// The layout of a class.
