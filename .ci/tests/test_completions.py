@@ -11,9 +11,19 @@ import completions
 FOLDER = completions.FOLDER
 TYPES = {"boolean[]", "char[]", "float[]", "double[]", "byte[]", "short[]", "int[]", "long[]"}
 COMMANDS = set(completions.commands())
-# Asks the function of bash, with the words of a line, and prints its reply.
+# Asks the function of bash with the words of some lines, behind each of which stands a colon, and prints its replies likewise.
 BASH = """
-source "$0" && COMP_WORDS=("$@") && COMP_CWORD=$(($# - 1)) && _hprof && printf '%s\\n' "${COMPREPLY[@]}"
+source "$0"
+for word in "$@"; do
+    if [[ $word != : ]]; then
+        COMP_WORDS+=("$word")
+        continue
+    fi
+    COMP_CWORD=$((${#COMP_WORDS[@]} - 1))
+    _hprof
+    printf '%s\\n' "${COMPREPLY[@]}" :
+    COMP_WORDS=()
+done
 """
 FISH = 'source "$argv[1]"; complete -C "$argv[2]"'
 
@@ -39,8 +49,18 @@ class Folder(unittest.TestCase):
 @unittest.skipUnless(which("bash"), "no bash")
 class Bash(Folder):
     def replies(self, *words):
-        lines = self.output_of("bash", "--norc", "-c", BASH, str(FOLDER / "hprof.bash"), "hprof", *words)
-        return [line for line in lines if line]
+        return self.all_replies([words])[0]
+
+    def all_replies(self, lines):
+        words = [word for line in lines for word in ("hprof", *line, ":")]
+        replies = [[]]
+        for word in self.output_of("bash", "--norc", "-c", BASH, str(FOLDER / "hprof.bash"), *words):
+            if word == ":":
+                replies.append([])
+            else:
+                replies[-1].append(word)
+        self.assertEqual((len(replies), replies[-1]), (len(lines) + 1, []))
+        return replies[:-1]
 
     def test_commands_come_first(self):
         self.assertEqual(set(self.replies("")), COMMANDS | {"help", "-h", "--help", "-V", "--version"})
@@ -49,8 +69,8 @@ class Bash(Folder):
         self.assertEqual(self.replies("--"), ["--help", "--version"])
 
     def test_options_of_commands(self):
-        for command in sorted(COMMANDS):
-            self.assertEqual(self.replies(command, "-"), ["-h", "--help"], command)
+        for reply in self.all_replies([(command, "-") for command in sorted(COMMANDS)]):
+            self.assertEqual(reply, ["-h", "--help"])
 
     def test_help_takes_a_command(self):
         self.assertEqual(set(self.replies("help", "")), COMMANDS)
@@ -59,11 +79,12 @@ class Bash(Folder):
     def test_places_of_dumps(self):
         dumps = {"friday.hprof", "monday.hprof", "two words.hprof", "dumps"}
         first = {"outs": {"dumps"}, "heaps": dumps, "kinds": TYPES, "nodes": set(), "pairs": dumps}
-        third = {"pairs": set()}
+        lines, expected = [], []
         for command, (key, _) in completions.commands().items():
-            self.assertEqual(set(self.replies(command, "")), first[key], command)
-            self.assertEqual(set(self.replies(command, "one", "")), dumps, command)
-            self.assertEqual(set(self.replies(command, "one", "two", "")), third.get(key, dumps), command)
+            lines += [(command, ""), (command, "one", ""), (command, "one", "two", "")]
+            expected += [first[key], dumps, set() if key == "pairs" else dumps]
+        for line, reply, meant in zip(lines, self.all_replies(lines), expected):
+            self.assertEqual(set(reply), meant, line)
 
     def test_types(self):
         self.assertEqual(self.replies("objects", "b"), ["boolean[]", "byte[]"])

@@ -36,13 +36,16 @@ def files_below(folder):
 
 
 class Installing(unittest.TestCase):
-    """A prefix that is not there yet, as the home of a user, who has nothing on the path but the system's programs."""
+    """The empty home of a user. What is installed there is not on the path."""
 
     def setUp(self):
         folder = tempfile.TemporaryDirectory()
         self.addCleanup(folder.cleanup)
+        self.live_in(folder)
+
+    def live_in(self, folder):
         self.home = Path(folder.name).resolve() / "home of a user"
-        self.home.mkdir()
+        self.home.mkdir(exist_ok=True)
         self.prefix = self.home / ".local"
         self.environment = {**{name: value for name, value in os.environ.items() if name not in TAKEN}, "HOME": str(self.home)}
 
@@ -61,8 +64,19 @@ class Installing(unittest.TestCase):
 
 
 class Works(Installing):
+    """One installation, which the tests look at."""
+
+    folder = said = None
+
+    def setUp(self):
+        if not Works.folder:
+            Works.folder = tempfile.TemporaryDirectory()
+            self.addClassCleanup(Works.folder.cleanup)
+            self.live_in(Works.folder)
+            Works.said = self.install()
+        self.live_in(Works.folder)
+
     def test_files(self):
-        said = self.install()
         found = files_below(self.prefix)
         self.assertEqual(PLACES - set(found), set())
         view = {path.name for path in (ROOT / "viewer" / "view").rglob("*") if path.is_file() and "__pycache__" not in path.parts}
@@ -71,12 +85,11 @@ class Works(Installing):
         self.assertEqual({mode for _, mode in found.values()}, {0o755, 0o644})
         self.assertEqual(found["bin/hprof"][0], Path(os.environ["HPROF"]).read_bytes())
         for place in set(found) - {LIST}:
-            self.assertIn(f"installed {self.prefix / place}\n", said)
+            self.assertIn(f"installed {self.prefix / place}\n", self.said)
         self.assertEqual(set(json.loads(found[LIST][0])["files"]), set(found) - {LIST})
-        self.assertIn(f"{self.prefix}/bin is not on PATH", said)
+        self.assertIn(f"{self.prefix}/bin is not on PATH", self.said)
 
     def test_programs(self):
-        self.install()
         hprof = self.prefix / "bin" / "hprof"
         self.assertIn("Usage: hprof", self.run_words(hprof, "--help"))
         self.assertIn("352 11 7400003a0 shop/Session\n", self.run_words(hprof, "histo", "friday.hprof"))
@@ -87,7 +100,6 @@ class Works(Installing):
 
     def test_the_viewer_runs_the_program_beside_it(self):
         """The one on the path is a fake that refuses; and the dump is refused by the one beside the viewer."""
-        self.install()
         fake = self.home / "hprof"
         fake.write_text("#!/bin/sh\necho 'hprof: a fake' >&2\nexit 1\n")
         fake.chmod(0o755)
@@ -102,11 +114,12 @@ class Works(Installing):
 
     @unittest.skipUnless(site.ENABLE_USER_SITE, "this Python has no packages of users")
     def test_the_package(self):
-        self.install()
         self.assertEqual(self.python("import hprof; print(hprof.__file__)"), str(self.prefix / "lib/hprof/python/hprof/__init__.py"))
         command = [sys.executable, "-m", "hprof", "histo", "friday.hprof", "--json"]
         self.assertIn("shop/Session", self.run_words(*command, environment={"PATH": f"{self.prefix}/bin:{os.environ['PATH']}"}))
 
+
+class Elsewhere(Installing):
     def test_a_prefix_where_python_does_not_look(self):
         said = self.install("--prefix", self.home / "elsewhere")
         package = self.home / "elsewhere" / "lib" / "hprof" / "python"
@@ -150,9 +163,8 @@ class Again(Installing):
 class Ends(Installing):
     def test_nothing_is_left(self):
         self.install()
-        for words in (("-m", "compileall", "-q", str(self.prefix)), ("-c", "import hprof")):
-            self.run_words(sys.executable, *words, environment={"PYTHONDONTWRITEBYTECODE": ""})
-        self.assertTrue(list(self.prefix.rglob("*.pyc")))
+        self.run_words(self.prefix / "bin" / "hprof-view", "--help", environment={"PYTHONDONTWRITEBYTECODE": ""})
+        self.assertTrue(list(self.prefix.rglob("view/**/*.pyc")))
         said = self.install("--uninstall")
         self.assertIn(f"removed {self.prefix}/bin/hprof\n", said)
         self.assertEqual(list(self.home.iterdir()), [])
@@ -231,6 +243,6 @@ class Refuses(Installing):
         path.parent.mkdir(parents=True)
         for text in ("no list", "[]", '{"files": {"../mine": []}, "folders": []}', '{"files": {"/mine": []}, "folders": []}'):
             path.write_text(text)
-            for words in ((), ("--uninstall",)):
-                self.assertIn(f"install: {path} ", self.install(*words, status=1))
+            self.assertIn(f"install: {path} ", self.install("--uninstall", status=1))
+        self.assertIn(f"install: {path} ", self.install(status=1))
         self.assertEqual(set(files_below(self.home)), {f".local/{LIST}"})
