@@ -1,7 +1,13 @@
 """The completions: each shell that is on this machine is asked what may stand at the end of a line."""
 
+import os
+import pty
+import shlex
+import signal
 import subprocess
 import tempfile
+import threading
+import time
 import unittest
 from pathlib import Path
 from shutil import which
@@ -26,6 +32,20 @@ for word in "$@"; do
 done
 """
 FISH = 'source "$argv[1]"; complete -C "$argv[2]"'
+# Makes zsh keep the line that is typed when Control-T is pressed.
+ZSH = """
+fpath=(%s $fpath); autoload -Uz compinit; compinit -u -D
+keep() { print -r -- "$BUFFER" >> .kept; BUFFER= }; zle -N keep; bindkey '^T' keep; print ready >> .kept
+"""
+
+
+def read_to_end(terminal):
+    """Reads what a terminal shows, so that the other side never waits."""
+    try:
+        while os.read(terminal, 1 << 16):
+            pass
+    except OSError:
+        pass
 
 
 class Folder(unittest.TestCase):
@@ -125,10 +145,63 @@ class Fish(Folder):
 
 
 @unittest.skipUnless(which("zsh"), "no zsh")
-class Zsh(unittest.TestCase):
-    def test_it_can_be_read(self):
-        done = subprocess.run(["zsh", "-n", str(FOLDER / "_hprof")], stderr=subprocess.PIPE, text=True)
-        self.assertEqual((done.returncode, done.stderr), (0, ""))
+class Zsh(Folder):
+    def completed(self, begun):
+        """What lines become at a terminal, when the key Tab is pressed behind each."""
+        pid, terminal = pty.fork()
+        if not pid:
+            try:
+                os.chdir(self.folder)
+                os.execvp("zsh", ["zsh", "-f", "-i"])
+            finally:
+                os._exit(127)
+        reader = threading.Thread(target=read_to_end, args=(terminal,))
+        reader.start()
+        try:
+            os.write(terminal, (ZSH % shlex.quote(str(FOLDER))).encode())
+            self.wait_for(1)
+            for number, line in enumerate(begun, 2):
+                os.write(terminal, f"{line}\t\x14".encode())
+                self.wait_for(number)
+            return self.wait_for(len(begun) + 1)[1:]
+        finally:
+            os.kill(pid, signal.SIGKILL)
+            os.waitpid(pid, 0)
+            reader.join()
+            os.close(terminal)
+
+    def wait_for(self, number):
+        """The lines that zsh has kept, once there are so many."""
+        kept, end = self.folder / ".kept", time.monotonic() + 20
+        while time.monotonic() < end:
+            lines = kept.read_text().splitlines() if kept.exists() else []
+            if len(lines) == number:
+                return lines
+            time.sleep(0.01)
+        raise AssertionError(f"zsh does not answer: {lines}")
+
+    def test_lines(self):
+        lines = {
+            "hprof sal": "hprof salvage ",
+            "hprof his": "hprof histo ",
+            "hprof --v": "hprof --version ",
+            "hprof check --h": "hprof check --help ",
+            "hprof help his": "hprof help histo ",
+            "hprof objects by": "hprof objects byte\\[\\] ",
+            "hprof objects byte\\[\\] f": "hprof objects byte\\[\\] friday.hprof ",
+            "hprof check f": "hprof check friday.hprof ",
+            "hprof check friday.hprof m": "hprof check friday.hprof monday.hprof ",
+            "hprof check n": "hprof check notes.txt ",
+            "hprof check tw": "hprof check two\\ words.hprof ",
+            "hprof why f": "hprof why f",
+            "hprof why 1 f": "hprof why 1 friday.hprof ",
+            "hprof join d": "hprof join dumps/",
+            "hprof join f": "hprof join f",
+            "hprof join out f": "hprof join out friday.hprof ",
+            "hprof diff a f": "hprof diff a friday.hprof ",
+            "hprof diff a b f": "hprof diff a b f",
+        }
+        self.assertEqual(dict(zip(lines, self.completed(list(lines)))), lines)
 
 
 class Words(unittest.TestCase):
