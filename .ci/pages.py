@@ -3,9 +3,10 @@
 
 In each page a link leads to a file; a path in backticks is one of the tree; a name in backticks, as `join_to` or `Gatherer::new`, stands
 in the code or the definitions; of `call`: `clause` the clause stands in a file that has the call; each crate that is named is there; and
-DEFINITIONS names each file of definitions, and LIBRARY quotes the examples. The manual page has the commands of the program, and man has
-no warning of it. Each command that README shows behind a `$` is run on the sample dumps, and its output compared line for line, if the
-program was built. The status is 0 if nothing differs.
+DEFINITIONS names each file of definitions, and LIBRARY quotes the examples. The manual page and the completions of shells have the
+commands of the program, the manual page of the viewer has its options, and man has no warning of them. Each command that README shows
+behind a `$` is run on the sample dumps, and its output compared line for line, if the program was built. The status is 0 if nothing
+differs.
 """
 
 import os
@@ -17,11 +18,13 @@ import tempfile
 from pathlib import Path
 from shutil import copy, which
 
+from completions import completions
+
 ROOT = Path(__file__).resolve().parent.parent
 PAGES = [ROOT / "README.md", ROOT / "CONTRIBUTING.md", *sorted(ROOT.glob("docs/*.md")), *sorted(ROOT.glob("bench/*.md"))]
 PROGRAM = ROOT / "crates" / "hprof" / "out" / "hprof"
 SAMPLES = ROOT / "crates" / "hprof" / "data"
-MANUAL = ROOT / "docs" / "hprof.1"
+MANUAL, VIEWER_MANUAL = ROOT / "docs" / "hprof.1", ROOT / "docs" / "hprof-view.1"
 COMMAND = re.compile(r'word: "(\w+)"')
 KIT = re.compile(r"rattle-kit-\w+ logic \w+")
 NAME = re.compile(r"[A-Za-z]\w*(::\w+)*(\(\))?")
@@ -88,15 +91,27 @@ def examples():
 
 
 def manual():
-    """The commands that the program or the manual page has alone, what `--version` should say, and the warnings of man."""
+    """The commands that the program or its manual page has alone, what `--version` should say, and the warnings of man."""
     code = ROOT / "crates" / "hprof_tool" / "src" / "command"
     commands = set(re.findall(r"(?m)^\.SS (\w+)", MANUAL.read_text()))
     tables = [code / "subcommands.rt", ROOT / "crates" / "hprof_ask" / "src" / "report_word.rt"]
     yield from sorted(commands ^ {word for table in tables for word in COMMAND.findall(table.read_text())})
     yield from set(KIT.findall((ROOT / "README.md").read_text())) - set(KIT.findall((code / "help.rt").read_text()))
-    if which("man"):
-        show = ["man", "--warnings", "-E", "UTF-8", "-l", "-Tutf8", MANUAL]
-        yield from subprocess.run(show, stdout=subprocess.DEVNULL, stderr=subprocess.PIPE, text=True).stderr.splitlines()
+    yield from warnings(MANUAL)
+
+
+def viewer_manual():
+    """The options that the viewer or its manual page has alone, and the warnings of man."""
+    words = (ROOT / "viewer" / "view" / "words.py").read_text()
+    yield from sorted(set(re.findall(r'"--(\w+)"', words)) ^ (set(re.findall(r"\\-\\-(\w+)", VIEWER_MANUAL.read_text())) - {"help"}))
+    yield from warnings(VIEWER_MANUAL)
+
+
+def warnings(page):
+    """What man warns of in a manual page, if there is a man."""
+    show = ["man", "--warnings", "-E", "UTF-8", "-l", "-Tutf8", page]
+    found = subprocess.run(show, stdout=subprocess.DEVNULL, stderr=subprocess.PIPE, text=True).stderr if which("man") else ""
+    return found.splitlines()
 
 
 def shown():
@@ -137,6 +152,8 @@ def main():
     faults += [f"docs/DEFINITIONS.md: {place}" for place in definitions()]
     faults += [f"docs/LIBRARY.md: {path} is not quoted" for path in examples()]
     faults += [f"docs/hprof.1: {fault}" for fault in manual()]
+    faults += [f"docs/hprof-view.1: {fault}" for fault in viewer_manual()]
+    faults += [f"docs/completions/{fault}" for fault in completions()]
     if PROGRAM.exists():
         faults += [f"README.md: {fault}" for fault in outputs()]
         faults += [f"docs/FORMAT.md: {fault}" for fault in hint()]
