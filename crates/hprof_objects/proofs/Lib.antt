@@ -1,8 +1,9 @@
 mod Enough
 mod Rows
 mod Stretches
-mod Whole
+pub mod Whole
 mod WholeHeap
+mod InOrder
 mod Spilled
 mod Logged
 mod Parts

@@ -1,11 +1,13 @@
 //! Merging stored objects into a sink.
 
-ghost use Rattle.std.specs.Prelude.{◌≡◌, ◌↔◌, List, IfErr, IsTrue};
+ghost use Rattle.std.specs.Prelude.{◌≡◌, ◌↔◌, List, length, IfErr, IfSome, IsSome, IsTrue};
 ghost use Rattle.hprof_merge.specs.Rows.{ByteRow};
+ghost use Rattle.hprof_merge.specs.Union.{IsUnion};
+ghost use Rattle.hprof_stream.specs.declared.limits.Limits.{Limits};
 ghost use Rattle.hprof_objects.specs.MergedObjects.{IfScratchFails, MergesLists, TellsChange, UnlessRefused};
 ghost use Rattle.hprof_objects.specs.ObjectCursors.{object_stop, part_under};
 ghost use Rattle.hprof_objects.specs.PartsRead.{PartRead};
-ghost use Rattle.hprof_objects.specs.StoredObjects.{AreToldAgain, IsOneStretch, objects_of, scratch_under};
+ghost use Rattle.hprof_objects.specs.StoredObjects.{AreToldAgain, HoldsObjects, IsOneStretch, objects_of, scratch_under};
 
 use crate::object_stop::ObjectStop;
 use crate::opening::{part_stop, scratch_stop};
@@ -48,16 +50,31 @@ impl<S: Scratch + Drop> StoredObjects<S> {
         }
     }
 
-    /// Returns whether no object is in memory or in scratch, and at most one stretch stays in its part. Then no identifier has objects with two
-    /// contents.
+    /// Returns whether no object is in memory or in scratch, and at most one stretch stays in its part. Then no identifier has objects with
+    /// two contents.
     pub fn is_one_stretch(&self) -> bool
         ensures { IsTrue result ↔ IsOneStretch self.now }
     {
         self.rows.is_empty() && self.runs.count() == 0 && self.stretches.len() <= 1
     }
 
-    /// Merges the objects into a sink, which is given each of them once, in ascending order of identifier, with the bytes of its sub-record.
-    /// They can be merged again as often as is wanted.
+    /// Returns the number of objects if `is_one_stretch`, and else `None`. Nothing is read.
+    pub fn count_in_one_stretch(&self) -> Option<u64>
+        ensures one { IsSome result ↔ IsOneStretch self.now }
+        ensures count { IfSome result (λ count. (limits : Limits) (reads : List PartRead) (rows : List ByteRow)
+            → HoldsObjects S.written S.health limits reads self.now → IsUnion (objects_of reads) rows → count ≡ length rows) }
+    {
+        if !self.is_one_stretch() {
+            return None;
+        }
+        match self.stretches.first() {
+            Some(stretch) => Some(stretch.count),
+            None => Some(0),
+        }
+    }
+
+    /// Merges the objects into a sink, which is given each of them once, in ascending order of identifier, with the bytes of its
+    /// sub-record. They can be merged again as often as is wanted.
     ///
     /// The parts are those that were read, and the limits are those of the first reading; the reads of a part are counted anew.
     ///
