@@ -3,7 +3,8 @@
 import re
 import unittest
 
-from view.answers import Answer, Stream
+from hprof.answers import Answer, Stream
+from hprof.lines import Lines
 from view.pages.of_class import superclass
 
 from .running import FRIDAY, MONDAY, Viewer, time_of
@@ -224,8 +225,8 @@ class Superclass(unittest.TestCase):
             data = head + b"own 0 int b\nown 1 object " + field + b"\n\n"
             for size in (1, 20, len(data)):
                 pieces = [data[place : place + size] for place in range(0, len(data), size)]
-                one, found = superclass(Answer(Stream(lambda _: pieces.pop(0))))
-                self.assertEqual((one.id, one.parent, found), (0x10, 8, has_value))
+                one, found = superclass(Lines(Answer(Stream(lambda _: pieces.pop(0)))))
+                self.assertEqual((one.id, one.superclass, found), (0x10, 8, has_value))
 
 
 class TwoParts(unittest.TestCase):
