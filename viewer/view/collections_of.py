@@ -32,9 +32,7 @@ class Other(Exception):
 
 def instance(lines):
     """A reader of an instance: the printed label of its class, and its fields by name, of which the first of a name counts."""
-    contents.class_head(lines)
-    contents.pass_class(lines)
-    head = contents.object_head(lines)
+    head = contents.head_of_object(lines)
     if not isinstance(head, contents.InstanceHead):
         return None
     fields = {}
@@ -48,9 +46,7 @@ def elements(first, count):
     """A reader of some elements of an array of objects, and of their number."""
 
     def read(lines):
-        contents.class_head(lines)
-        contents.pass_class(lines)
-        head = contents.object_head(lines)
+        head = contents.head_of_object(lines)
         if not isinstance(head, contents.ObjectArrayHead):
             return None
         rows = contents.elements(lines)

@@ -235,6 +235,13 @@ def object_head(lines: Lines) -> Optional[Head]:
     return PrimitiveArrayHead(identifier(head.group(1)), head.group(2), int(head.group(3)))
 
 
+def head_of_object(lines: Lines) -> Optional[Head]:
+    """The first line of the object, where a class comes before it behind that. None if there is no object."""
+    if class_head(lines) is not None:
+        pass_class(lines)
+    return object_head(lines)
+
+
 def no_fields(lines: Lines) -> Optional[str]:
     """Why the fields of an instance are not known, or None if they come next."""
     missing = lines.next_is(NO_FIELDS)

@@ -19,9 +19,7 @@ def field_of(place):
     """A reader of an instance: its class, and the field at that place."""
 
     def read(lines):
-        contents.class_head(lines)
-        contents.pass_class(lines)
-        head = contents.object_head(lines)
+        head = contents.head_of_object(lines)
         if not isinstance(head, contents.InstanceHead):
             return None, None
         if contents.no_fields(lines):
