@@ -22,19 +22,29 @@ class Ended(Exception):
 class Stream:
     """Bytes that come in pieces, and those of them that were not taken yet.
 
-    `settled` is False while a line is taken: if that is broken off, nobody knows where the next line begins."""
+    `settled` is False while a line is taken: if that is broken off, nobody knows where the next line begins. `ended` is True once no more
+    comes."""
 
     def __init__(self, read: Callable[[int], bytes]) -> None:
         self.read = read
         self.held = b""
         self.place = 0
         self.settled = True
+        self.ended = False
+
+    def check(self) -> None:
+        """Raises Ended if no more comes, and UnexpectedAnswer if nobody knows where the next line begins."""
+        if self.ended:
+            raise Ended
+        if not self.settled:
+            raise UnexpectedAnswer("an answer that was not read to its end")
 
     def more(self) -> None:
         """Waits for the next piece."""
         before, self.settled = self.settled, False
         piece = self.read(PIECE)
         if not piece:
+            self.ended = True
             raise Ended
         self.held = self.held[self.place :] + piece
         self.place = 0
@@ -59,6 +69,7 @@ class Answer:
         """Whether no line is left. To be asked at the start of a line."""
         if self.closed:
             raise ValueError("the answer was left: its lines can be read within its block alone")
+        self.stream.check()
         if not self.over and self.stream.next_byte() == 10:
             self.stream.place += 1
             self.over = True

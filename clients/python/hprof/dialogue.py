@@ -6,7 +6,6 @@ import threading
 from typing import Any, Callable, Iterable, Iterator, List, NamedTuple, Optional
 
 from .answers import WHOLE, Answer, Ended, Stream
-from .errors import UnexpectedAnswer
 from .lines import Lines
 
 # A pipe holds at least so many bytes, so a turn of questions is written at once, and its answers are read before the next turn: neither
@@ -59,8 +58,6 @@ class Dialogue:
         self.lock = threading.Lock()
         self.owner: Optional[int] = None
         self.due = 0
-        self.broken = False
-        self.ended = False
         widen(answers)
 
     def ask(self, readings: Iterable[Reading]) -> List[Any]:
@@ -93,25 +90,18 @@ class Dialogue:
             try:
                 self.pass_over_due()
                 yield
-            except Ended:
-                self.ended = True
-                raise
             except Exception:
-                self.broken = self.broken or not self.stream.settled
                 raise
             except BaseException:
                 # Whoever presses Control-C does not wait for the rest.
-                self.broken = True
+                self.stream.settled = False
                 raise
             finally:
                 self.owner = None
 
     def pass_over_due(self) -> None:
         """Passes over answers that were left because a reader failed."""
-        if self.ended:
-            raise Ended
-        if self.broken:
-            raise UnexpectedAnswer("an answer that was not read to its end")
+        self.stream.check()
         while self.due:
             self.finish(Lines(Answer(self.stream)))
 
@@ -126,10 +116,8 @@ class Dialogue:
         lines = Lines(Answer(self.stream), limit)
         try:
             yield lines
-        except Ended:
-            raise
         except Exception:
-            if self.stream.settled:
+            if self.stream.settled and not self.stream.ended:
                 self.finish(lines)
             raise
         self.finish(lines)
@@ -147,11 +135,12 @@ class Dialogue:
             while data:
                 data = data[os.write(self.questions, data) :]
         except BrokenPipeError:
+            self.stream.ended = True
             raise Ended from None
 
     def is_idle(self) -> bool:
         """Whether all answers were read to their ends."""
-        return not self.broken and self.due == 0
+        return self.stream.settled and self.due == 0
 
     def close(self) -> None:
         """Lets nobody read on. The pipes are not closed."""

@@ -1,5 +1,6 @@
 """Answers that are read as they come: readers that take a part or fail, blocks that are left, long answers, and threads that wait."""
 
+import contextlib
 import itertools
 import subprocess
 import threading
@@ -216,13 +217,15 @@ class Blocks(Tested):
         self.assertLess(time.monotonic() - start, 8)
 
     def test_a_line_that_is_broken_off(self):
-        """If reading fails within a line, nobody knows where the next answer begins."""
-        heap = self.opened(MILLION)
-        with self.assertRaises(TimeoutError), heap.rows("objects", "byte[]"):
-            with mock.patch.object(heap._session.dialogue.stream, "read", side_effect=TimeoutError):
-                heap._session.dialogue.stream.more()
-        with self.assertRaises(hprof.UnexpectedAnswer):
-            heap.histogram()
+        """If reading fails within a line, nobody knows where the next one begins, whoever catches the exception."""
+        for is_caught in (False, True):
+            heap = self.opened(MILLION)
+            with self.assertRaises(hprof.UnexpectedAnswer if is_caught else TimeoutError), heap.rows("objects", "byte[]"):
+                with mock.patch.object(heap._session.dialogue.stream, "read", side_effect=TimeoutError):
+                    with self.assertRaises(TimeoutError) if is_caught else contextlib.nullcontext():
+                        heap._session.dialogue.stream.more()
+            with self.assertRaises(hprof.UnexpectedAnswer):
+                heap.histogram()
 
     def test_a_heap_that_is_closed_within_a_block(self):
         heap = self.opened(MILLION)
