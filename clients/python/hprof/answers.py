@@ -175,7 +175,7 @@ class Answer:
                     yield line
                 continue
             self.stream.place = stop
-            while True:
+            while place < stop:
                 match = pattern.search(held, place, stop)
                 if not match:
                     break

@@ -77,6 +77,11 @@ class Answers(unittest.TestCase):
             self.assertEqual(list(Answer(source).found(re.compile(b"last"))), [])
             self.assertEqual(list(Answer(source).found(re.compile(b"LAST", re.I))), [b"last"])
 
+    def test_a_pattern_that_is_found_everywhere(self):
+        for source in self.each():
+            found = [list(Answer(source).found(re.compile(b""))) for _ in range(3)]
+            self.assertEqual(found, [LINES, [], [b"last"]])
+
     def test_any_way_through_any_answer(self):
         """Skipping and reading in any order sees the lines that a list of them has."""
         dice = random.Random(5)

@@ -35,6 +35,13 @@ for line in sys.stdin:
     if line == "histo\\n":
         os.kill(os.getpid(), 9)
 """
+# It waits within an answer.
+SLOW = """
+for line in sys.stdin:
+    sys.stdout.write("check\\n\\n" if line == "help\\n" else "1 1\\n1 ")
+    sys.stdout.flush()
+    time.sleep(60 * (line != "help\\n"))
+"""
 
 
 def all_of(lines):
@@ -206,10 +213,10 @@ class Blocks(Tested):
 
     def test_a_block_that_is_broken_off(self):
         """Nobody waits for the rest of an answer after Control-C."""
-        slow = ANSWERING.replace("    sys.stdout.write", "    time.sleep(60 * (question != 'help'))\n    sys.stdout.write")
-        heap = self.opened("answers = {}\n" + slow)
+        heap = self.opened(SLOW)
         start = time.monotonic()
-        with self.assertRaises(KeyboardInterrupt), heap.rows("objects", "byte[]"):
+        with self.assertRaises(KeyboardInterrupt), heap.rows("objects", "byte[]") as rows:
+            self.assertEqual(next(rows), (1, 1))
             raise KeyboardInterrupt
         with self.assertRaises(hprof.UnexpectedAnswer):
             heap.histogram()
