@@ -207,6 +207,11 @@ class Search(unittest.TestCase):
         self.assertIn("0 classes and types with face in the name.", self.viewer.page("find?q=face").text)
         self.assertIn("12 classes and types with a in the name.", self.viewer.page("find?q=a").text)
 
+    def test_words_without_letters(self):
+        """What stands in every line is looked for in the names alone, and within the answer."""
+        self.assertIn("15 classes and types with * in the name.", self.viewer.page("find?q=*").text)
+        self.assertEqual([row[0] for row in self.viewer.page("find?q=%5B%5D").rows[1:]], ["byte[]", "java.lang.Object[]"])
+
     def test_a_word_that_is_a_part_of_every_line(self):
         self.assertEqual(len(self.viewer.page("find?q=super").rows), 0)
         self.assertEqual(len(self.viewer.page("find?q=740000000+bytes").rows), 0)
