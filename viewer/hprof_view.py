@@ -6,7 +6,12 @@ import sys
 if sys.version_info < (3, 8):
     sys.exit("hprof_view: needs Python 3.8 or later")
 
-from view.command import main  # noqa: E402
+try:
+    from view.command import main
+except ModuleNotFoundError as missing:
+    if missing.name != "hprof":
+        raise
+    sys.exit("hprof_view: needs the Python package hprof: clients/python beside the viewer, or pip install clients/python")
 
 if __name__ == "__main__":
     main()

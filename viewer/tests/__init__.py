@@ -1,1 +1,3 @@
 """The tests of the viewer: `viewer/test` runs them."""
+
+import view  # noqa: F401  It finds the package hprof.

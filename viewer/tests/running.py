@@ -46,13 +46,14 @@ class Response:
 class Viewer:
     """`hprof_view.py` with some words, as long as the block runs."""
 
-    def __init__(self, *words, program=None, **options):
+    def __init__(self, *words, program=None, script=VIEWER, **options):
+        self.script = str(script)
         self.options = options
         self.words = [str(word) for word in words]
         self.program = str(program or hprof())
 
     def __enter__(self):
-        command = [sys.executable, str(VIEWER), "--hprof", self.program, *self.words]
+        command = [sys.executable, self.script, "--hprof", self.program, *self.words]
         self.process = subprocess.Popen(command, stdout=subprocess.PIPE, stderr=subprocess.PIPE, text=True, **self.options)
         self.line = self.process.stdout.readline()
         match = ADDRESS.fullmatch(self.line)

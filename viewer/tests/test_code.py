@@ -9,7 +9,7 @@ from .running import ROOT
 
 VIEWER = ROOT / "viewer"
 FILES = [*sorted(VIEWER.glob("**/*.py")), VIEWER / "test", VIEWER / "browser_test", VIEWER / "tests" / "fake_hprof"]
-OURS = {"view", "tests", "selenium"}
+OURS = {"view", "tests", "selenium", "hprof"}
 NAMES = getattr(sys, "stdlib_module_names", None)
 
 

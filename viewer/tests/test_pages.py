@@ -3,7 +3,8 @@
 import re
 import unittest
 
-from view.answers import Answer, Stream
+from hprof.answers import Answer, Stream
+from hprof.lines import Lines
 from view.pages.of_class import superclass
 
 from .running import FRIDAY, MONDAY, Viewer, time_of
@@ -206,6 +207,11 @@ class Search(unittest.TestCase):
         self.assertIn("0 classes and types with face in the name.", self.viewer.page("find?q=face").text)
         self.assertIn("12 classes and types with a in the name.", self.viewer.page("find?q=a").text)
 
+    def test_words_without_letters(self):
+        """What stands in every line is looked for in the names alone, and within the answer."""
+        self.assertIn("15 classes and types with * in the name.", self.viewer.page("find?q=*").text)
+        self.assertEqual([row[0] for row in self.viewer.page("find?q=%5B%5D").rows[1:]], ["byte[]", "java.lang.Object[]"])
+
     def test_a_word_that_is_a_part_of_every_line(self):
         self.assertEqual(len(self.viewer.page("find?q=super").rows), 0)
         self.assertEqual(len(self.viewer.page("find?q=740000000+bytes").rows), 0)
@@ -224,8 +230,8 @@ class Superclass(unittest.TestCase):
             data = head + b"own 0 int b\nown 1 object " + field + b"\n\n"
             for size in (1, 20, len(data)):
                 pieces = [data[place : place + size] for place in range(0, len(data), size)]
-                one, found = superclass(Answer(Stream(lambda _: pieces.pop(0))))
-                self.assertEqual((one.id, one.parent, found), (0x10, 8, has_value))
+                one, found = superclass(Lines(Answer(Stream(lambda _: pieces.pop(0)))))
+                self.assertEqual((one.id, one.superclass, found), (0x10, 8, has_value))
 
 
 class TwoParts(unittest.TestCase):

@@ -5,7 +5,7 @@ import unittest
 
 from view import subjects
 from view.class_names import written
-from view.names import Wanted, printed_form
+from view.names import Wanted
 from view.pages.overview import moment
 from view.paging import Part, page, pager
 from view.printed import cut, shown, titled
@@ -72,26 +72,26 @@ class Pages(unittest.TestCase):
 
 class Names(unittest.TestCase):
     def test_escapes_become_characters(self):
-        self.assertEqual(shown(rb"caf\u00e9 \u4f60 \ud83d\ude00 \u005c"), "caf\u00e9 \u4f60 \U0001f600 \\")
+        self.assertEqual(shown(r"caf\u00e9 \u4f60 \ud83d\ude00 \u005c"), "caf\u00e9 \u4f60 \U0001f600 \\")
 
     def test_what_cannot_be_seen_stays_escaped(self):
-        self.assertEqual(shown(rb"a\u0000b\u202e\ud800\u000a"), "a<i>\\u0000</i>b<i>\\u202e</i><i>\\ud800</i><i>\\n</i>")
-        self.assertEqual(titled(rb"a\u0000b\u202e"), "a\\u0000b\\u202e")
+        self.assertEqual(shown(r"a\u0000b\u202e\ud800\u000a"), "a<i>\\u0000</i>b<i>\\u202e</i><i>\\ud800</i><i>\\n</i>")
+        self.assertEqual(titled(r"a\u0000b\u202e"), "a\\u0000b\\u202e")
 
     def test_markup_is_escaped(self):
-        self.assertEqual(shown(b"<b>\"'&amp;"), "&lt;b&gt;&quot;&#x27;&amp;amp;")
-        self.assertEqual(shown(rb"\u003cscript\u003e"), "&lt;script&gt;")
+        self.assertEqual(shown("<b>\"'&amp;"), "&lt;b&gt;&quot;&#x27;&amp;amp;")
+        self.assertEqual(shown(r"\u003cscript\u003e"), "&lt;script&gt;")
 
     def test_lines_of_a_text(self):
-        self.assertEqual(shown(rb"a\u000ab\u000d", lines=True), "a\nb<i>\\r</i>")
+        self.assertEqual(shown(r"a\u000ab\u000d", lines=True), "a\nb<i>\\r</i>")
 
     def test_names_that_are_no_text(self):
-        self.assertEqual([shown(rb"\?7400"), shown(rb"\xc0af")], ["\\?7400", "\\xc0af"])
+        self.assertEqual([shown(r"\?7400"), shown(r"\xc0af")], ["\\?7400", "\\xc0af"])
 
     def test_no_escape_is_cut(self):
-        printed = rb"abc\u00e9"
-        self.assertEqual([cut(printed, limit)[0] for limit in range(3, 10)], [b"abc"] * 6 + [printed])
-        self.assertTrue(shown(b"x" * 500).endswith("x<i>\u2026</i>"))
+        printed = r"abc\u00e9"
+        self.assertEqual([cut(printed, limit)[0] for limit in range(3, 10)], ["abc"] * 6 + [printed])
+        self.assertTrue(shown("x" * 500).endswith("x<i>\u2026</i>"))
 
 
 class Identifiers(unittest.TestCase):
@@ -107,9 +107,9 @@ class Identifiers(unittest.TestCase):
             self.assertIsNone(subjects.number_of(text), text)
 
     def test_questions(self):
-        self.assertEqual(subjects.about("refs", 0x7F), "refs 7f")
-        self.assertEqual([subjects.objects_of(kind) for kind in (255, "byte")], ["objects ff", "objects byte[]"])
-        self.assertEqual([subjects.biggest_of(kind) for kind in (255, "byte")], ["biggest ff", "biggest byte[]"])
+        self.assertEqual(subjects.about("refs", 0x7F).line, "refs 7f")
+        self.assertEqual([subjects.objects_of(kind).line for kind in (255, "byte")], ["objects ff", "objects byte[]"])
+        self.assertEqual([subjects.biggest_of(kind).line for kind in (255, "byte")], ["biggest ff", "biggest byte[]"])
 
     def test_no_other_questions(self):
         for report, number in (("check", 1), ("object\nhelp", 1), ("object", "7f"), ("object", -1), ("object", 1 << 64), ("object", True)):
@@ -122,19 +122,18 @@ class Identifiers(unittest.TestCase):
                 subjects.biggest_of(kind)
 
     def test_words_of_a_search(self):
-        self.assertEqual(printed_form("a.b\u00e9\\\U0001f600"), rb"a.b\u00e9\u005c\ud83d\ude00")
         for word, label in (
-            ("java.util.Array", b"java/util/ArrayList"), ("ARRAY", b"java/util/ArrayList"), ("$1[]", b"[LX$1;"), ("*.x$*[]", b"[La/X$1;"),
-            ("[LX$1;", b"[LX$1;"), ("byte[][]", b"[[B"), ("te[]", b"byte[]"), ("a*b*c", b"abc"), ("*", b"anything"), ("", b""),
+            ("java.util.Array", "java/util/ArrayList"), ("ARRAY", "java/util/ArrayList"), ("$1[]", "[LX$1;"), ("*.x$*[]", "[La/X$1;"),
+            ("[LX$1;", "[LX$1;"), ("byte[][]", "[[B"), ("te[]", "byte[]"), ("a*b*c", "abc"), ("*", "anything"), ("", ""),
         ):
             self.assertTrue(Wanted(word).in_name(label), word)
-            self.assertTrue(Wanted(word).in_line.search(b"1 2 3 " + label), word)
-        for word, label in (("a.c", b"abc"), ("a*b", b"ba"), ("x[]", b"X"), ("int[]", b"[J")):
+            self.assertTrue(Wanted(word).in_line.search(b"1 2 3 " + label.encode()), word)
+        for word, label in (("a.c", "abc"), ("a*b", "ba"), ("x[]", "X"), ("int[]", "[J")):
             self.assertFalse(Wanted(word).in_name(label), word)
 
     def test_names_of_classes(self):
         for label, name in (
-            (b"[Ljava/util/HashMap$Node;", b"java.util.HashMap$Node[]"), (b"[[I", b"int[][]"), (b"a/b-c", b"a.b-c"), (b"byte[]", b"byte[]"),
-            (b"[Lx", b"[Lx"), (b"[V", b"[V"), (b"a//b", b"a//b"), (b"</b>", b"</b>"), (b"\\u00e9/x", b"\\u00e9.x"), (b"", b""),
+            ("[Ljava/util/HashMap$Node;", "java.util.HashMap$Node[]"), ("[[I", "int[][]"), ("a/b-c", "a.b-c"), ("byte[]", "byte[]"),
+            ("[Lx", "[Lx"), ("[V", "[V"), ("a//b", "a//b"), ("</b>", "</b>"), ("\\u00e9/x", "\\u00e9.x"), ("", ""),
         ):
             self.assertEqual(written(label), name)

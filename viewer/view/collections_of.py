@@ -4,11 +4,12 @@ Where a field is missing, or is of another type, or leads to another class, noth
 """
 
 from collections import namedtuple
+from itertools import islice
 
-from . import lines
-from .printed import SHORT
+from hprof import contents
+from hprof.values import REFERENCES
+
 from .subjects import about
-from .values import REFERENCES
 
 # The entries that are looked for in chains; those behind them are left out.
 MOST = 10_000
@@ -20,47 +21,37 @@ Entry = namedtuple("Entry", "key value")
 Instance = namedtuple("Instance", "label fields")
 # The entries of a page, and how many there are; `is_known` is False if there are at least so many.
 Entries = namedtuple("Entries", "entries total is_known")
-CONCURRENT = tuple(b"java/util/concurrent/ConcurrentHashMap$" + name for name in (b"Node", b"TreeNode", b"TreeBin"))
+CONCURRENT = tuple("java/util/concurrent/ConcurrentHashMap$" + name for name in ("Node", "TreeNode", "TreeBin"))
 TREE_BIN = CONCURRENT[2]
-NODES = (b"java/util/HashMap$Node", b"java/util/HashMap$TreeNode", b"java/util/LinkedHashMap$Entry")
+NODES = ("java/util/HashMap$Node", "java/util/HashMap$TreeNode", "java/util/LinkedHashMap$Entry")
 
 
 class Other(Exception):
     """The layout is another one."""
 
 
-def instance(answer):
-    """A reader of an instance: the label of its class, and its fields by name, of which the first of a name counts."""
-    fields, label = {}, None
-    for line in answer.lines(limit=SHORT):
-        word = lines.word(line)
-        if word == b"instance":
-            label = lines.head(line).label
-        elif word == b"field" and label is not None and len(fields) < FIELDS:
-            field = lines.field(line)
+def instance(lines):
+    """A reader of an instance: the printed label of its class, and its fields by name, of which the first of a name counts."""
+    head = contents.head_of_object(lines)
+    if not isinstance(head, contents.InstanceHead):
+        return None
+    fields = {}
+    if not contents.no_fields(lines):
+        for field in islice(contents.fields(lines), FIELDS):
             fields.setdefault(field.name, field)
-    return Instance(label, fields) if label is not None else None
+    return Instance(head.label.printed, fields)
 
 
 def elements(first, count):
     """A reader of some elements of an array of objects, and of their number."""
 
-    def read(answer):
-        head = None
-        for line in answer.lines(limit=SHORT):
-            if lines.word(line) == b"objects":
-                head = lines.head(line)
-                break
-        if head is None:
+    def read(lines):
+        head = contents.head_of_object(lines)
+        if not isinstance(head, contents.ObjectArrayHead):
             return None
-        answer.skip(first)
-        found = []
-        while len(found) < count:
-            line = answer.line(limit=100)
-            if line is None:
-                break
-            found.append(int(line.split(b" ")[2], 16))
-        return head.count, found
+        rows = contents.elements(lines)
+        rows.skip(first)
+        return head.length, list(islice(rows, count))
 
     return read
 
@@ -70,7 +61,7 @@ def reference(one, name):
     field = one.fields.get(name)
     if field is None or field.type not in REFERENCES:
         raise Other
-    return int(field.bits, 16)
+    return field.value
 
 
 def number(one, name):
@@ -78,8 +69,7 @@ def number(one, name):
     field = one.fields.get(name)
     if field is None or field.type != "int":
         raise Other
-    bits = int(field.bits, 16)
-    return bits - (1 << 32) if bits >> 31 else bits
+    return field.value
 
 
 def instances(heap, ids):
@@ -110,8 +100,8 @@ def page_of(found, page, total, is_known=True):
 
 
 def array_list(heap, one, page):
-    size = number(one, b"size")
-    total, found = array(heap, reference(one, b"elementData"), page.first, max(0, min(page.size, size - page.first)))
+    size = number(one, "size")
+    total, found = array(heap, reference(one, "elementData"), page.first, max(0, min(page.size, size - page.first)))
     if not 0 <= size <= total:
         raise Other
     return Entries([Entry(None, one) for one in found], size, True)
@@ -119,8 +109,8 @@ def array_list(heap, one, page):
 
 def array_deque(heap, one, page):
     """The elements from the head on, round the end of the array, to the tail."""
-    head, tail = number(one, b"head"), number(one, b"tail")
-    total, found = array(heap, reference(one, b"elements"))
+    head, tail = number(one, "head"), number(one, "tail")
+    total, found = array(heap, reference(one, "elements"))
     if not (0 <= head < total and 0 <= tail < total):
         raise Other
     held = [Entry(None, one) for one in (found[head:] + found[:head])[: (tail - head) % total]]
@@ -149,18 +139,18 @@ def needed(page):
 
 
 def linked_list(heap, one, page):
-    nodes = chain(heap, reference(one, b"first"), b"next", (b"java/util/LinkedList$Node",), needed(page))
-    return page_of([Entry(None, reference(node, b"item")) for node in nodes], page, number(one, b"size"))
+    nodes = chain(heap, reference(one, "first"), "next", ("java/util/LinkedList$Node",), needed(page))
+    return page_of([Entry(None, reference(node, "item")) for node in nodes], page, number(one, "size"))
 
 
-def entry(node, value=b"value"):
-    return Entry(reference(node, b"key"), reference(node, value))
+def entry(node, value="value"):
+    return Entry(reference(node, "key"), reference(node, value))
 
 
 def linked_hash_map(heap, one, page):
     """The entries in the order of the map."""
-    nodes = chain(heap, reference(one, b"head"), b"after", NODES, needed(page))
-    return page_of([entry(node) for node in nodes], page, number(one, b"size"))
+    nodes = chain(heap, reference(one, "head"), "after", NODES, needed(page))
+    return page_of([entry(node) for node in nodes], page, number(one, "size"))
 
 
 # ---- tables
@@ -168,12 +158,12 @@ def linked_hash_map(heap, one, page):
 
 def plain(node):
     """What follows a node in its bucket, and whether the node is an entry."""
-    return reference(node, b"next"), True
+    return reference(node, "next"), True
 
 
 def concurrent(node):
     """The same. Before a bucket that is a tree stands a bin, which leads to the first node."""
-    return (reference(node, b"first"), False) if node.label == TREE_BIN else plain(node)
+    return (reference(node, "first"), False) if node.label == TREE_BIN else plain(node)
 
 
 def in_buckets(heap, heads, classes, step, seen):
@@ -203,20 +193,20 @@ def of_table(heap, table, classes, step, count):
 
 
 def hash_map(heap, one, page):
-    nodes, _ = of_table(heap, reference(one, b"table"), NODES, plain, needed(page))
-    return page_of([entry(node) for node in nodes], page, number(one, b"size"))
+    nodes, _ = of_table(heap, reference(one, "table"), NODES, plain, needed(page))
+    return page_of([entry(node) for node in nodes], page, number(one, "size"))
 
 
 def concurrent_hash_map(heap, one, page):
     """The entries of the table; its map does not know their number. While a table is moved to a larger one, its layout is another one."""
-    nodes, are_all = of_table(heap, reference(one, b"table"), CONCURRENT, concurrent, needed(page) + 1)
-    return page_of([entry(node, b"val") for node in nodes], page, len(nodes), are_all)
+    nodes, are_all = of_table(heap, reference(one, "table"), CONCURRENT, concurrent, needed(page) + 1)
+    return page_of([entry(node, "val") for node in nodes], page, len(nodes), are_all)
 
 
 def hash_set(heap, one, page):
     """The keys of the map that a set is made of."""
-    (map_of,) = instances(heap, [reference(one, b"map")])
-    readers = {b"java/util/HashMap": hash_map, b"java/util/LinkedHashMap": linked_hash_map}
+    (map_of,) = instances(heap, [reference(one, "map")])
+    readers = {"java/util/HashMap": hash_map, "java/util/LinkedHashMap": linked_hash_map}
     if map_of.label not in readers:
         raise Other
     found = readers[map_of.label](heap, map_of, page)
@@ -224,14 +214,14 @@ def hash_set(heap, one, page):
 
 
 READERS = {
-    b"java/util/ArrayList": array_list,
-    b"java/util/ArrayDeque": array_deque,
-    b"java/util/LinkedList": linked_list,
-    b"java/util/HashMap": hash_map,
-    b"java/util/LinkedHashMap": linked_hash_map,
-    b"java/util/concurrent/ConcurrentHashMap": concurrent_hash_map,
-    b"java/util/HashSet": hash_set,
-    b"java/util/LinkedHashSet": hash_set,
+    "java/util/ArrayList": array_list,
+    "java/util/ArrayDeque": array_deque,
+    "java/util/LinkedList": linked_list,
+    "java/util/HashMap": hash_map,
+    "java/util/LinkedHashMap": linked_hash_map,
+    "java/util/concurrent/ConcurrentHashMap": concurrent_hash_map,
+    "java/util/HashSet": hash_set,
+    "java/util/LinkedHashSet": hash_set,
 }
 
 

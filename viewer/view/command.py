@@ -8,6 +8,8 @@ import threading
 import time
 from queue import Empty, SimpleQueue
 
+from hprof import ProgramMissing
+
 from . import words
 from .opening import Opener
 from .request import Guard
@@ -89,3 +91,5 @@ def main():
         sys.exit(serve(found, hprof))
     except OSError as fault:
         sys.exit(f"hprof_view: {fault}")
+    except ProgramMissing as missing:
+        sys.exit(f"hprof_view: {missing.__cause__ or missing}")

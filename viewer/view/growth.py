@@ -1,9 +1,14 @@
 """What grew from one dump to another: `hprof diff`, run once, with its lines in a file that has no name."""
 
 import os
+import subprocess
 import tempfile
 
-from .answers import Answer, Ended, Stream
+from hprof.answers import Answer, Stream
+from hprof.lines import Lines
+from hprof.program import Running
+
+from .names import LABELLED
 from .program import Program
 
 
@@ -12,15 +17,24 @@ class Growth:
 
     def __init__(self, hprof, old, new):
         self.lines = tempfile.TemporaryFile()
-        self.program = Program([hprof, "diff"], [old, new], stdout=self.lines)
+        running = Running(hprof, ["diff"], [old, new], stdin=subprocess.DEVNULL, stdout=self.lines)
+        self.program = Program(running, [old, new])
         self.places = self.program.places
         self.settled = self.program.ended
 
+    def is_refused(self):
+        """Whether a dump was refused, once both are settled."""
+        return bool(self.program.process.returncode)
+
+    def fault(self):
+        """Why hprof ended."""
+        return self.program.running.fault()
+
     def read(self, reader):
         """What the reader makes of the lines."""
-        if self.program.process.returncode:
-            raise Ended
-        return reader(Answer(Stream(self.pieces())))
+        if self.is_refused():
+            raise self.fault()
+        return reader(Lines(Answer(Stream(self.pieces())), LABELLED))
 
     def pieces(self):
         """A function that reads on in the lines, with the empty line behind them that an answer of `ask` has."""

@@ -2,39 +2,31 @@
 
 import re
 
+from hprof.names import escaped
+
 from .class_names import written
 
-# The characters of a word that are looked for.
+# The characters of a word that are looked for, and those of a line that are kept where labels are told apart.
 LONGEST = 1000
-
-
-def printed_form(word):
-    """A word as hprof prints names: ASCII but the backslash as it is, each other UTF-16 unit escaped."""
-    pieces = []
-    for character in word:
-        if " " <= character <= "~" and character != "\\":
-            pieces.append(character)
-        else:
-            held = character.encode("utf-16-be", "surrogatepass").hex()
-            pieces.extend("\\u" + held[place : place + 4] for place in range(0, len(held), 4))
-    return "".join(pieces).encode("ascii")
+LABELLED = LONGEST + 100
 
 
 def pattern_of(printed):
     """Texts that have this part, whatever the case. A dot and a slash are one."""
-    return re.compile(b"[./]".join(re.escape(part) for part in re.split(rb"[./]", printed)), re.IGNORECASE)
+    return re.compile("[./]".join(re.escape(part) for part in re.split(r"[./]", printed)), re.IGNORECASE)
 
 
 class Wanted:
-    """Names that have a word as a part, as people write them or as the JVM does. A `*` in the word stands for any text."""
+    """Printed names that have a word as a part, as people write them or as the JVM does. A `*` in the word stands for any text."""
 
     def __init__(self, word):
-        pieces = [piece for piece in printed_form(word).split(b"*") if piece]
+        pieces = [piece for piece in escaped(word).split("*") if piece]
         self.pieces = [pattern_of(piece) for piece in pieces]
-        names = [re.sub(rb"[\[\]]+", b"", piece) for piece in pieces]
+        names = [re.sub(r"[\[\]]+", "", piece) for piece in pieces]
         # What a line of a report has if its name is wanted: the longest piece. Arrays of numbers have no name in it.
-        longest = max(names, key=len, default=b"")
-        self.in_line = re.compile(pattern_of(longest).pattern + rb"|\[[ZCFDBSIJ]$" if longest else b"", re.IGNORECASE | re.MULTILINE)
+        longest = max(names, key=len, default="")
+        in_line = pattern_of(longest).pattern + r"|\[[ZCFDBSIJ]$" if longest else ""
+        self.in_line = re.compile(in_line.encode("ascii"), re.IGNORECASE | re.MULTILINE)
 
     def in_text(self, text):
         """Whether a text has the pieces, one behind the other."""

@@ -1,6 +1,7 @@
 """Pages of a long list: which lines a page has, and the links to the others."""
 
 from collections import namedtuple
+from itertools import islice
 from urllib.parse import urlencode
 
 from .markup import Markup, element, joined, link
@@ -17,33 +18,28 @@ def page(number, size=PAGE):
 
 
 class Kept:
-    """The entries of one page, of all lines that are added one after the other."""
+    """The entries of one page, of all that are added one after the other."""
 
     def __init__(self, page):
         self.page = page
         self.entries = []
         self.total = 0
 
-    def add(self, parse, line):
-        """Counts a line, and keeps what is parsed of it if the page has it."""
+    def add(self, entry):
+        """Counts an entry, and keeps it if the page has it."""
         if self.page.first <= self.total < self.page.first + self.page.size:
-            self.entries.append(parse(line))
+            self.entries.append(entry)
         self.total += 1
 
     def part(self):
         return Part(self.entries, self.total, self.page)
 
 
-def taken(lines, parse, limit, page):
-    """A reader of one page of an answer, of each line at most `limit` bytes, and of the number of all lines."""
-    passed = lines.skip(page.first)
-    entries = []
-    while len(entries) < page.size:
-        line = lines.line(limit=limit)
-        if line is None:
-            break
-        entries.append(parse(line))
-    return Part(entries, passed + len(entries) + lines.rest(), page)
+def taken(rows, page, made=lambda row: row):
+    """One page of rows, and the number of all. The rows of other pages are passed over."""
+    passed = rows.skip(page.first)
+    entries = [made(row) for row in islice(rows, page.size)]
+    return Part(entries, passed + len(entries) + rows.rest(), page)
 
 
 def last_page(total, size):

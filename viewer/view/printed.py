@@ -6,26 +6,24 @@ seen; others stay escaped, in a colour of their own, so that no name can hide or
 
 import re
 
+from hprof.names import unescaped
+
 from .markup import Markup, element, escaped
 
-# The bytes of a printed name that a table shows, and those of a line that has one, which are kept.
+# The characters of a printed name that a table shows, and those of a line that has one, which are kept. Behind the name of a node may stand
+# that of a thread, of which the report has 100 units.
 NAME = 300
 SHORT = NAME + 200
-RUN = re.compile(r"(?:\\u[0-9a-f]{4})+")
-CUT = re.compile(rb"\\u?[0-9a-f]{0,3}\Z")
+NODE = SHORT + 700
+CUT = re.compile(r"\\u?[0-9a-f]{0,3}\Z")
 BRIEF = {"\n": "\\n", "\r": "\\r", "\t": "\\t"}
 
 
 def cut(printed, limit=NAME):
-    """The first bytes of a printed text, at most `limit`, without a part of an escape at its end; and whether that is less than all."""
+    """The first characters of a printed text, at most `limit`, without a part of an escape at their end; whether there are more."""
     if len(printed) <= limit:
         return printed, False
-    return CUT.sub(b"", printed[:limit]), True
-
-
-def units(run):
-    """The text of some escapes."""
-    return bytes.fromhex(run.replace("\\u", "")).decode("utf-16-be", "surrogatepass")
+    return CUT.sub("", printed[:limit]), True
 
 
 def escape(character):
@@ -47,17 +45,11 @@ def readable(text, lines=False):
     return Markup("".join(seen(character, lines) for character in text))
 
 
-def meant(printed):
-    """The text that was printed."""
-    text = printed.decode("ascii", "replace")
-    return RUN.sub(lambda run: units(run.group()), text) if "\\" in text else text
-
-
 def shown(printed, limit=NAME, lines=False):
-    """The markup of a printed name or text, cut to `limit` bytes."""
+    """The markup of a printed name or text, cut to `limit` characters."""
     kept, less = cut(printed, limit)
     more = element("i", "\u2026") if less else Markup()
-    return Markup(readable(meant(kept), lines) + more)
+    return Markup(readable(unescaped(kept), lines) + more)
 
 
 def visible(text):
@@ -67,4 +59,4 @@ def visible(text):
 
 def titled(printed):
     """The start of a printed name as text without markup, for the title of a page."""
-    return visible(meant(cut(printed)[0]))
+    return visible(unescaped(cut(printed)[0]))

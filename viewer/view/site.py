@@ -4,7 +4,8 @@ import sys
 import threading
 import traceback
 
-from .answers import Ended
+from hprof import ProgramEnded, Refused
+
 from .frame import Frame, plain
 from .growth import Growth
 from .heap import Heap
@@ -69,8 +70,8 @@ class Site:
         """What has to be read before the page of a path can be shown, one after the other."""
         if self.growth:
             yield self.growth
-            if self.growth.program.process.returncode:
-                raise Ended
+            if self.growth.is_refused():
+                raise self.growth.fault()
         if path != "grew":
             with self.lock:
                 if self.heap is None:
@@ -85,7 +86,7 @@ class Site:
             return self.reply(path, words, is_gone)
         except Missing:
             return self.frame.missing("No such page", "Nothing has this address.")
-        except Ended:
+        except (Refused, ProgramEnded):
             self.refused.wait()
             return refused.show(self.frame, self.refusal)
         except Exception:

@@ -1,13 +1,14 @@
-"""Identifiers and kinds, and the questions that are made of them.
+"""Identifiers and kinds as addresses have them, and the questions of pages.
 
-A question to `hprof ask` is made here alone: of a fixed word, and of a number or one of eight types. No text of an address or of a dump
-becomes part of one.
+A page asks about a number or one of eight types alone, and the package makes the question of it. No text of an address or of a dump becomes
+part of one.
 """
 
 import re
 
-TYPES = ("boolean", "char", "float", "double", "byte", "short", "int", "long")
-SUBJECTS = ("keeps", "object", "refs", "text", "who", "why")
+from hprof.nodes import TYPES
+from hprof.reports import asked
+
 CANONICAL = re.compile(r"0|[1-9a-f][0-9a-f]{0,15}")
 WRITTEN = re.compile(r"(?:@\s*)?(?:0[xX])?([0-9a-fA-F]{1,16})")
 
@@ -29,28 +30,26 @@ def is_marked(text):
 
 
 def checked(number):
-    if type(number) is not int or not 0 <= number < 1 << 64:
+    if not isinstance(number, int) or isinstance(number, bool):
         raise ValueError("no identifier")
     return number
 
 
 def about(report, number):
     """The question for a report on an identifier."""
-    if report not in SUBJECTS:
-        raise ValueError("no report on an identifier")
-    return f"{report} {checked(number):x}"
+    return asked((report, checked(number)))
 
 
-def kind_word(kind):
-    """The word for a class, which is a number, or for the arrays of a type, which is a word of TYPES."""
-    return f"{kind}[]" if kind in TYPES else f"{checked(kind):x}"
+def subject_of(kind):
+    """What stands for a class, which is a number, or for the arrays of a type, which is a word of TYPES."""
+    return f"{kind}[]" if kind in TYPES else checked(kind)
 
 
 def objects_of(kind):
     """The question for the objects of a class or a type by size."""
-    return f"objects {kind_word(kind)}"
+    return asked(("objects", subject_of(kind)))
 
 
 def biggest_of(kind):
     """The question for the objects of a class or a type by what they retain."""
-    return f"biggest {kind_word(kind)}"
+    return asked(("biggest", subject_of(kind)))

@@ -2,11 +2,11 @@
 
 import struct
 
+from hprof.contents import WIDTHS
+
 from .markup import element, joined
 from .printed import readable
 
-REFERENCES = ("array", "object")
-WIDTHS = {"boolean": 1, "char": 2, "float": 4, "double": 8, "byte": 1, "short": 2, "int": 4, "long": 8}
 REALS = {"float": (">f", range(1, 10)), "double": (">d", range(1, 18))}
 
 

@@ -23,5 +23,5 @@ class Visit:
             raise Missing
         return int(word)
 
-    def ask(self, *asked):
-        return self.heap.ask(asked)
+    def ask(self, *wanted):
+        return self.heap.ask(wanted)

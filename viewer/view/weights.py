@@ -2,7 +2,8 @@
 
 from urllib.parse import urlencode
 
-from . import lines
+from hprof import counts
+
 from .class_names import name_of
 from .markup import element, joined, link
 from .names import LONGEST
@@ -10,11 +11,16 @@ from .paging import Part
 from .values import thousands
 
 
+def kind_of(row):
+    """The class of a row, which is a number, or the name of its type."""
+    return row.label.printed[: -len("[]")] if row.id is None else row.id
+
+
 class Weight:
     """The classes of one name, or a type: their bytes and objects, how many there are, and one of them."""
 
     def __init__(self, one):
-        self.label, self.kind = one.label, one.kind
+        self.label, self.kind = one.label.printed, kind_of(one)
         self.bytes = self.objects = self.classes = 0
 
     def add(self, one):
@@ -30,10 +36,10 @@ class Weights:
         self.named = {}
         self.bytes = self.objects = 0
 
-    def read(self, answer):
-        for line in answer.lines(limit=LONGEST + 100):
-            one = lines.row(line)
-            name = (one.label, isinstance(one.kind, str)) if len(one.label) <= LONGEST else one.kind
+    def read(self, lines):
+        for one in counts.histogram(lines):
+            label = one.label.printed
+            name = (label, one.id is None) if len(label) <= LONGEST else one.id
             self.named.setdefault(name, Weight(one)).add(one)
             self.bytes += one.bytes
             self.objects += one.count
@@ -68,5 +74,5 @@ def classes_link(frame, one, words=""):
     """A link to the class or the type, or to a list of the classes of one name."""
     if one.classes == 1:
         return kind_link(frame, one.kind, one.label, words)
-    address = frame.at("find") + "?" + urlencode({"label": one.label.decode("ascii")})
+    address = frame.at("find") + "?" + urlencode({"label": one.label})
     return joined([link(address, name_of(one.label)), " ", element("small", f"{thousands(one.classes)} classes")])

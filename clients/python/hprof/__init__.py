@@ -26,6 +26,7 @@ from .errors import (
 )
 from .heap import Heap, diff, open
 from .holding import Keeps, Kept, Piece, Size, Suspect, Suspects
+from .lines import Rows
 from .names import Id, Name
 from .nodes import Frame, Node, Reference, Root
 from .paths import Path, Step, Why
@@ -39,6 +40,6 @@ __all__ = [
     "Growth", "Heap", "HeldAt", "HistogramRow", "Holder", "Id", "IdSizesDiffer", "Instance", "Keeps", "Kept", "Malformed", "Name",
     "NoSuchClass", "Node", "NotUnderstood", "NothingAt", "ObjectArray", "OutOfMemory", "Own", "Part", "Path", "Piece",
     "PrimitiveArray", "ProgramEnded", "ProgramMissing", "ReadFailed", "Reference", "Referred", "Referrer", "Refused",
-    "RetainedRow", "Root", "Section", "SeveralClasses", "Show", "Size", "SizedObject", "StackFrame", "Static", "Step", "Sum",
+    "RetainedRow", "Root", "Rows", "Section", "SeveralClasses", "Show", "Size", "SizedObject", "StackFrame", "Static", "Step", "Sum",
     "Suspect", "Suspects", "Thread", "UnexpectedAnswer", "Who", "Why", "diff", "open",
 ]

@@ -1,10 +1,11 @@
 """The report `object`: the contents of a class or an object as raw bits, and the values that they are."""
 
+import re
 from typing import Match, NamedTuple, Optional, Tuple, Union
 
 from .errors import UnexpectedAnswer
-from .lines import Lines, line
-from .names import Id, Name, identifier
+from .lines import Lines, Rows, line
+from .names import Id, Name, escaped, identifier
 from .nodes import TYPES
 from .values import Value, value_of, values_of
 
@@ -15,6 +16,7 @@ CONSTANT, STATIC = line(rf"constant (\d+) (\d+) ({KIND}) ([0-9a-f]+)"), line(rf"
 OWN, FIELD = line(rf"own (\d+) ({KIND}) (.*)"), line(rf"field (\d+) (ID) ({KIND}) ([0-9a-f]+) (.*)")
 INSTANCE, OBJECTS = line(r"instance (ID) class (ID) bytes (\d+) (.*)"), line(r"objects (ID) class (ID) elements (\d+) (.*)")
 VALUES, BYTES, ELEMENT = line(rf"values (ID) ({PRIMITIVE}) elements (\d+)"), line("bytes ((?:[0-9a-f]{2})+)"), line(r"element \d+ (ID)")
+DIGITS = line("[0-9a-f]*")
 NO_FIELDS = line(r"no layout: class ID is missing|no layout: the superclasses run in a circle|no fields: the layout has \d+ bytes")
 WIDTHS = {"boolean": 1, "char": 2, "float": 4, "double": 8, "byte": 1, "short": 2, "int": 4, "long": 8}
 
@@ -47,6 +49,18 @@ class Own(NamedTuple):
     name: Name
 
 
+class ClassHead(NamedTuple):
+    """The first line of a class: the first values of `ClassDump`."""
+
+    id: Id
+    superclass: Id
+    loader: Id
+    signers: Id
+    domain: Id
+    size: int
+    label: Name
+
+
 class ClassDump(NamedTuple):
     """A class. `superclass`, `loader`, `signers` and `domain` are 0 for none; `size` is the instance size of its dump."""
 
@@ -71,6 +85,39 @@ class Field(NamedTuple):
     bits: str
     value: Value
     name: Name
+
+
+class InstanceHead(NamedTuple):
+    """The first line of an instance."""
+
+    id: Id
+    class_id: Id
+    bytes: int
+    label: Name
+
+
+class ObjectArrayHead(NamedTuple):
+    """The first line of an array of objects."""
+
+    id: Id
+    class_id: Id
+    length: int
+    label: Name
+
+
+class PrimitiveArrayHead(NamedTuple):
+    """The first line of an array of numbers."""
+
+    id: Id
+    type: str
+    length: int
+
+    @property
+    def label(self) -> Name:
+        return Name(f"{self.type}[]")
+
+
+Head = Union[InstanceHead, ObjectArrayHead, PrimitiveArrayHead]
 
 
 class Instance(NamedTuple):
@@ -132,56 +179,120 @@ def valued(match: Match[str], kind: int) -> Tuple[str, str, Value]:
     return match.group(kind), match.group(kind + 1), value_of(match.group(kind), match.group(kind + 1))
 
 
-def class_dump(lines: Lines) -> Optional[ClassDump]:
+def class_head(lines: Lines) -> Optional[ClassHead]:
+    """The first line of the class, which comes before the object with its identifier. None if there is no class."""
     head = lines.next_is(CLASS)
     if head is None:
         return None
     this, parent, loader, signers, domain = (identifier(head.group(place)) for place in range(1, 6))
-    constants = tuple(Constant(int(one.group(1)), int(one.group(2)), *valued(one, 3)) for one in lines.while_is(CONSTANT))
-    statics = tuple(Static(int(one.group(1)), *valued(one, 2), Name(one.group(4))) for one in lines.while_is(STATIC))
-    own = tuple(Own(int(one.group(1)), one.group(2), Name(one.group(3))) for one in lines.while_is(OWN))
-    return ClassDump(this, parent, loader, signers, domain, int(head.group(6)), Name(head.group(7)), constants, statics, own)
+    return ClassHead(this, parent, loader, signers, domain, int(head.group(6)), Name(head.group(7)))
 
 
-def instance(lines: Lines) -> Optional[Instance]:
+def constants(lines: Lines) -> Rows[Constant]:
+    """The constants of a class, behind its first line."""
+    return Rows(lines, CONSTANT, lambda one: Constant(int(one.group(1)), int(one.group(2)), *valued(one, 3)), "constant ")
+
+
+def statics(lines: Lines) -> Rows[Static]:
+    """The static fields of a class, behind its constants."""
+    return Rows(lines, STATIC, lambda one: Static(int(one.group(1)), *valued(one, 2), Name(one.group(4))), "static ")
+
+
+def own_fields(lines: Lines) -> Rows[Own]:
+    """The instance fields that a class declares, behind its static fields."""
+    return Rows(lines, OWN, lambda one: Own(int(one.group(1)), one.group(2), Name(one.group(3))), "own ")
+
+
+def declares(lines: Lines, name: str) -> bool:
+    """Whether a class declares an instance field with a name, behind its first line. It takes the lines up to that."""
+    pattern = re.compile(rb"^own \d+ \w+ %s$" % re.escape(escaped(name).encode("ascii")), re.MULTILINE)
+    return any(lines.found(pattern))
+
+
+def pass_class(lines: Lines) -> None:
+    """Passes over what a class has behind its first line."""
+    lines.pass_while(("constant ", "static ", "own "))
+
+
+def class_dump(lines: Lines) -> Optional[ClassDump]:
+    head = class_head(lines)
+    if head is None:
+        return None
+    return ClassDump(*head, tuple(constants(lines)), tuple(statics(lines)), tuple(own_fields(lines)))
+
+
+def object_head(lines: Lines) -> Optional[Head]:
+    """The first line of the object, behind the class. None if no line is left."""
+    if lines.are_over():
+        return None
     head = lines.next_is(INSTANCE)
-    if head is None:
-        return None
-    this, kind, size, label = head.groups()
-    missing = lines.next_is(NO_FIELDS)
-    fields = tuple(
-        Field(int(one.group(1)), identifier(one.group(2)), *valued(one, 3), Name(one.group(5))) for one in lines.while_is(FIELD)
-    )
-    return Instance(identifier(this), identifier(kind), int(size), Name(label), fields, missing.group() if missing else None)
-
-
-def object_array(lines: Lines) -> Optional[ObjectArray]:
+    if head is not None:
+        return InstanceHead(identifier(head.group(1)), identifier(head.group(2)), int(head.group(3)), Name(head.group(4)))
     head = lines.next_is(OBJECTS)
-    if head is None:
-        return None
-    this, kind, count, label = head.groups()
-    elements = lines.each(ELEMENT, lambda match: identifier(match.group(1)))
-    if len(elements) != int(count):
-        raise UnexpectedAnswer(head.group())
-    return ObjectArray(identifier(this), identifier(kind), Name(label), elements)
+    if head is not None:
+        return ObjectArrayHead(identifier(head.group(1)), identifier(head.group(2)), int(head.group(3)), Name(head.group(4)))
+    head = lines.expect(VALUES)
+    return PrimitiveArrayHead(identifier(head.group(1)), head.group(2), int(head.group(3)))
 
 
-def primitive_array(lines: Lines) -> Optional[PrimitiveArray]:
-    head = lines.next_is(VALUES)
-    if head is None:
-        return None
-    this, kind, count = head.groups()
-    held = lines.next_is(BYTES)
-    found = bytes.fromhex(held.group(1)) if held else b""
-    if len(found) != int(count) * WIDTHS[kind]:
-        raise UnexpectedAnswer(head.group())
-    return PrimitiveArray(identifier(this), kind, int(count), found)
+def head_of_object(lines: Lines) -> Optional[Head]:
+    """The first line of the object, where a class comes before it behind that. None if there is no object."""
+    if class_head(lines) is not None:
+        pass_class(lines)
+    return object_head(lines)
+
+
+def no_fields(lines: Lines) -> Optional[str]:
+    """Why the fields of an instance are not known, or None if they come next."""
+    missing = lines.next_is(NO_FIELDS)
+    return missing.group() if missing else None
+
+
+def fields(lines: Lines) -> Rows[Field]:
+    """The fields of an instance, behind its first line."""
+    return Rows(lines, FIELD, lambda one: Field(int(one.group(1)), identifier(one.group(2)), *valued(one, 3), Name(one.group(5))))
+
+
+def elements(lines: Lines) -> Rows[Id]:
+    """The elements of an array of objects, behind its first line."""
+    return Rows(lines, ELEMENT, lambda match: identifier(match.group(1)))
+
+
+def held(lines: Lines, head: PrimitiveArrayHead, first: int, count: int) -> bytes:
+    """The bytes of some elements of an array of numbers, right behind its first line. Of the others nothing is kept."""
+    width, number = WIDTHS[head.type], max(min(count, head.length - first), 0)
+    text = lines.window(len("bytes ") + 2 * width * first, 2 * width * number) if head.length else ""
+    if text is None or len(text) != 2 * width * number or not DIGITS.fullmatch(text):
+        raise UnexpectedAnswer(f"values {head.id:x} {head.type} elements {head.length}")
+    return bytes.fromhex(text)
+
+
+def dump(lines: Lines) -> Optional[Dump]:
+    """The object, which comes behind the class."""
+    head = object_head(lines)
+    if isinstance(head, InstanceHead):
+        missing = no_fields(lines)
+        return Instance(*head, () if missing else tuple(fields(lines)), missing)
+    if isinstance(head, ObjectArrayHead):
+        found = tuple(elements(lines))
+        if len(found) != head.length:
+            raise UnexpectedAnswer(f"objects {head.id:x} class {head.class_id:x} elements {head.length} {head.label.printed}")
+        return ObjectArray(head.id, head.class_id, head.label, found)
+    return None if head is None else PrimitiveArray(*head, all_held(lines, head))
+
+
+def all_held(lines: Lines, head: PrimitiveArrayHead) -> bytes:
+    """The bytes of all elements of an array of numbers."""
+    match = lines.next_is(BYTES)
+    found = bytes.fromhex(match.group(1)) if match else b""
+    if len(found) != head.length * WIDTHS[head.type]:
+        raise UnexpectedAnswer(f"values {head.id:x} {head.type} elements {head.length}")
+    return found
 
 
 def contents(lines: Lines) -> Contents:
-    of_class = class_dump(lines)
-    dump = instance(lines) or object_array(lines) or primitive_array(lines)
+    of_class, found = class_dump(lines), dump(lines)
     lines.end()
-    if of_class is None and dump is None:
+    if of_class is None and found is None:
         raise UnexpectedAnswer("")
-    return Contents(of_class, dump)
+    return Contents(of_class, found)

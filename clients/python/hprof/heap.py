@@ -1,24 +1,23 @@
 """The heap of a dump, asked through a running `hprof ask`."""
 
+import contextlib
 import subprocess
 from types import TracebackType
-from typing import Any, Iterable, List, Optional, Tuple, Type, cast
+from typing import Any, Iterable, Iterator, List, Optional, Tuple, Type, cast
 
+from .answers import text_of
 from .contents import Contents
 from .counts import Check, ClassRow, Growth, HistogramRow, RetainedRow, SizedObject, growth
-from .dialogue import Dialogue, Ended, text_of
-from .errors import Error, Refused
+from .errors import Refused
 from .holding import Keeps, Kept, Suspects
-from .lines import Lines, line
+from .lines import Lines, Rows
 from .paths import Path, Why
 from .program import FileName, Running
 from .referrers import Referrer, Who
-from .reports import Asked, Question, Subject, asked
+from .reports import Question, Subject, asked
+from .session import Session
 from .shown import Show
 from .threads import Thread
-
-# A line of the answer to `help`.
-QUESTION = line(r"[a-z0-9]+( [A-Z]+)?")
 
 
 class Heap:
@@ -28,44 +27,40 @@ class Heap:
     `byte[]`. A str of hexadecimal digits is an identifier."""
 
     def __init__(self, *parts: FileName, program: Optional[FileName] = None) -> None:
-        self._running = Running(program, ["ask"], parts, stdin=subprocess.PIPE, stdout=subprocess.PIPE)
-        process = self._running.process
-        assert process.stdin is not None and process.stdout is not None
-        self._pipes = process.stdin, process.stdout
-        self._dialogue = Dialogue(process.stdin.fileno(), process.stdout.fileno())
-        self._closed = False
-        self._fault: Optional[Error] = None
+        self._session = Session(parts, program)
         try:
             # The first answer comes once the dump was read.
-            Lines(self._answers(["help"])[0]).each(QUESTION, lambda match: match.group())
+            self._session.questions()
         except BaseException:
-            process.kill()
-            self.close()
+            self._session.running.process.kill()
+            self._session.close()
             raise
 
-    def _answers(self, lines: List[str]) -> List[str]:
-        if self._closed:
-            raise ValueError("the heap is closed")
-        if self._fault is not None:
-            raise self._fault
-        try:
-            return self._dialogue.ask(lines)
-        except Ended:
-            self._close_pipes()
-            self._fault = self._running.fault()
-            raise self._fault from None
-
     def _ask(self, *question: Any) -> Any:
-        one = asked(question)
-        return one.read(self._answers([one.line])[0])
+        found = self.ask_all([question])[0]
+        if isinstance(found, Refused):
+            raise found
+        return found
 
     def ask_all(self, questions: Iterable[Question]) -> List[Any]:
         """What each question would answer. A question is the word of a report, or a pair of the word and its subject, as `("why", 0x10)`.
 
         The refusal of a question stands in its place in the list, and the others are answered."""
         all_asked = [asked(question) for question in questions]
-        answers = self._answers([one.line for one in all_asked])
-        return [outcome(one, answer) for one, answer in zip(all_asked, answers)]
+        return self._session.ask([one.reading(one.report.read) for one in all_asked])
+
+    @contextlib.contextmanager
+    def rows(self, *question: Any) -> Iterator[Rows[Any]]:
+        """The rows of a report as they come, in a `with` block: `with heap.rows("objects", "byte[]") as rows`. None of them is kept.
+
+        The report is one whose method returns a tuple of rows. The rows can be read within the block alone. What is left of them at its end
+        is passed over, and then other questions can be asked. Other threads wait until then."""
+        one = asked(question)
+        if not one.report.has_rows:
+            raise ValueError(f"{one.report.word} is one value, and no rows")
+        with self._session.lines(one.line) as lines:
+            one.accept(lines)
+            yield one.report.read(lines)
 
     def check(self) -> Check:
         """The parts, and numbers of facts."""
@@ -133,40 +128,13 @@ class Heap:
 
     def close(self) -> None:
         """Ends the dialogue, and waits for the end of the program."""
-        if self._closed:
-            return
-        self._closed = True
-        if self._dialogue.broken:
-            # An answer was broken off, and nobody reads on.
-            self._running.process.terminate()
-        else:
-            try:
-                self._dialogue.send(b"quit\n")
-            except (Ended, OSError):
-                pass
-        self._close_pipes()
-        self._running.wait()
-
-    def _close_pipes(self) -> None:
-        for pipe in self._pipes:
-            try:
-                pipe.close()
-            except OSError:
-                pass
+        self._session.close()
 
     def __enter__(self) -> "Heap":
         return self
 
     def __exit__(self, kind: Optional[Type[BaseException]], fault: Optional[BaseException], trace: Optional[TracebackType]) -> None:
         self.close()
-
-
-def outcome(one: Asked, answer: str) -> Any:
-    """The value of an answer, or its refusal."""
-    try:
-        return one.read(answer)
-    except Refused as refused:
-        return refused
 
 
 def open(*parts: FileName, program: Optional[FileName] = None) -> Heap:
@@ -190,4 +158,4 @@ def diff(old: FileName, new: FileName, program: Optional[FileName] = None) -> Tu
         raise
     if running.wait() != 0:
         raise running.fault()
-    return growth(Lines(text_of(data)))
+    return tuple(growth(Lines(text_of(data))))

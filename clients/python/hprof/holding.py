@@ -1,8 +1,9 @@
 """The reports `keeps`, `biggest` and `suspects`: what would be free without an object."""
 
-from typing import Match, NamedTuple, Optional, Tuple
+from collections import deque
+from typing import Deque, List, Match, NamedTuple, Optional, Tuple
 
-from .lines import Lines, line
+from .lines import Lines, Rows, line
 from .names import Id, Name
 from .nodes import Node, node_of
 
@@ -49,6 +50,22 @@ class Keeps(NamedTuple):
     kept: Tuple[Kept, ...]
 
 
+class Reached(NamedTuple):
+    """How a class or an object is reached: the first values of `Keeps`."""
+
+    reached: str
+    total: Optional[Size]
+    weak: Optional[Size]
+
+
+class Chain(NamedTuple):
+    """Some keepers from the outermost on, the last ones, and the number of those between them."""
+
+    outer: Tuple[Kept, ...]
+    left_out: int
+    inner: Tuple[Kept, ...]
+
+
 class Piece(NamedTuple):
     """The retained bytes and the number of objects of one label right below a suspect."""
 
@@ -86,18 +103,43 @@ def kept_of(match: Match[str]) -> Kept:
     return Kept(int(match.group(1)), int(match.group(2)), node_of(match.group(3)))
 
 
-def keeps(lines: Lines) -> Keeps:
+def reached(lines: Lines) -> Reached:
+    """The first lines of `keeps`. Unless it is reached strongly, there are no others."""
     other = lines.next_is(NOT_KEPT)
     if other is not None:
         lines.end()
-        return Keeps("not" if other.group() == "not reached" else "weakly", None, None, (), ())
+        return Reached("not" if other.group() == "not reached" else "weakly", None, None)
     total, weak = size_of(lines.expect(TOTAL)), lines.next_is(WEAK)
+    return Reached("strongly", total, size_of(weak) if weak else None)
+
+
+def chain(lines: Lines, most: int) -> Chain:
+    """The keepers that come next in `keeps`: of a long chain `most` at either end."""
+    outer: List[Kept] = []
+    inner: Deque[Match[str]] = deque(maxlen=most)
+    passed = 0
+    for match in lines.while_is(KEPT):
+        if len(outer) < most:
+            outer.append(kept_of(match))
+        else:
+            inner.append(match)
+        passed += 1
+    return Chain(tuple(outer), passed - len(outer) - len(inner), tuple(map(kept_of, inner)))
+
+
+def below(lines: Lines) -> Rows[Kept]:
+    """What is kept alive right below, which comes last in `keeps`."""
+    return Rows(lines, BELOW, kept_of)
+
+
+def keeps(lines: Lines) -> Keeps:
+    head = reached(lines)
     keepers = tuple(map(kept_of, lines.while_is(KEPT)))
-    return Keeps("strongly", total, size_of(weak) if weak else None, keepers, lines.each(BELOW, kept_of))
+    return Keeps(head.reached, head.total, head.weak, keepers, tuple(below(lines)))
 
 
-def biggest(lines: Lines) -> Tuple[Kept, ...]:
-    return lines.each(KEPT, kept_of)
+def biggest(lines: Lines) -> Rows[Kept]:
+    return Rows(lines, KEPT, kept_of)
 
 
 def suspect(head: Match[str], lines: Lines) -> Suspect:

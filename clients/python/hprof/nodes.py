@@ -1,7 +1,7 @@
 """Classes and objects in a line, references between them, stack frames and GC roots."""
 
 import re
-from typing import Match, NamedTuple, Optional, Tuple
+from typing import Iterator, Match, NamedTuple, Optional, Tuple
 
 from .errors import UnexpectedAnswer
 from .lines import Lines, line, matched
@@ -24,7 +24,7 @@ ROOT = line(
     r"|(?P<c>native stack|thread block) thread (?P<thread_c>\d+)|(?P<d>sticky class|monitor used|unknown)"
     r"|(?P<e>thread object) thread (?P<thread_e>\d+) trace (?P<trace>\d+))"
 )
-BELOW_ROOT = line(r"  (?:at (?P<frame>.*)|(?P<node>ID .*))")
+BELOW_ROOT = line(r"  (?:at|ID) .*")
 
 
 class Node(NamedTuple):
@@ -76,6 +76,14 @@ class Root(NamedTuple):
     at: Optional[Frame]
 
 
+class RootLine(NamedTuple):
+    """A GC root as it is printed: its words, the serial number of its thread or None, and the words of the line of its thread or None."""
+
+    words: str
+    thread: Optional[int]
+    below: Optional[str]
+
+
 def node_of(text: str) -> Node:
     """The node of a line."""
     digits, rest = matched(NODE, text).groups()
@@ -124,20 +132,28 @@ def number(digits: Optional[str]) -> Optional[int]:
     return None if digits is None else int(digits)
 
 
+def root_lines(lines: Lines) -> Iterator[RootLine]:
+    """The roots that come next, as they are printed, each with the line of its thread."""
+    for match in lines.while_is(ROOT):
+        thread = number(match.group("thread_b") or match.group("thread_c") or match.group("thread_e"))
+        below = lines.next_is(BELOW_ROOT) if thread is not None else None
+        yield RootLine(match.group()[len("root ") :], thread, below.group()[2:] if below else None)
+
+
+def root_of(line: RootLine) -> Root:
+    """The root of its lines."""
+    found = matched(ROOT, f"root {line.words}").groupdict()
+    kind = next(found[name] for name in "abcde" if found[name] is not None)
+    reference = None if found["reference"] is None else identifier(found["reference"])
+    holder: Optional[Node] = None
+    at: Optional[Frame] = None
+    if line.below is not None and line.below.startswith("at "):
+        at = frame_of(line.below[len("at ") :])
+    elif line.below is not None:
+        holder, at = holder_of(line.below)
+    return Root(kind, reference, line.thread, number(found["frame"]), number(found["trace"]), holder, at)
+
+
 def roots_of(lines: Lines) -> Tuple[Root, ...]:
     """The roots that come next, each with the line of its thread."""
-    roots = []
-    for match in lines.while_is(ROOT):
-        found = match.groupdict()
-        kind = next(found[name] for name in "abcde" if found[name] is not None)
-        thread = number(found["thread_b"] or found["thread_c"] or found["thread_e"])
-        reference = None if found["reference"] is None else identifier(found["reference"])
-        holder: Optional[Node] = None
-        at: Optional[Frame] = None
-        below = lines.next_is(BELOW_ROOT) if thread is not None else None
-        if below is not None and below.group("frame") is not None:
-            at = frame_of(below.group("frame"))
-        elif below is not None:
-            holder, at = holder_of(below.group("node"))
-        roots.append(Root(kind, reference, thread, number(found["frame"]), number(found["trace"]), holder, at))
-    return tuple(roots)
+    return tuple(map(root_of, root_lines(lines)))

@@ -70,6 +70,11 @@ class Running:
         self.listener.join(PATIENCE)
         return status
 
+    def end(self) -> None:
+        """Ends the program at once, and waits for that."""
+        self.process.terminate()
+        self.wait()
+
     def fault(self) -> Error:
         """Why the program ended: its refusal, or how it ended without one. Waits for its end."""
         status = self.wait()

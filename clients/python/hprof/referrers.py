@@ -1,8 +1,8 @@
 """The reports `refs` and `who`: what refers to a class or an object."""
 
-from typing import Match, NamedTuple, Optional, Tuple
+from typing import List, Match, NamedTuple, Optional, Tuple
 
-from .lines import Lines, line
+from .lines import Lines, Rows, line, matched
 from .names import Id, Name, identifier
 from .nodes import STEP, UNNAMED, Node, Reference, Root, node_of, reference_in, roots_of
 
@@ -10,7 +10,10 @@ REFERRER = line(rf"(ID) ({UNNAMED}|static|field) (\d+)")
 # A label may have spaces: that of a line ends where the last reference begins, and that of a sum where the first one does.
 EDGE = line(rf"(?P<node>ID .*)(?<! weak) {STEP}")
 SUM = line(rf"(\d+) times (class )?(.*?) (weak )?(?:({UNNAMED})|(static|field) (.*))")
+COUNTED = line(r"(\d+) times (class )?(.*)")
 NOTHING = line("nothing refers to ID")
+# References up to this number are not summed.
+FEW = 20
 
 
 class Referrer(NamedTuple):
@@ -55,11 +58,11 @@ class Who(NamedTuple):
     holders: Tuple[Holder, ...]
 
 
-def refs(lines: Lines) -> Tuple[Referrer, ...]:
+def refs(lines: Lines) -> Rows[Referrer]:
     def made(match: Match[str]) -> Referrer:
         return Referrer(identifier(match.group(1)), match.group(2), int(match.group(3)))
 
-    return lines.each(REFERRER, made)
+    return Rows(lines, REFERRER, made)
 
 
 def sum_of(match: Match[str]) -> Sum:
@@ -67,10 +70,43 @@ def sum_of(match: Match[str]) -> Sum:
     return Sum(int(count), of_class is not None, Name(label), kind or named, None if name is None else Name(name), weak is not None)
 
 
+def counted_sum(text: str) -> Sum:
+    """The sum of a line. Of one that is cut before its reference, `kind` is empty, and `label` is what is left of the line."""
+    match = SUM.fullmatch(text)
+    if match is not None:
+        return sum_of(match)
+    count, of_class, label = matched(COUNTED, text).groups()
+    return Sum(int(count), of_class is not None, Name(label), "", None, False)
+
+
+def sums(lines: Lines, references: int, most: int) -> Tuple[Sum, ...]:
+    """The first sums of so many references in `who`, behind its roots, at most `most`. The others are passed over: the number of references
+    tells where they end, whatever names are in them."""
+    found: List[Sum] = []
+    left = references if references > FEW else 0
+    while left > 0:
+        text = next(lines, "")
+        left -= int(matched(COUNTED, text).group(1))
+        if len(found) < most:
+            found.append(counted_sum(text))
+    return tuple(found)
+
+
+def pass_roots(lines: Lines) -> None:
+    """Passes over the roots that come first in `who`."""
+    lines.pass_while(("root ", "  "))
+
+
+def is_weak(line: str, one: Referrer, label: Name, of_class: bool) -> bool:
+    """Whether the line of a reference in `who` says that it is weak, whatever names are in it. `label` is that of what refers."""
+    words = "class " if of_class else ""
+    return line.startswith(f"{one.id:x} {words}{label.printed} weak field {one.position} ")
+
+
 def who(lines: Lines) -> Who:
     roots = roots_of(lines)
     if lines.next_is(NOTHING):
         lines.end()
         return Who(roots, (), ())
-    sums = tuple(map(sum_of, lines.while_is(SUM)))
-    return Who(roots, sums, lines.each(EDGE, lambda match: Holder(node_of(match.group("node")), reference_in(match))))
+    summed = tuple(map(sum_of, lines.while_is(SUM)))
+    return Who(roots, summed, tuple(Rows(lines, EDGE, lambda match: Holder(node_of(match.group("node")), reference_in(match)))))

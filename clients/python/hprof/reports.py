@@ -3,43 +3,48 @@
 from typing import Any, Callable, Dict, List, NamedTuple, Sequence, Union
 
 from . import contents, counts, holding, paths, referrers, shown, texts, threads
-from .errors import SeveralClasses, refusal
-from .lines import Lines, line
+from .answers import WHOLE
+from .dialogue import Reading
+from .errors import Refused, SeveralClasses, refusal
+from .lines import Lines, Rows, line
 from .names import word_of
 from .nodes import node_of
 
 Subject = Union[int, str]
 Question = Union[str, Sequence[Any]]
 NOTHING, NO_ANSWERS = "nothing at ", ("not understood", "not an identifier", "no class has this name")
+# No refusal of a question is longer.
+LONGEST = 64
 SEVERAL, NODE = line(r"\d+ classes have this name"), line("ID .*")
 
 
 class Report(NamedTuple):
     """A report: its word, the method of a heap, what follows the word, and the reader of its lines. What follows is nothing, `kind`, `id`,
-    or `node` for an identifier or a name."""
+    or `node` for an identifier or a name. The reader returns the value of the report, or with `has_rows` the rows that are all of it."""
 
     word: str
     method: str
     takes: str
     read: Callable[[Lines], Any]
+    has_rows: bool = False
 
 
 REPORTS = (
     Report("check", "check", "", counts.check),
-    Report("histo", "histogram", "", counts.histogram),
-    Report("classes", "classes", "", counts.classes),
+    Report("histo", "histogram", "", counts.histogram, True),
+    Report("classes", "classes", "", counts.classes, True),
     Report("threads", "threads", "", threads.threads),
     Report("suspects", "suspects", "", holding.suspects),
-    Report("retained", "retained", "", counts.retained),
-    Report("biggest", "biggest", "kind", holding.biggest),
-    Report("objects", "objects", "kind", counts.objects),
+    Report("retained", "retained", "", counts.retained, True),
+    Report("biggest", "biggest", "kind", holding.biggest, True),
+    Report("objects", "objects", "kind", counts.objects, True),
     Report("show", "show", "node", shown.show),
     Report("why", "why", "node", paths.why),
     Report("who", "who", "node", referrers.who),
     Report("keeps", "keeps", "node", holding.keeps),
     Report("text", "text", "id", texts.text),
     Report("object", "object", "id", contents.contents),
-    Report("refs", "refs", "id", referrers.refs),
+    Report("refs", "refs", "id", referrers.refs, True),
     Report("path", "path", "id", paths.path),
 )
 BY_WORD: Dict[str, Report] = {word: report for report in REPORTS for word in (report.word, report.method)}
@@ -52,21 +57,43 @@ class Asked(NamedTuple):
     line: str
     by_name: bool
 
-    def read(self, answer: str) -> Any:
+    def read(self, answer: Union[str, Lines]) -> Any:
         """The value of an answer, or raises the refusal that it is."""
-        only = answer[:-1]
-        if only in NO_ANSWERS or (only.startswith(NOTHING) and "\n" not in only):
+        lines = Lines(answer) if isinstance(answer, str) else answer
+        self.accept(lines)
+        return whole(self.report.read(lines))
+
+    def accept(self, lines: Lines) -> None:
+        """Raises the refusal that an answer is. It takes no line of another answer."""
+        only = lines.only(LONGEST)
+        if only is not None and (only in NO_ANSWERS or only.startswith(NOTHING)):
             raise refusal(only)
-        lines = Lines(answer)
-        if self.by_name and self.report.takes == "node" and lines.next_is(SEVERAL):
-            raise several(only, lines)
-        return self.report.read(lines)
+        match = lines.next_is(SEVERAL) if self.by_name and self.report.takes == "node" else None
+        if match is not None:
+            raise several(match.group(), lines)
+
+    def reading(self, read: Callable[[Lines], Any], limit: int = WHOLE) -> Reading:
+        """The question, and what is made of the lines of its answer. In place of that stands the refusal that an answer is."""
+
+        def outcome(lines: Lines) -> Any:
+            try:
+                self.accept(lines)
+                return whole(read(lines))
+            except Refused as refused:
+                return refused
+
+        return Reading(self.line, outcome, limit)
+
+
+def whole(found: Any) -> Any:
+    """The value of a report whose reader returns rows: all of them."""
+    return tuple(found) if isinstance(found, Rows) else found
 
 
 def several(text: str, lines: Lines) -> SeveralClasses:
     """The refusal of a name that several classes have."""
-    found = SeveralClasses(text.split("\n")[0])
-    found.nodes = lines.each(NODE, lambda match: node_of(match.group()))
+    found = SeveralClasses(text)
+    found.nodes = tuple(Rows(lines, NODE, lambda match: node_of(match.group())))
     return found
 
 

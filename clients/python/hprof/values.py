@@ -6,13 +6,15 @@ from typing import Tuple, Union
 from .names import identifier
 
 Value = Union[bool, int, float, str]
+# The types of references.
+REFERENCES = ("array", "object")
 # The letter of each type in a struct.
 LETTERS = {"char": "H", "float": "f", "double": "d", "byte": "b", "short": "h", "int": "i", "long": "q"}
 
 
 def value_of(kind: str, bits: str) -> Value:
     """The value of hexadecimal bits: an Id for a reference, a unit of text for a char, a number for a boolean that is neither 0 nor 1."""
-    if kind in ("object", "array"):
+    if kind in REFERENCES:
         return identifier(bits)
     if kind == "boolean":
         return {"00": False, "01": True}.get(bits, int(bits, 16))

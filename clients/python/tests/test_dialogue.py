@@ -47,6 +47,7 @@ class Dialogue(unittest.TestCase):
         groups = list(turns(lines))
         self.assertEqual([line for group in groups for line in group], lines)
         self.assertTrue(all(sum(map(len, group)) <= TURN for group in groups))
+        self.assertGreater(len(groups[0]), 100)
         self.assertEqual(list(turns([b"x" * 5000, b"y"])), [[b"x" * 5000], [b"y"]])
 
     def test_a_thousand_questions_with_long_answers(self):

@@ -6,6 +6,7 @@ from pathlib import Path
 
 import hprof
 from hprof import Referred
+from hprof.dialogue import Reading
 from hprof.reports import asked
 
 from . import printing
@@ -78,14 +79,18 @@ class Hostile(unittest.TestCase):
         self.assertTrue(self.heap.suspects().suspects)
         self.assertTrue(self.heap.retained())
 
+    def answers(self, lines):
+        """The text of each answer."""
+        return self.heap._session.ask([Reading(line, lambda found: "".join(one + "\n" for one in found)) for line in lines])
+
     def test_a_value_has_all_of_its_answer(self):
         for word in ("object", "show", "who", "why", "keeps", "refs", "path", "text"):
             questions = [asked((word, id)) for id in self.ids]
-            for question, answer in zip(questions, self.heap._answers([one.line for one in questions])):
+            for question, answer in zip(questions, self.answers([one.line for one in questions])):
                 printed = printing.report(word, question.line.split(" ")[1], question.read(answer))
                 self.assertEqual(printing.with_numbers(printed), printing.with_numbers(answer))
         for word in ("check", "histo", "classes", "threads", "suspects", "retained"):
-            (answer,) = self.heap._answers([word])
+            (answer,) = self.answers([word])
             self.assertEqual(printing.report(word, None, asked(word).read(answer)), answer)
 
     def test_show_has_the_values_of_object(self):

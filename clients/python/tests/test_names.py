@@ -10,7 +10,7 @@ from hprof.names import escaped, unescaped
 # The printed forms that "Names as text" of docs/FORMAT.md gives.
 PRINTED = {
     "shop/Session": "shop/Session", "\u00e9": "\\u00e9", "\\": "\\u005c", "\0": "\\u0000", "\U0001f600": "\\ud83d\\ude00",
-    "~\x7f": "~\\u007f",
+    "~\x7f": "~\\u007f", "a.b\u00e9\\\U0001f600": "a.b\\u00e9\\u005c\\ud83d\\ude00",
 }
 
 

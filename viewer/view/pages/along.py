@@ -1,11 +1,13 @@
 """The objects along one field: those that a path leaves out where the same field leads from each to the next."""
 
-from .. import lines
+from hprof import contents
+from hprof.values import REFERENCES
+
 from ..briefs import briefs, target
 from ..markup import Markup, element, link
-from ..printed import SHORT, shown
+from ..printed import shown
 from ..subjects import about
-from ..values import REFERENCES, counted, thousands
+from ..values import counted, thousands
 from ..visit import Missing
 
 TITLE = "Along a field"
@@ -16,30 +18,31 @@ ROWS = 100
 def field_of(place):
     """A reader of an instance: its class, and the field at that place."""
 
-    def read(answer):
-        kind = None
-        for line in answer.lines(limit=SHORT):
-            if lines.word(line) == b"instance":
-                kind = lines.head(line).kind
-            elif kind is not None and line.startswith(b"field %d " % place):
-                return kind, lines.field(line)
-        return kind, None
+    def read(lines):
+        head = contents.head_of_object(lines)
+        if not isinstance(head, contents.InstanceHead):
+            return None, None
+        if contents.no_fields(lines):
+            return head.class_id, None
+        rows = contents.fields(lines)
+        rows.skip(place)
+        return head.class_id, next(rows, None)
 
     return read
 
 
 def next_of(heap, id, place):
     """The class of an instance, and the field at the place with what it refers to, or None if there is no such reference."""
-    kind, field = heap.ask([(about("object", id), field_of(place))])[0]
-    if field is None or field.type not in REFERENCES or int(field.bits, 16) == 0:
+    kind, field = heap.ask([(about("object", id), field_of(place))])[0] or (None, None)
+    if field is None or field.type not in REFERENCES or field.value == 0:
         return kind, None, None
-    return kind, field, int(field.bits, 16)
+    return kind, field, field.value
 
 
 def gone_along(heap, id, place, count):
     """The objects behind an instance, at most so many, as long as they are instances of its class; and the name of the field."""
     kind, field, to = next_of(heap, id, place)
-    name, found = field.name if field else None, []
+    name, found = field.name.printed if field else None, []
     while to is not None and len(found) < count:
         of, field, behind = next_of(heap, to, place)
         if of != kind:

@@ -1,8 +1,10 @@
 """A search: an identifier leads to its page, a part of a name to the classes and types that have it."""
 
 import re
+from collections import namedtuple
 
-from .. import lines
+from hprof import counts
+
 from ..frame import Reply
 from ..markup import element
 from ..names import LONGEST, Wanted
@@ -12,7 +14,10 @@ from ..subjects import about, is_marked, number_of
 from ..tables import cell, number, row, table
 from ..values import counted, thousands
 from ..visit import Missing
-from ..weights import kind_link
+from ..weights import kind_link, kind_of
+
+# A class or a type, with the beginning of its printed label.
+Found = namedtuple("Found", "bytes count kind label")
 
 
 class Search:
@@ -23,19 +28,18 @@ class Search:
         self.is_wanted = is_wanted
         self.kept = Kept(wanted)
 
-    def add(self, one):
-        if self.is_wanted(one.label):
-            self.kept.add(lambda row: row._replace(label=row.label[:SHORT]), one)
+    def add(self, one, kind):
+        if self.is_wanted(one.label.printed):
+            self.kept.add(Found(one.bytes, one.count, kind, one.label.printed[:SHORT]))
 
-    def in_histogram(self, answer):
-        for line in answer.found(self.pattern):
-            self.add(lines.row(line))
+    def in_histogram(self, lines):
+        for one in counts.histogram_found(lines, self.pattern):
+            self.add(one, kind_of(one))
 
-    def in_classes(self, answer):
-        for line in answer.found(self.pattern):
-            one = lines.class_row(line)
+    def in_classes(self, lines):
+        for one in counts.classes_found(lines, self.pattern):
             if one.count == 0:
-                self.add(lines.Row(0, 0, one.id, one.label))
+                self.add(one, one.id)
 
     def made(self, visit):
         visit.ask(("histo", self.in_histogram), ("classes", self.in_classes))
@@ -60,7 +64,7 @@ def results(visit, part, word, **words):
 def named_so(visit, label):
     """The class or the type with exactly this printed label, or a list of those; the page of growth leads here."""
     exact = printed_exactly(label)
-    part = Search(re.compile(re.escape(exact)), lambda one: one == exact, page(visit.number(), PAGE)).made(visit)
+    part = Search(re.compile(re.escape(exact).encode("ascii")), lambda one: one == exact, page(visit.number(), PAGE)).made(visit)
     if part.total == 1 and part.entries:
         kind = part.entries[0].kind
         return Reply(303, location=visit.frame.at("type", kind) if isinstance(kind, str) else visit.frame.at("class", kind))
@@ -70,8 +74,8 @@ def named_so(visit, label):
 
 
 def printed_exactly(label):
-    """The bytes of a label that an address has in its printed form. Any other text is the label of nothing."""
-    return label.encode("ascii", "replace")
+    """A label that an address has in its printed form. Any other text is the label of nothing."""
+    return label.encode("ascii", "replace").decode("ascii")
 
 
 def show(visit):
@@ -82,7 +86,7 @@ def show(visit):
         return Reply(303, location=visit.frame.at(""))
     id = number_of(word)
     if id is not None:
-        ((is_there_one),) = visit.ask((about("object", id), lambda answer: not answer.line().startswith(b"nothing at ")))
+        (is_there_one,) = visit.ask((about("object", id), lambda lines: True))
         if is_there_one or is_marked(word):
             return Reply(303, location=visit.frame.at("object", id))
     wanted = Wanted(word)

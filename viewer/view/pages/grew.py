@@ -2,7 +2,8 @@
 
 from urllib.parse import urlencode
 
-from .. import lines
+from hprof import counts
+
 from ..class_names import name_of
 from ..markup import element, joined, link
 from ..names import LONGEST, Wanted
@@ -20,12 +21,11 @@ class Growth:
         self.kept = Kept(page)
         self.bytes = self.objects = self.most = self.total = 0
 
-    def read(self, answer):
-        for line in answer.lines(limit=LONGEST + 100):
-            one = lines.grown(line)
+    def read(self, lines):
+        for one in counts.growth(lines):
             self.total += 1
-            if self.wanted.in_name(one.label):
-                self.kept.add(lines.grown, line)
+            if self.wanted.in_name(one.label.printed):
+                self.kept.add(one)
             self.bytes += one.bytes
             self.objects += one.count
             self.most = max(self.most, abs(one.bytes))
@@ -44,14 +44,14 @@ def both_sides(one, most):
 
 
 def name(frame, label):
-    """The name, which leads to the class in the newer dump; one that is too long for an address leads nowhere."""
+    """The name of a printed label, which leads to the class in the newer dump; one that is too long for an address leads nowhere."""
     text = name_of(label)
-    return link(frame.at("find") + "?" + urlencode({"label": label.decode("ascii")}), text) if 0 < len(label) <= LONGEST else text
+    return link(frame.at("find") + "?" + urlencode({"label": label}), text) if 0 < len(label) <= LONGEST else text
 
 
 def grown_row(frame, growth, one):
     sides = both_sides(one, growth.most)
-    return row(cell(name(frame, one.label), "name"), number(signed(one.bytes)), cell(sides, "both"), number(signed(one.count)))
+    return row(cell(name(frame, one.label.printed), "name"), number(signed(one.bytes)), cell(sides, "both"), number(signed(one.count)))
 
 
 def show(visit):

@@ -1,12 +1,14 @@
 """What an object keeps alive: what keeps it, what it keeps itself, and a treemap of that."""
 
-from collections import deque, namedtuple
+from collections import namedtuple
+from itertools import islice
+
+from hprof import holding
 
 from ..markup import Markup, element, joined, link
-from ..node_lines import shown_node
-from ..paging import PAGE, Kept, is_there, page, pager
-from ..printed import SHORT
-from ..retained_lines import named, retained, sums, words_of
+from ..nodes import named, shown_node, words_of
+from ..paging import PAGE, Part, is_there, page, pager
+from ..printed import NODE
 from ..subjects import about
 from ..tables import bar, cell, facts, number, row, table
 from ..treemap import Leaf, treemap
@@ -14,52 +16,31 @@ from ..values import counted, thousands
 from ..visit import Missing
 from .of_class import ways
 
-QUESTION = b"keeps ID"
-ONLY_WEAK = b"only by weak references"
+QUESTION = "keeps ID"
 # Of a longer chain the first and the last are shown; the picture has so many boxes, and so many of them have boxes of their own.
 CHAIN, BOXES, OPENED = 10, 40, 12
-Answer = namedtuple("Answer", "total weakly outer left_out inner below largest note")
+Answer = namedtuple("Answer", "reached chain below largest")
 
 
-class Reading:
-    """The answer to `keeps ID`, line by line: of the nodes below those of one page, and the largest for the picture."""
+def largest_and_page(rows, most, wanted):
+    """The largest of the rows, which come first, at most so many; and a page of all."""
+    first = list(islice(rows, most if wanted.first else max(most, wanted.size)))
+    if not wanted.first:
+        return first[:most], Part(first[: wanted.size], len(first) + rows.rest(), wanted)
+    passed = len(first) + rows.skip(wanted.first - len(first))
+    entries = list(islice(rows, wanted.size))
+    return first, Part(entries, passed + len(entries) + rows.rest(), wanted)
 
-    def __init__(self, wanted, largest=BOXES):
-        self.total = self.weakly = self.note = None
-        self.outer, self.inner, self.passed = [], deque(maxlen=CHAIN), 0
-        self.below = Kept(wanted)
-        self.most, self.largest = largest, []
 
-    def read(self, answer):
-        for line in answer.lines(limit=SHORT):
-            self.take(line)
-        left_out = self.passed - len(self.outer) - len(self.inner)
-        return Answer(self.total, self.weakly, self.outer, left_out, list(self.inner), self.below.part(), self.largest, self.note)
+def reading(wanted, most=BOXES):
+    """A reader of the answer to `keeps ID`: of the nodes below those of one page, and the largest for the picture."""
 
-    def take(self, line):
-        if line.startswith(b"  "):
-            self.under(line[2:])
-        elif not line[:1].isdigit():
-            self.note = line
-        elif self.total is None:
-            self.total = sums(line)[0]
-        elif line.endswith(b" " + ONLY_WEAK) and sums(line)[1] == ONLY_WEAK:
-            self.weakly = sums(line)[0]
-        else:
-            self.over(line)
+    def read(lines):
+        reached, chain = holding.reached(lines), holding.chain(lines, CHAIN)
+        largest, below = largest_and_page(holding.below(lines), most, wanted)
+        return Answer(reached, chain, below, largest)
 
-    def over(self, line):
-        """A node of the chain, from the outermost."""
-        self.passed += 1
-        if len(self.outer) < CHAIN:
-            self.outer.append(retained(line))
-        else:
-            self.inner.append(retained(line))
-
-    def under(self, line):
-        self.below.add(retained, line)
-        if len(self.largest) < self.most:
-            self.largest.append(retained(line))
+    return read
 
 
 def leaf(frame, one, inner):
@@ -70,8 +51,8 @@ def leaf(frame, one, inner):
 
 def opened(visit, rows):
     """The largest of what the first of the rows keep themselves."""
-    asked = [(about("keeps", one.node.id), Reading(page(1), OPENED).read) for one in rows[:OPENED]]
-    return [answer.largest for answer in visit.ask(*asked)] if asked else []
+    wanted = [(about("keeps", one.node.id), reading(page(1), OPENED), NODE) for one in rows[:OPENED]]
+    return [answer.largest if answer else [] for answer in visit.ask(*wanted)] if wanted else []
 
 
 def picture(visit, found):
@@ -104,7 +85,7 @@ def below(frame, found):
             number(thousands(one.bytes)),
             cell(element("span", bar(one.bytes, whole), class_="track"), "share"),
             number(thousands(one.objects)),
-            cell(link(frame.at("class" if one.node.of_class else "object", one.node.id), "look inside")),
+            cell(link(frame.at("class" if one.node.kind == "class" else "object", one.node.id), "look inside")),
         )
         for one in found.below.entries
     ]
@@ -119,24 +100,24 @@ def step(frame, one):
 
 def chain(frame, found, id):
     """What keeps it, from the outermost down to itself."""
-    above = [step(frame, one) for one in found.outer + found.inner if one.node.id != id]
+    above = [step(frame, one) for one in found.chain.outer + found.chain.inner if one.node.id != id]
     if not above:
         return element("p", "The roots keep it: there is no one object without which it would be free.")
-    if found.left_out:
-        above.insert(CHAIN, element("li", f"and {thousands(found.left_out)} more"))
+    if found.chain.left_out:
+        above.insert(CHAIN, element("li", f"and {thousands(found.chain.left_out)} more"))
     return joined([element("p", "Without any one of these it would be free:"), element("ol", *above, class_="path")])
 
 
 def own(found, id):
     """The row of the node itself."""
-    return next((one for one in [*found.inner, *found.outer] if one.node.id == id), None)
+    return next((one for one in [*found.chain.inner, *found.chain.outer] if one.node.id == id), None)
 
 
 def of_node(visit, id, found):
     frame, itself = visit.frame, own(found, id)
     head = facts([
-        ("Retained bytes", f"{thousands(itself.bytes)} of {thousands(found.total.bytes)}"),
-        ("Retained objects", f"{thousands(itself.objects)} of {thousands(found.total.objects)}"),
+        ("Retained bytes", f"{thousands(itself.bytes)} of {thousands(found.reached.total.bytes)}"),
+        ("Retained objects", f"{thousands(itself.objects)} of {thousands(found.reached.total.objects)}"),
     ])
     return frame.page(
         f"What {words_of(itself.node)} keeps",
@@ -152,18 +133,19 @@ def of_node(visit, id, found):
 
 
 def of_roots(visit, found):
-    weakly = found.weakly and f"{counted(found.weakly.bytes, 'byte')} in {counted(found.weakly.objects, 'object')}"
+    weak = found.reached.weak
+    weakly = weak and f"{counted(weak.bytes, 'byte')} in {counted(weak.objects, 'object')}"
     head = facts([
-        ("Bytes that strong references reach", thousands(found.total.bytes)),
-        ("Objects and classes", thousands(found.total.objects)),
+        ("Bytes that strong references reach", thousands(found.reached.total.bytes)),
+        ("Objects and classes", thousands(found.reached.total.objects)),
         ("Only by weak references", weakly),
     ])
     return visit.frame.page("What holds the memory", head, picture(visit, found), below(visit.frame, found))
 
 
 NOTES = {
-    ONLY_WEAK: "Only weak references lead to it: nothing keeps it alive.",
-    b"not reached": "No GC root leads to it: it is garbage, or the dump has no roots, as one that was cut short.",
+    "weakly": "Only weak references lead to it: nothing keeps it alive.",
+    "not": "No GC root leads to it: it is garbage, or the dump has no roots, as one that was cut short.",
 }
 
 
@@ -172,11 +154,11 @@ def show(visit, id):
     if QUESTION not in visit.heap.questions:
         return visit.frame.page(title, element("p", "This hprof cannot tell it: it has no question ", element("code", "keeps ID"), "."))
     number = visit.number()
-    found = visit.heap.ask_once(about("keeps", id), Reading(page(number, PAGE)).read, number)
-    if found.note in NOTES:
-        return visit.frame.page(title, element("p", NOTES[found.note]), ways(visit.frame, id))
-    if found.note is not None:
+    found = visit.heap.ask_once(about("keeps", id), reading(page(number, PAGE)), NODE, number)
+    if found is None:
         return visit.frame.missing(f"Nothing at {id:x}", "The dump has neither a class nor an object with this identifier.")
+    if found.reached.reached in NOTES:
+        return visit.frame.page(title, element("p", NOTES[found.reached.reached]), ways(visit.frame, id))
     if not is_there(found.below):
         raise Missing
     return of_node(visit, id, found) if id else of_roots(visit, found)

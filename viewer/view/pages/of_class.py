@@ -3,15 +3,19 @@
 import re
 from collections import namedtuple
 
-from .. import lines
+from hprof import contents, counts
+from hprof.answers import LONGEST
+from hprof.names import Name
+from hprof.values import REFERENCES
+
 from ..briefs import briefs, target, texts
 from ..class_names import name_of, title_of
 from ..markup import Markup, element, joined, link
-from ..paging import Kept, is_there, page, pager
+from ..paging import Kept, Part, is_there, page, pager, taken
 from ..printed import SHORT, shown
 from ..subjects import about
 from ..tables import cell, facts, number, row, table
-from ..values import REFERENCES, counted, thousands
+from ..values import counted, thousands
 from ..values import number as value_of
 from ..visit import Missing
 from ..weights import kind_link
@@ -19,48 +23,53 @@ from . import sizes
 
 # More superclasses are left out.
 CHAIN = 100
-VALUE = re.compile(rb"^own .* value$", re.MULTILINE)
-SECTIONS = {b"static": ("statics", lines.static), b"own": ("fields", lines.own), b"constant": ("constants", lines.constant)}
+SECTIONS = ("statics", "fields", "constants")
 Contents = namedtuple("Contents", "head parts has_object has_value")
 
 
-def contents(visit):
-    """A reader of a class dump: its head, and a page of each kind of its entries."""
-    pages = {name: page(visit.number(name)) for name, _ in SECTIONS.values()}
+def own_fields(lines, wanted):
+    """A page of the fields that a class declares, and whether one of all is named `value`."""
+    kept, has_value = Kept(wanted), False
+    for one in contents.own_fields(lines):
+        kept.add(one)
+        has_value = has_value or one.name == "value"
+    return kept.part(), has_value
 
-    def read(answer):
-        head, has_object, has_value = None, False, False
-        kept = {name: Kept(one) for name, one in pages.items()}
-        first = answer.line()
-        if lines.word(first) == b"class":
-            head = lines.class_head(first)
-        else:
-            has_object = lines.word(first) != b"nothing"
-        for line in answer.lines(limit=SHORT):
-            word = lines.word(line)
-            if word in SECTIONS:
-                name, parse = SECTIONS[word]
-                kept[name].add(parse, line)
-                has_value = has_value or (word == b"own" and line.endswith(b" value"))
-            else:
-                has_object = True
-                break
-        return Contents(head, {name: one.part() for name, one in kept.items()}, has_object, has_value)
+
+def class_contents(pages):
+    """A reader of a class dump: its head, whose name is whole, and a page of each kind of its entries."""
+
+    def read(lines):
+        head = contents.class_head(lines)
+        lines.limit = SHORT
+        constants = taken(contents.constants(lines), pages["constants"])
+        statics = taken(contents.statics(lines), pages["statics"])
+        fields, has_value = own_fields(lines, pages["fields"])
+        return Contents(head, {"constants": constants, "statics": statics, "fields": fields}, not lines.are_over(), has_value)
 
     return read
+
+
+def no_contents(pages):
+    """What is told where there is neither a class nor an object."""
+    return Contents(None, {name: Part([], 0, one) for name, one in pages.items()}, False, False)
+
+
+def short(one):
+    """A row of a class with the beginning of its name."""
+    return one._replace(label=Name(one.label.printed[:SHORT]))
 
 
 def beside(id, wanted):
     """A reader of the row of a class, and of a page of the classes whose superclass it is."""
     pattern = re.compile(rb"^%x super | super %x bytes " % (id, id), re.MULTILINE)
 
-    def read(answer):
+    def read(lines):
         own, kept = None, Kept(wanted)
-        for line in answer.found(pattern):
-            one = lines.class_row(line[:SHORT])
+        for one in map(short, counts.classes_found(lines, pattern)):
             own = one if one.id == id else own
-            if one.parent == id:
-                kept.add(lambda kept_row: kept_row, one)
+            if one.superclass == id:
+                kept.add(one)
         return own, kept.part()
 
     return read
@@ -78,33 +87,30 @@ def label_in_histogram(visit, id):
     """The label of a class without a class dump, where it has objects."""
     pattern = re.compile(rb" %x " % id)
 
-    def read(answer):
-        rows = (lines.row(line) for line in answer.found(pattern))
-        return next((one.label for one in rows if one.kind == id), None)
+    def read(lines):
+        return next((one.label for one in counts.histogram_found(lines, pattern) if one.id == id), None)
 
     return visit.ask(("histo", read))[0]
 
 
-def superclass(answer):
+def superclass(lines):
     """The head of a class, and whether it has an own field named `value`."""
-    first = answer.line(limit=SHORT)
-    if lines.word(first) != b"class":
-        return None, False
-    return lines.class_head(first), any(answer.found(VALUE))
+    head = contents.class_head(lines)
+    return head, head is not None and contents.declares(lines, "value")
 
 
 def chain(visit, head):
     """The superclasses from the next one up, each with its label if it has a class dump; why it ends; and whether one has `value`."""
-    found, seen, parent, has_value = [], {head.id}, head.parent, False
+    found, seen, parent, has_value = [], {head.id}, head.superclass, False
     while parent and len(found) < CHAIN:
         if parent in seen:
             return found, "the superclasses run in a circle", has_value
         seen.add(parent)
-        ((one, value),) = visit.ask((about("object", parent), superclass))
-        found.append((parent, one and one.label))
+        one, value = visit.ask((about("object", parent), superclass))[0] or (None, False)
+        found.append((parent, one and one.label.printed))
         if one is None:
             return found, "this class is missing", has_value
-        parent, has_value = one.parent, has_value or value
+        parent, has_value = one.superclass, has_value or value
     return found, "and so on" if parent else "", has_value
 
 
@@ -118,7 +124,7 @@ def shown_chain(frame, above, end):
 def value(frame, static, found):
     """The value of a static field or a constant."""
     if static.type in REFERENCES:
-        return target(frame, int(static.bits, 16), found)
+        return target(frame, static.value, found)
     return element("code", value_of(static.type, static.bits))
 
 
@@ -132,13 +138,13 @@ def section(title, heads, part, name, cells):
 
 def sections(frame, parts, found):
     def field(one):
-        return cell(shown(one.name), "name"), cell(one.type)
+        return cell(shown(one.name.printed), "name"), cell(one.type)
 
     def static(one):
         return (*field(one), cell(value(frame, one, found), "text"))
 
     def constant(one):
-        return number(str(one.index)), cell(one.type), cell(value(frame, one, found), "text")
+        return number(str(one.pool_index)), cell(one.type), cell(value(frame, one, found), "text")
 
     statics = section(("static field",), ["Name", "Type", "Value"], parts["statics"], "statics", static)
     fields = section(("own field",), ["Name", "Type"], parts["fields"], "fields", field)
@@ -148,7 +154,7 @@ def sections(frame, parts, found):
 
 def below(frame, part):
     def subclass(one):
-        return cell(kind_link(frame, one.id, one.label), "name"), number(thousands(one.bytes)), number(thousands(one.count))
+        return cell(kind_link(frame, one.id, one.label.printed), "name"), number(thousands(one.bytes)), number(thousands(one.count))
 
     heads = ["Class", ("Bytes", "n"), ("Objects", "n")]
     return section(("subclass", "subclasses"), heads, part, "subclasses", subclass)
@@ -157,12 +163,12 @@ def below(frame, part):
 def referred(head, parts):
     """All identifiers that the page shows as references."""
     entries = parts["statics"].entries + parts["constants"].entries
-    return [head.loader, head.signers, head.domain, *(int(one.bits, 16) for one in entries if one.type in REFERENCES)]
+    return [head.loader, head.signers, head.domain, *(one.value for one in entries if one.type in REFERENCES)]
 
 
-def head_facts(visit, contents, count, above, end, found):
-    head, frame = contents.head, visit.frame
-    other = link(frame.at("object", head.id), "an object has this identifier too") if contents.has_object else None
+def head_facts(visit, content, count, above, end, found):
+    head, frame = content.head, visit.frame
+    other = link(frame.at("object", head.id), "an object has this identifier too") if content.has_object else None
     return facts([
         ("Identifier", element("code", f"{head.id:x}")),
         ("Superclasses", shown_chain(frame, above, end)),
@@ -182,21 +188,23 @@ def ways(frame, id):
     return element("p", *[part for one in links for part in (" \u00b7 ", one)][1:])
 
 
-def without_dump(visit, id, contents, objects):
+def without_dump(visit, id, content, objects):
     """The page of a class without a class dump: it may have objects all the same."""
     label = label_in_histogram(visit, id)
     if label is None and not objects.part.total:
-        if contents.has_object:
+        if content.has_object:
             return visit.frame.missing("No class", joined(["At ", link(visit.frame.at("object", id), f"{id:x}"), " is an object."]))
         return visit.frame.missing(f"Nothing at {id:x}", "The dump has neither a class nor an object with this identifier.")
-    title = title_of(label) if label else f"Class {id:x}"
+    title = title_of(label.printed) if label else f"Class {id:x}"
     note = element("p", "The dump has no class dump of this class: its fields and its superclass are not known.")
     return visit.frame.page(title, note, ways(visit.frame, id), sizes.shown_objects(visit.frame, objects, "object", {}))
 
 
 def show(visit, id):
-    wanted = page(visit.number("subclasses"))
-    content, (own, subclasses) = visit.ask((about("object", id), contents(visit)), ("classes", beside(id, wanted)))
+    pages = {name: page(visit.number(name)) for name in SECTIONS}
+    wanted = beside(id, page(visit.number("subclasses")))
+    content, (own, subclasses) = visit.ask((about("object", id), class_contents(pages), LONGEST), ("classes", wanted))
+    content = content or no_contents(pages)
     found_objects = objects(visit, id, own)
     part = found_objects.part
     if not all(map(is_there, (subclasses, part, *content.parts.values()))):
@@ -207,7 +215,7 @@ def show(visit, id):
     found = briefs(visit.heap, referred(content.head, content.parts))
     strings = texts(visit.heap, [one.id for one in part.entries]) if has_value or content.has_value else {}
     strings = {id: text for id, text in strings.items() if text}
-    label = content.head.label
+    label = content.head.label.printed
     return visit.frame.page(
         title_of(label),
         head_facts(visit, content, own.count if own else part.total, above, end, found),

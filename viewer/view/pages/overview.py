@@ -2,10 +2,11 @@
 
 from datetime import datetime, timezone
 
+from hprof import counts
+
 from ..markup import element, joined, link
-from ..names import LONGEST, Wanted
+from ..names import LABELLED, LONGEST, Wanted
 from ..paging import is_there, page, pager
-from ..printed import SHORT
 from ..tables import bar, cell, facts, number, row, table
 from ..values import counted, thousands
 from ..visit import Missing
@@ -14,7 +15,7 @@ from . import sizes, suspects
 
 # The rows of a page, and the parts that are told.
 ROWS, PARTS = 100, 2000
-RETAINED = b"retained"
+RETAINED = "retained"
 
 
 def moment(milliseconds):
@@ -25,38 +26,32 @@ def moment(milliseconds):
         return f"{milliseconds} ms"
 
 
-def checked(answer):
+def checked(lines):
     """The parts, and the counts with their names. More parts than a page has rows are left out."""
-    parts, counts = [], []
-    for line in answer.lines(limit=SHORT):
-        words = line.decode("ascii").split(" ")
-        if words[0] != "part":
-            counts.append((" ".join(words[:-1]), int(words[-1])))
+    parts, numbers = [], []
+    for one in counts.check_rows(lines):
+        if isinstance(one, counts.Count):
+            numbers.append(one)
         elif len(parts) < PARTS:
-            parts.append(words)
-    return parts, counts
+            parts.append(one)
+    return parts, numbers
 
 
-def retained_by_label(answer):
+def retained_by_label(lines):
     """The retained bytes of each label, but for names that are too long to be told apart."""
-    found = {}
-    for line in answer.lines(limit=LONGEST + 100):
-        size, _, _, label = line.split(b" ", 3)
-        if len(label) <= LONGEST:
-            found[label] = int(size)
-    return found
+    return {one.label.printed: one.retained for one in counts.retained(lines) if len(one.label.printed) <= LONGEST}
 
 
-def part_row(name, words):
-    """A line `part 0: version 1.0.2 ids 8 time 1 records 2 facts 3 end yes`, of the part with this name."""
-    _, index, _, version, _, ids, _, time, _, records, _, facts, _, end = words
-    cells = [number(thousands(int(value))) for value in (ids, records, facts)]
-    return row(number(index.rstrip(":")), cell(name, "name"), cell(version), cell(moment(int(time))), *cells, cell(end))
+def part_row(name, part):
+    """The row of the part with this name."""
+    cells = [number(thousands(value)) for value in (part.id_size, part.records, part.facts)]
+    end = cell("yes" if part.has_end else "no")
+    return row(number(str(part.number)), cell(name, "name"), cell(part.version), cell(moment(part.time)), *cells, end)
 
 
-def checks(names, parts, counts):
+def checks(names, parts, numbers):
     heads = [("Part", "n"), "File", "Version", "Time", ("Bytes of an identifier", "n"), ("Records", "n"), ("Facts", "n"), "End record"]
-    told = facts([(name, thousands(count)) for name, count in counts])
+    told = facts([(one.kind, thousands(one.number)) for one in numbers])
     return joined([element("h2", "The dump"), table(heads, map(part_row, names, parts)), told])
 
 
@@ -109,13 +104,13 @@ def summary(weights):
 
 def show(visit):
     word = filter_word(visit)
-    parts, counts = visit.heap.ask_once("check", checked)
-    weights = visit.heap.ask_once("histo", Weights().read)
+    parts, numbers = visit.heap.ask_once("check", checked)
+    weights = visit.heap.ask_once("histo", Weights().read, LABELLED)
     part = weights.page_of(Wanted(word), page(visit.number(), ROWS))
     if not is_there(part):
         raise Missing
     can_tell = {RETAINED, sizes.BIGGEST} <= visit.heap.questions
-    retained = visit.heap.ask_once("retained", retained_by_label) if can_tell else None
+    retained = visit.heap.ask_once("retained", retained_by_label, LABELLED) if can_tell else None
     heads = ["Class or type", ("Bytes", "n", "descending"), ("Share", "n share"), ("Objects", "n")]
     heads += [("Retained bytes", "n")] * can_tell + [("Identifier", "plain extra")]
     rows = [weight_row(visit.frame, weights, retained, one) for one in part.entries]
@@ -127,5 +122,5 @@ def show(visit):
         filter_field(visit.frame.at(""), word, part, len(weights.named)),
         table(heads, rows, "sortable") if rows else element("p", none),
         pager(part, **filter_words(word)),
-        checks(visit.frame.parts[-1:] if visit.frame.compares else visit.frame.parts, parts, counts),
+        checks(visit.frame.parts[-1:] if visit.frame.compares else visit.frame.parts, parts, numbers),
     )

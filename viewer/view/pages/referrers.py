@@ -1,26 +1,25 @@
 """Who refers to an object or a class: sums where there are many, and each reference, with the class of what holds it and its field."""
 
-import re
 from collections import namedtuple
+from itertools import islice
 
-from .. import lines
-from ..briefs import OBJECTS, brief, named, target, words_for
+from hprof import contents
+from hprof.referrers import is_weak, pass_roots, refs, sums
+
+from ..briefs import NOTHING, brief, named, target, words_for
 from ..class_names import name_of
 from ..markup import Markup, element, joined, link
 from ..paging import is_there, page, pager, taken
-from ..printed import SHORT, shown
+from ..printed import NODE, shown
 from ..subjects import about
 from ..tables import cell, number, row, table
 from ..values import counted, thousands
 from ..visit import Missing
 from .of_class import ways
 
-QUESTION = b"who ID"
-# As many references have no sums before them.
-FEW = 20
+QUESTION = "who ID"
 # More sums are left out: the greatest come first.
 SUMS = 20
-SUM = re.compile(rb"([0-9]+) times (class )?(.*?)( weak)? (?:(class|super|loader|signers|domain|constant|element)|(static|field) (.*))")
 BY_OBJECT = ("class", "field", "element")
 VIA = {
     "class": "is of this class",
@@ -31,26 +30,31 @@ VIA = {
 }
 Holder = namedtuple("Holder", "of_class head names")
 Told = namedtuple("Told", "sums lines")
-UNTOLD = Told([], [])
+UNTOLD = Told((), [])
+
+
+def names_at(rows, kind, wanted):
+    """The names of static fields or fields at those places of this kind that are wanted, by the kind and the place."""
+    found, passed = {}, 0
+    for position in sorted(position for one, position in wanted if one == kind):
+        passed += rows.skip(position - passed)
+        for row_there in islice(rows, 1):
+            passed += 1
+            found[kind, position] = row_there.name.printed
+    return found
 
 
 def holder(wanted):
     """A reader of what refers: its class, and the names at the places that are wanted, which are pairs of a kind and a number."""
 
-    def read(answer):
-        of_class, head, names = None, None, {}
-        for line in answer.lines(limit=SHORT):
-            word = lines.word(line)
-            if word == b"class":
-                of_class = lines.class_head(line)
-            elif word in OBJECTS:
-                head = lines.head(line)
-                if head.form != "instance":
-                    break
-            elif word in (b"field", b"static"):
-                one = lines.field(line) if word == b"field" else lines.static(line)
-                if (word.decode(), one.place) in wanted:
-                    names[word.decode(), one.place] = one.name
+    def read(lines):
+        of_class = contents.class_head(lines)
+        contents.constants(lines).rest()
+        names = names_at(contents.statics(lines), "static", wanted)
+        contents.pass_class(lines)
+        head = contents.object_head(lines)
+        if isinstance(head, contents.InstanceHead) and not contents.no_fields(lines):
+            names.update(names_at(contents.fields(lines), "field", wanted))
         return Holder(of_class, head, names)
 
     return read
@@ -60,7 +64,7 @@ def holders(visit, referrers):
     """Everything that refers, by its identifier: one turn for a page."""
     wanted = {}
     for one in referrers:
-        wanted.setdefault(one.id, set()).add((one.via, one.place))
+        wanted.setdefault(one.id, set()).add((one.kind, one.position))
     found = visit.ask(*[(about("object", id), holder(places)) for id, places in wanted.items()])
     return dict(zip(wanted, found))
 
@@ -68,47 +72,23 @@ def holders(visit, referrers):
 def people(part):
     """A reader of the same references with names: the greatest sums, and the lines of the page, which stand behind roots and sums."""
 
-    def read(answer):
-        sums, summed = [], 0 if part.total > FEW else part.total
-        while summed < part.total:
-            line = answer.line(limit=SHORT)
-            if not line.startswith((b"root ", b"  ")):
-                summed += int(line.split(b" ", 1)[0])
-                sums.append(line)
-        line = answer.line()
-        while line is not None and line.startswith((b"root ", b"  ")):
-            line = answer.line()
-        return Told(sums[:SUMS], page_of(line, answer, part.page))
+    def read(lines):
+        pass_roots(lines)
+        summed = sums(lines, part.total, SUMS)
+        lines.skip(part.page.first)
+        return Told(summed, list(islice(lines, part.page.size)))
 
     return read
 
 
-def page_of(line, answer, wanted):
-    """The lines of one page, of which `line` is the first of all."""
-    kept = [] if wanted.first or line is None else [line]
-    answer.skip(wanted.first - 1 if wanted.first else 0)
-    while len(kept) < wanted.size:
-        line = answer.line()
-        if line is None:
-            break
-        kept.append(line)
-    return kept
-
-
-def is_weak(one, holder, line):
-    """Whether the line of a reference says that it is weak, behind the words for what refers."""
-    head = b"class " + holder.of_class.label if holder.of_class else holder.head.label
-    return line.startswith(b"%x %s weak field %d " % (one.id, head, one.place))
-
-
 def by_way_of(one, names, weak):
     """How one refers, in words."""
-    if one.via in VIA:
-        return VIA[one.via]
-    if one.via in ("field", "static"):
-        kind = "static field " if one.via == "static" else "field "
-        return joined([weak_word(weak), kind, element("b", shown(names.get((one.via, one.place), b"")))])
-    return f"{one.via} {one.place}"
+    if one.kind in VIA:
+        return VIA[one.kind]
+    if one.kind in ("field", "static"):
+        kind = "static field " if one.kind == "static" else "field "
+        return joined([weak_word(weak), kind, element("b", shown(names.get((one.kind, one.position), "")))])
+    return f"{one.kind} {one.position}"
 
 
 def weak_word(weak):
@@ -116,10 +96,11 @@ def weak_word(weak):
 
 
 def reference(frame, one, holder, line):
-    by_object = one.via in BY_OBJECT
+    by_object = one.kind in BY_OBJECT
     head = holder.head if by_object else holder.of_class
     address = frame.at("object" if by_object else "class", one.id)
-    weak = one.via == "field" and line is not None and is_weak(one, holder, line)
+    of_class = holder.of_class is not None
+    weak = one.kind == "field" and line is not None and is_weak(line, one, (holder.of_class or holder.head).label, of_class)
     return row(
         cell(link(address, f"{one.id:x}")),
         cell(named(not by_object, head.label), "name"),
@@ -127,32 +108,31 @@ def reference(frame, one, holder, line):
     )
 
 
-def sum_shown(line):
-    """A sum: how many, the class of those that refer, and how they do."""
-    match = SUM.fullmatch(line)
-    if not match:
-        count, _, words = line.partition(b" times ")
-        return row(number(thousands(int(count))), cell(shown(words), "name"), cell(""))
-    count, of_class, label, weak, alone, kind, name = match.groups()
-    if alone:
-        way = VIA.get(alone.decode(), alone.decode())
+def sum_shown(one):
+    """A sum: how many, the class of those that refer, and how they do, unless its line was cut before that."""
+    if not one.kind:
+        return row(number(thousands(one.count)), cell(shown(("class " if one.of_class else "") + one.label.printed), "name"), cell(""))
+    if one.name is None:
+        way = VIA.get(one.kind, one.kind)
     else:
-        way = joined([weak_word(weak), "static field " if kind == b"static" else "field ", element("b", shown(name))])
-    what = joined(["class " if of_class else "", name_of(label)])
-    return row(number(thousands(int(count))), cell(what, "name"), cell(way, "name"))
+        way = joined([weak_word(one.weak), "static field " if one.kind == "static" else "field ", element("b", shown(one.name.printed))])
+    what = joined(["class " if one.of_class else "", name_of(one.label.printed)])
+    return row(number(thousands(one.count)), cell(what, "name"), cell(way, "name"))
 
 
-def sums_shown(sums):
-    return table([("References", "n"), "From", "By"], map(sum_shown, sums)) if sums else Markup()
+def sums_shown(summed):
+    return table([("References", "n"), "From", "By"], map(sum_shown, summed)) if summed else Markup()
 
 
 def show(visit, id):
     wanted = page(visit.number())
-    subject, part = visit.ask((about("object", id), brief), (about("refs", id), lambda answer: taken(answer, lines.referrer, 100, wanted)))
+    subject, part = visit.ask((about("object", id), brief), (about("refs", id), lambda lines: taken(refs(lines), wanted)))
+    subject = subject or NOTHING
     if not is_there(part):
         raise Missing
     found = holders(visit, part.entries)
-    told = visit.ask((about("who", id), people(part)))[0] if QUESTION in visit.heap.questions and part.total else UNTOLD
+    can_tell = QUESTION in visit.heap.questions and part.total
+    told = visit.ask((about("who", id), people(part), NODE))[0] if can_tell else UNTOLD
     lines_of = told.lines or [None] * len(part.entries)
     rows = [reference(visit.frame, one, found[one.id], line) for one, line in zip(part.entries, lines_of)]
     heading = element("h2", counted(part.total, "reference"))

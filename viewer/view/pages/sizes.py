@@ -2,7 +2,8 @@
 
 from collections import namedtuple
 
-from .. import lines
+from hprof import counts, holding
+
 from ..markup import element, joined, link
 from ..paging import Part, address, pager, taken
 from ..subjects import biggest_of, objects_of
@@ -10,8 +11,8 @@ from ..tables import cell, number, row, table
 from ..values import counted, thousands
 from ..visit import Missing
 
-BIGGEST = b"biggest KIND"
-# Of a line so many bytes are kept: all but the class.
+BIGGEST = "biggest KIND"
+# Of a line so many characters are kept: all but the class.
 NUMBERS = 100
 ORDERS = {"size": "by size", "retained": "by what they keep"}
 Objects = namedtuple("Objects", "part order orders")
@@ -23,8 +24,8 @@ def asked(visit, kind, page):
     orders = [one for one in ORDERS if one == "size" or BIGGEST in visit.heap.questions]
     if order not in orders:
         raise Missing
-    question, parse = (biggest_of(kind), lines.biggest) if order == "retained" else (objects_of(kind), lines.sized)
-    return Objects(visit.heap.ask_once(question, lambda answer: taken(answer, parse, NUMBERS, page), page.number), order, orders)
+    question, rows = (biggest_of(kind), holding.biggest) if order == "retained" else (objects_of(kind), counts.objects)
+    return Objects(visit.heap.ask_once(question, lambda lines: taken(rows(lines), page), NUMBERS, page.number), order, orders)
 
 
 def none(page):

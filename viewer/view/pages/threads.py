@@ -1,72 +1,51 @@
 """The threads: for each its name, its stack, and the objects that its frames hold."""
 
 from collections import namedtuple
+from itertools import islice
+
+from hprof.threads import Threads
 
 from ..markup import element, joined, link
-from ..node_lines import node, shown_node
-from ..paging import Kept, is_there, page, pager
-from ..printed import SHORT, shown
+from ..nodes import shown_node
+from ..paging import Part, is_there, page, pager, taken
+from ..printed import NODE, shown
 from ..values import counted, thousands
 from ..visit import Missing
 
-QUESTION = b"threads"
+QUESTION = "threads"
 TITLE = "Threads"
 THREADS = 50
 # More objects of one frame are counted alone, and more frames of one thread.
 HELD = 100
 FRAMES = 500
+# A place of a thread, which is a frame or none: its words, what it holds, and the number of the others that it holds.
 Place = namedtuple("Place", "words held others")
+Thread = namedtuple("Thread", "serial object places other_places")
 
 
-class Thread:
-    """A thread: its serial number, its object, and the places that hold something: frames, and what is no frame."""
-
-    def __init__(self, line):
-        serial, _, rest = line[len(b"thread ") :].partition(b" ")
-        self.serial = int(serial)
-        self.object = node(rest) if rest else None
-        self.places = []
-        self.other_places = 0
-
-    def add(self, line):
-        if line.startswith(b"    "):
-            self.hold(line[4:])
-        elif len(self.places) < FRAMES:
-            self.places.append(Place(line[2:], [], []))
-        else:
-            self.other_places += 1
-
-    def hold(self, line):
-        if not self.other_places:
-            place = self.places[-1]
-            (place.held if len(place.held) < HELD else place.others).append(line)
+def place_of(threads, place):
+    held = threads.held()
+    return Place(place.words, list(islice(held, HELD)), held.rest())
 
 
-class Reading:
-    """The threads of one page, or the one with a serial number."""
+def thread_of(threads, head):
+    """The thread with this first line, which was read last."""
+    found = threads.places()
+    places = [place_of(threads, place) for place in islice(found, FRAMES)]
+    return Thread(head.number, head.node, places, sum(1 for _ in found))
 
-    def __init__(self, wanted, serial=None):
-        self.kept = Kept(wanted)
-        self.serial = serial
-        self.thread = None
 
-    def read(self, answer):
-        for line in answer.lines(limit=SHORT):
-            if line.startswith(b"thread "):
-                self.begin(line)
-            elif self.thread is not None:
-                self.thread.add(line)
-        return self.kept.part()
+def reading(wanted, serial=None):
+    """A reader of the threads of one page, or of the one with a serial number."""
 
-    def begin(self, line):
-        self.thread = Thread(line)
-        if self.serial is None or self.thread.serial == self.serial:
-            before = len(self.kept.entries)
-            self.kept.add(lambda _: self.thread, line)
-            if len(self.kept.entries) == before:
-                self.thread = None
-        else:
-            self.thread = None
+    def read(lines):
+        threads = Threads(lines)
+        if serial is None:
+            return taken(threads, wanted, lambda head: thread_of(threads, head))
+        found = [thread_of(threads, head) for head in threads if head.number == serial]
+        return Part(found[wanted.first : wanted.first + wanted.size], len(found), wanted)
+
+    return read
 
 
 def address_of(frame, serial):
@@ -76,9 +55,9 @@ def address_of(frame, serial):
 
 def place_shown(frame, place):
     words = element("code", shown(place.words))
-    held = [element("li", shown_node(frame, node(line))) for line in place.held]
+    held = [element("li", shown_node(frame, node)) for node in place.held]
     if place.others:
-        held.append(element("li", f"and {counted(len(place.others), 'other object')}"))
+        held.append(element("li", f"and {counted(place.others, 'other object')}"))
     return element("li", words, element("ul", *held) if held else "")
 
 
@@ -96,7 +75,7 @@ def show(visit):
     if QUESTION not in visit.heap.questions:
         return visit.frame.page(TITLE, element("p", "This hprof cannot tell them: it has no question ", element("code", "threads"), "."))
     serial = visit.number("serial", least=0) if "serial" in visit.words else None
-    part = visit.ask(("threads", Reading(page(visit.number(), THREADS), serial).read))[0]
+    (part,) = visit.ask(("threads", reading(page(visit.number(), THREADS), serial), NODE))
     if not is_there(part) or (serial is not None and not part.total):
         raise Missing
     count = "" if serial is not None else element("p", counted(part.total, "thread") + ". Below a frame stand the objects that it holds.")
