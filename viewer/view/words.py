@@ -15,7 +15,7 @@ PARTs are pieces of one heap; mostly there is one. Two dumps of one process are
 compared with --diff.
 
 On another machine, take a port and let ssh lead there:
-    hprof_view.py --port 8123 heap.hprof
+    %(prog)s --port 8123 heap.hprof
     ssh -L 8123:127.0.0.1:8123 THAT-MACHINE
 and open the printed address at home.
 
@@ -34,9 +34,7 @@ def port(word):
 
 def understood(words=None):
     """The words of the command line, understood."""
-    parser = argparse.ArgumentParser(
-        prog="hprof_view.py", description=ABOUT, epilog=MORE, formatter_class=argparse.RawDescriptionHelpFormatter
-    )
+    parser = argparse.ArgumentParser(description=ABOUT, epilog=MORE, formatter_class=argparse.RawDescriptionHelpFormatter)
     parser.add_argument("parts", metavar="PART", nargs="*", help="a heap dump, or a piece of one")
     parser.add_argument("--diff", nargs=2, metavar=("OLD", "NEW"), help="show what grew from one dump to another")
     parser.add_argument("--port", type=port, default=0, help="the port to serve at (default: one that is free)")
