@@ -1,3 +1,4 @@
 pub mod Histogram
 pub mod CountedKinds
 pub mod Objects
+pub mod Collecting

@@ -1,9 +1,16 @@
 //! The counts of the objects so far, by kind.
 
+ghost use Rattle.std.specs.Prelude.{◌≡◌, length, IfSome};
+ghost use Rattle.std.specs.Option.{option_map};
+ghost use Rattle.hprof_items.specs.FactValue.{value_of};
+ghost use Rattle.hprof_histogram.specs.Histogram.{object_kind, size_of_object};
+
 use crate::counted::Counted;
 use crate::row::Kind;
+use hprof_items::Fact;
+use hprof_passes::ObjectSink;
 use hprof_tables::HintedMap;
-use hprof_values::Basic;
+use hprof_values::{Basic, IdSize};
 use std::alloc::{AllocError, Global};
 
 /// The number of type codes, including those without a type.
@@ -23,7 +30,7 @@ impl CountedKinds {
     ghost use Rattle.hprof_histogram.specs.declared.row.Kind.{Kind};
     ghost use Rattle.hprof_histogram.specs.declared.row.Kind.TheVariants as kinds;
     ghost use Rattle.hprof_histogram.specs.Histogram.{same_kind};
-    ghost use Rattle.hprof_histogram.specs.CountedKinds.{FitsCounts, both, counted_in, nothing, one_of};
+    ghost use Rattle.hprof_histogram.specs.CountedKinds.{both, counted_in, nothing, one_of};
 
     /// Returns the counts of no objects.
     pub(crate) fn new(alloc: Global) -> CountedKinds
@@ -50,39 +57,88 @@ impl CountedKinds {
     /// Counts an object of a class.
     #[inline(always)]
     fn count_class(&mut self, class: u64, size: u128) -> Result<(), AllocError>
-        requires { FitsCounts (both (counted_in self.old (kinds.Class class)) (one_of size)) }
         ensures { OnOk result ((kind : Kind) → counted_in self.new kind
             ≡ cond (same_kind kind (kinds.Class class)) (both (counted_in self.old kind) (one_of size)) (counted_in self.old kind)) }
     {
-        let counted = self.of_class(class).with(size);
+        let Some(counted) = self.of_class(class).with(size) else {
+            return Err(AllocError);
+        };
         self.classes.insert(class, counted)?;
         Ok(())
     }
 
     /// Counts a primitive array of a type.
     #[inline(always)]
-    fn count_type(&mut self, elem: Basic, size: u128)
-        requires { FitsCounts (both (counted_in self.old (kinds.Prim elem)) (one_of size)) }
-        ensures { (kind : Kind) → counted_in self.new kind
-            ≡ cond (same_kind kind (kinds.Prim elem)) (both (counted_in self.old kind) (one_of size)) (counted_in self.old kind) }
+    fn count_type(&mut self, elem: Basic, size: u128) -> Result<(), AllocError>
+        ensures { OnOk result ((kind : Kind) → counted_in self.new kind
+            ≡ cond (same_kind kind (kinds.Prim elem)) (both (counted_in self.old kind) (one_of size)) (counted_in self.old kind)) }
     {
         let code = elem.code() as usize;
-        self.types[code] = self.types[code].with(size);
+        let Some(counted) = self.types[code].with(size) else {
+            return Err(AllocError);
+        };
+        self.types[code] = counted;
+        Ok(())
     }
 
     /// Counts an object.
     #[inline(always)]
     pub(crate) fn count(&mut self, kind: Kind, size: u128) -> Result<(), AllocError>
-        requires { FitsCounts (both (counted_in self.old kind) (one_of size)) }
         ensures { OnOk result ((other : Kind) → counted_in self.new other
             ≡ cond (same_kind other kind) (both (counted_in self.old other) (one_of size)) (counted_in self.old other)) }
     {
         match kind {
             Kind::Class(class) => self.count_class(class, size),
-            Kind::Prim(elem) => {
-                self.count_type(elem, size);
-                Ok(())
-            }
+            Kind::Prim(elem) => self.count_type(elem, size),
+        }
+    }
+}
+
+/// Returns the number of bytes.
+#[inline(always)]
+fn size_of_bytes(bytes: &[u8]) -> u128
+    ensures { result ≡ length bytes.now }
+{
+    bytes.len() as u128
+}
+
+/// Returns the kind of an object and the number of its bytes, or `None` if the fact is no object dump.
+#[inline(always)]
+fn object_of(fact: &Fact<'_>, ids: IdSize) -> Option<(Kind, u128)>
+    ensures kind { option_map (λ object. object.0) result ≡ object_kind (value_of fact.now) }
+    ensures size { IfSome result (λ object. object.1 ≡ size_of_object ids (value_of fact.now)) }
+{
+    match *fact {
+        Fact::Instance { class, bytes, .. } => Some((Kind::Class(class), size_of_bytes(bytes))),
+        Fact::ObjArray {
+            class,
+            elements,
+            ..
+        } => {
+            let size = elements.len() as u128 * ids.width() as u128;
+            Some((Kind::Class(class), size))
+        }
+        Fact::PrimArray { elem, bytes, .. } => Some((Kind::Prim(elem), size_of_bytes(bytes))),
+        _ => None,
+    }
+}
+
+/// Counts each object. The fault is want of memory, or that there are more objects, or more bytes, than a number can count.
+impl ObjectSink for CountedKinds {
+    ghost use Rattle.std.specs.Prelude.{⊤};
+    ghost use Rattle.hprof_histogram.specs.CountedKinds.{CountsObject};
+
+    ghost takes = { CountsObject };
+
+    ghost refuses = { λ old ids object fault new. ⊤ };
+
+    type Fault = AllocError;
+
+    #[inline(always)]
+    fn take(&mut self, ids: IdSize, object: &Fact<'_>) -> Result<(), AllocError> {
+        match object_of(object, ids) {
+            Some((kind, size)) => self.count(kind, size),
+            None => Ok(()),
         }
     }
 }

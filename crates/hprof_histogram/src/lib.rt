@@ -14,6 +14,6 @@ mod sorting;
 pub use counted::Counted;
 pub use counted_kinds::CountedKinds;
 pub use counting::count_objects;
-pub use making::histogram;
+pub use making::{histogram, histogram_of};
 pub use objects::{SizedObject, objects_of};
 pub use row::{Kind, Row};

@@ -1,15 +1,17 @@
 //! The objects of a kind.
 
-ghost use Rattle.std.specs.Prelude.{◌≡◌, ◌<◌, ◌^◌, false, true, IfOk, MatchOption, map};
+ghost use Rattle.std.specs.Prelude.{◌≡◌, ◌<◌, ◌^◌, false, true, MatchOption};
 ghost use Rattle.std.specs.List.Sorted.{IsPermutation, IsSorted};
 ghost use Rattle.hprof_items.specs.FactValue.{value_of};
 ghost use Rattle.hprof_heap.specs.HeapFacts.{facts_of, size_of};
-ghost use Rattle.hprof_histogram.specs.Histogram.{is_kind, object_kind, of_kind, size_of_object};
+ghost use Rattle.hprof_passes.specs.Finding.{Finds};
+ghost use Rattle.hprof_histogram.specs.Histogram.{is_kind, object_kind, size_of_object};
 ghost use Rattle.hprof_histogram.specs.Objects.{AreObjects, object_cmp, sized_of};
 
 use crate::row::Kind;
-use hprof_heap::{Heap, Table, holds_of_heap, id_size, table_facts};
+use hprof_heap::Heap;
 use hprof_items::Fact;
+use hprof_passes::{ObjectSink, Objects, PassStop};
 use hprof_values::IdSize;
 use std::alloc::{AllocError, Global};
 use std::cmp::Ordering;
@@ -62,20 +64,31 @@ fn object_of_kind(fact: &Fact<'_>, ids: IdSize, kind: Kind) -> Option<SizedObjec
     }
 }
 
-/// Returns the objects of a kind, in the order of the heap.
-fn collect_objects(alloc: Global, heap: &Heap, kind: Kind) -> Result<Vec<SizedObject>, AllocError>
-    ensures { IfOk result (λ objects. objects.items ≡ map (sized_of (size_of heap.now)) (of_kind kind (facts_of heap.now))) }
-{
-    let ids = id_size(heap);
-    let mut objects = Vec::new(alloc);
-    let mut facts = table_facts(heap, Table::Objects);
-    let mut fact = Fact::End { thread: 0 };
-    while facts.next_into(&mut fact) {
-        if let Some(object) = object_of_kind(&fact, ids, kind) {
-            objects.push(object)?;
+/// The objects of a kind, in the order in which they came.
+#[derive(Drop)]
+struct OfKind {
+    kind: Kind,
+    objects: Vec<SizedObject>,
+}
+
+/// Collects the objects of a kind. The fault is want of memory.
+impl ObjectSink for OfKind {
+    ghost use Rattle.std.specs.Prelude.{⊤};
+    ghost use Rattle.hprof_histogram.specs.Collecting.{CollectsObject};
+
+    ghost takes = { CollectsObject };
+
+    ghost refuses = { λ old ids object fault new. ⊤ };
+
+    type Fault = AllocError;
+
+    #[inline(always)]
+    fn take(&mut self, ids: IdSize, object: &Fact<'_>) -> Result<(), AllocError> {
+        if let Some(object) = object_of_kind(object, ids, self.kind) {
+            self.objects.push(object)?;
         }
+        Ok(())
     }
-    Ok(objects)
 }
 
 /// Compares objects: the most bytes first, then by identifier.
@@ -94,14 +107,33 @@ fn sort_objects(objects: &mut Vec<SizedObject>)
     objects.sort_unstable_by(|object, other| compare_objects(object, other));
 }
 
-/// Returns the objects of a kind, which the histogram counts in one row, each with the number of its bytes.
+/// Returns those of the objects that are of a kind, which the histogram counts in one row, each with the number of its bytes. The heap has all
+/// other facts.
 ///
-/// They are ordered by bytes, from the most down, and then by identifier. If memory runs out, the answer is `AllocError`.
-pub fn objects_of(alloc: Global, heap: &Heap, kind: Kind) -> Result<Vec<SizedObject>, AllocError>
-    ensures { IfOk result (λ objects. AreObjects (size_of heap.now) (facts_of heap.now) kind objects.items) }
+/// They are ordered by bytes, from the most down, and then by identifier.
+///
+/// # Errors
+///
+/// - `Sink`: memory ran out.
+/// - `Lost`: the objects cannot be gone through.
+pub fn objects_of<O: Objects>(
+    alloc: Global,
+    heap: &Heap,
+    objects: &O,
+    kind: Kind,
+) -> Result<Vec<SizedObject>, PassStop<AllocError, O::Fault>>
+    ensures { Finds (O.make_up objects.now (size_of heap.now) (facts_of heap.now)) (O.agree objects.now (size_of heap.now) (facts_of heap.now))
+        (O.tells objects.now (size_of heap.now) (facts_of heap.now)) (λ all found. AreObjects (size_of heap.now) all kind found.items) result }
 {
-    holds_of_heap(heap);
-    let mut objects = collect_objects(alloc, heap, kind)?;
+    let mut found = OfKind {
+        kind,
+        objects: Vec::new(alloc),
+    };
+    match objects.pass(alloc, heap, &mut found) {
+        Ok(()) => {}
+        Err(stop) => return Err(stop),
+    }
+    let OfKind { mut objects, .. } = found;
     sort_objects(&mut objects);
     Ok(objects)
 }
