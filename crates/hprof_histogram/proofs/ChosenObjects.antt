@@ -1,6 +1,6 @@
 -- Chosen objects, collected one by one.
 use Rattle.std.specs.Prelude.{map}
-use Rattle.std.proofs.Common.{◌≡◌, ◌≤◌, ◌<◌, ◌^◌, Bool, true, false, cond, List, [], ◌∷◌, ◌++◌, refl, sym, ap, ◌∙◌, append-nil, append_assoc}
+use Rattle.std.proofs.Common.{◌≡◌, Bool, true, false, cond, List, [], ◌∷◌, ◌++◌, refl, sym, ap, ◌∙◌, append-nil, append_assoc}
 use Rattle.std.proofs.lemmas.List.Elements.{filter-append}
 use Rattle.std.proofs.lemmas.List.{map-append}
 use Rattle.hprof_values.specs.declared.ids.IdSize.{IdSize}
@@ -62,7 +62,7 @@ chooses_one old new ids fact object same is sized pushed = record {
   chosen = same;
   objects =
       pushed ∙ ap (λ (o : SizedObject). old.objects.items ++ o ∷ []) sized
-          ∙ ap (λ (l : List FactValue). old.objects.items ++ map (sized_of ids) l) (sym (chosen_first old.chosen fact is));
+      ∙ ap (λ (l : List FactValue). old.objects.items ++ map (sized_of ids) l) (sym (chosen_first old.chosen fact is));
 }
 
 pub chooses_none : (old new : Choosing) (ids : IdSize) (fact : FactValue) → new ≡ old → is_chosen old.chosen (object_kind fact) ≡ false
@@ -71,5 +71,5 @@ chooses_none old new ids fact same other = record {
   chosen = ap (λ (it : Choosing). it.chosen) same;
   objects =
       ap (λ (it : Choosing). it.objects.items) same ∙ sym (append-nil old.objects.items)
-          ∙ ap (λ (l : List FactValue). old.objects.items ++ map (sized_of ids) l) (sym (left_out old.chosen fact other));
+      ∙ ap (λ (l : List FactValue). old.objects.items ++ map (sized_of ids) l) (sym (left_out old.chosen fact other));
 }

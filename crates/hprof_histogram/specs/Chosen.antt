@@ -2,6 +2,8 @@
 use Rattle.std.specs.Prelude.{◌==◌, ℕ, Bool, false, List, Option, Some, None, map, ⊤}
 use Rattle.std.specs.List.{filter, list_any}
 use Rattle.std.specs.List.Sorted.{IsPermutation, IsSorted, IsStrictlyIncreasing}
+use Rattle.std.specs.Coded.{Unit-prop}
+use Rattle.std.proofs.Props.{props}
 use Rattle.hprof_values.specs.declared.ids.IdSize.{IdSize}
 use Rattle.hprof_items.specs.FactValue.{FactValue}
 use Rattle.hprof_histogram.specs.declared.chosen.Chosen.{Chosen}
@@ -30,6 +32,10 @@ chooses (choices.Classes classes) other = is_of_classes classes.now other
 abbrev pub CanChoose : Chosen → Type 0
 CanChoose (choices.Kind kind) = ⊤
 CanChoose (choices.Classes classes) = IsStrictlyIncreasing classes.now
+
+pub CanChoose-prop : (chosen : Chosen) → IsProp (CanChoose chosen)
+CanChoose-prop (choices.Kind kind) = Unit-prop
+CanChoose-prop (choices.Classes classes) = hlevel props
 
 -- whether a fact of that kind, if it is an object, is chosen
 abbrev pub is_chosen : Chosen → Option Kind → Bool

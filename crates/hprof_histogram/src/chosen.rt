@@ -5,7 +5,7 @@ ghost use Rattle.std.specs.List.Sorted.{IsStrictlyIncreasing};
 ghost use Rattle.hprof_items.specs.FactValue.{value_of};
 ghost use Rattle.hprof_heap.specs.HeapFacts.{facts_of, size_of};
 ghost use Rattle.hprof_passes.specs.Finding.{Finds};
-ghost use Rattle.hprof_histogram.specs.Chosen.{AreChosen, CanChoose, chooses, is_among, is_chosen};
+ghost use Rattle.hprof_histogram.specs.Chosen.{AreChosen, CanChoose, CanChoose-prop, chooses, is_among, is_chosen};
 ghost use Rattle.hprof_histogram.specs.Histogram.{object_kind, size_of_object};
 ghost use Rattle.hprof_histogram.specs.Objects.{sized_of};
 
@@ -40,7 +40,7 @@ impl Chosen<'_> {
     /// Returns whether objects of a kind are chosen.
     #[inline(always)]
     fn chooses(self, kind: Kind) -> bool
-        requires { CanChoose self.entry }
+        requires { CanChoose self }
         ensures { result ≡ chooses self.entry kind }
     {
         match (self, kind) {
@@ -74,7 +74,7 @@ fn chosen_object(fact: &Fact<'_>, ids: IdSize, chosen: Chosen<'_>) -> Option<Siz
 struct Choosing<'a> {
     chosen: Chosen<'a>,
     objects: Vec<SizedObject>,
-    ghost can: { CanChoose chosen },
+    ghost can: { CanChoose chosen } by { CanChoose-prop chosen },
 }
 
 /// The fault is want of memory.
