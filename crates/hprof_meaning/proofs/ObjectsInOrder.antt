@@ -3,7 +3,7 @@ use Rattle.std.specs.Prelude.{map}
 use Rattle.std.proofs.Common.{◌≡◌, ◌↔◌, ℕ, ◌+◌, Bool, true, false, cond, List, [], ◌∷◌, Option, Some, None, get_or, refl, sym, ap, subst}
 use Rattle.std.proofs.Common.{◌∙◌, inl, inr, arith, ◌==◌}
 use Rattle.std.specs.Prelude.{Contains}
-use Rattle.std.specs.List.{AllByRecursion, IsDistinct}
+use Rattle.std.specs.List.{AllByRecursion, IsDistinct, filter}
 use Rattle.std.specs.List.Sorted.{IsPermutation, IsSorted, IsStrictlySortedBy}
 use Rattle.std.specs.Ordering.{is_lt, nat_cmp, ordering_reverse}
 use Rattle.std.specs.declared.cmp.Ordering.{Ordering}
@@ -30,7 +30,8 @@ use Rattle.hprof_histogram.proofs.Joining.{join_one}
 use Rattle.hprof_histogram.proofs.Members.{IsIn, Contains-from_in, in_from_Contains, one_sorted}
 use Rattle.hprof_histogram.proofs.RowOrder.{then_tied, tied_numbers}
 use Rattle.hprof_histogram.proofs.SomeHistogram.{first_tied}
-use Rattle.hprof_histogram.specs.Chosen.{is_among}
+use Rattle.hprof_histogram.specs.declared.chosen.Chosen.{Chosen}
+use Rattle.hprof_histogram.specs.Chosen.{chooses, chosen_among, is_among, is_chosen, is_of_classes}
 use Rattle.hprof_meaning.specs.ObjectsOf.{AreObjectsOf, IsObjectOf, is_kind_of, of_classes}
 use Rattle.hprof_meaning.proofs.ClassLists.{is_there, one_there}
 use Rattle.hprof_meaning.proofs.ObjectLists.{kept_first, left_out, of_these}
@@ -210,6 +211,15 @@ objects_ascend (first ∷ objects) sorted apart =
     (apart_from_distinct same_id (first ∷ objects) k (k + 1) first apart (omega arith) lt))
 
 -- ---- the whole
+
+-- what is chosen by the classes
+pub chosen_by_classes : (chosen : Chosen) (classes : List ℕ) → ((kind : Kind) → chooses chosen kind ≡ is_of_classes classes kind)
+    → (facts : List FactValue) → chosen_among chosen facts ≡ of_classes classes facts
+chosen_by_classes chosen classes same facts =
+    ap (λ (test : FactValue → Bool). filter test facts) (λ i fact. of_kind (object_kind fact) i) where
+      of_kind : (found : Option Kind) → is_chosen chosen found ≡ is_kind_of classes found
+      of_kind None = refl
+      of_kind (Some kind) = same kind
 
 -- those of the facts, sorted, are the objects of the classes
 pub sorted_are_objects : (ids : IdSize) (facts : List FactValue) (classes : List ℕ) (objects : List SizedObject) → IsCanonicalOrder facts
