@@ -70,7 +70,7 @@ module _ (limits : Limits) where
         (same_part parts stored are number);
   }
 
-  fits : (parts : List (List ℕ)) (stored : List PartStored) → AreStored limits (map Some parts) stored → FitGiven (given_of stored)
+  pub fits : (parts : List (List ℕ)) (stored : List PartStored) → AreStored limits (map Some parts) stored → FitGiven (given_of stored)
   fits [] [] are = tt
   fits [] (first ∷ stored) are = absurd are
   fits (bytes ∷ parts) [] are = absurd are
@@ -79,11 +79,11 @@ module _ (limits : Limits) where
     fits parts stored are.1,
   )
 
-rows_same : (stored : List PartStored) → objects_of (all_read stored) ≡ map rows_given (given_of stored)
+pub rows_same : (stored : List PartStored) → objects_of (all_read stored) ≡ map rows_given (given_of stored)
 rows_same [] = refl
 rows_same (first ∷ stored) = ap (λ (l : List (List ByteRow)). rows_given first.given ∷ l) (rows_same stored)
 
-same_ids : (ids : IdSize) (parts : List Given) → AllByRecursion (λ part. part.header.ids ≡ ids) (map without_objects parts)
+pub same_ids : (ids : IdSize) (parts : List Given) → AllByRecursion (λ part. part.header.ids ≡ ids) (map without_objects parts)
     → AllByRecursion (λ part. part.header.ids ≡ ids) parts
 same_ids ids [] all = tt
 same_ids ids (part ∷ parts) all = (all.0, same_ids ids parts all.1)
@@ -111,7 +111,7 @@ module _ {R : Type 0} (left : R → Option (List ℕ)) (limits : Limits) (old : 
   pub by_parts : AreStored limits (map Some parts) stored
   by_parts = subst (λ (ls : List (Option (List ℕ))). AreStored limits ls stored) told are
 
-  by_all : AreGiven limits (map left (take (length old) old)) (given_of stored)
+  pub by_all : AreGiven limits (map left (take (length old) old)) (given_of stored)
   by_all = subst (λ (rs : List R). AreGiven limits (map left rs) (given_of stored)) (sym (take-length old)) given
 
   pub is_dump : StandBehind → TellWhole → (rows : List ByteRow) → IsUnion (objects_of (all_read stored)) rows

@@ -8,3 +8,7 @@ mod Subs
 mod Dumped
 mod Found
 mod Joined
+mod ObjectSpelling
+mod ObjectTable
+mod Passed
+mod MadeUp

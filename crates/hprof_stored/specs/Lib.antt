@@ -5,3 +5,6 @@ pub mod HoldingLaws
 pub mod Reading
 pub mod Dumping
 pub mod JoiningStored
+pub mod RowDecoder
+pub mod ObjectCounter
+pub mod InParts

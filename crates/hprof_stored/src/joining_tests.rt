@@ -2,7 +2,7 @@
 
 use crate::join_stop::JoinStop;
 use crate::joining::join_stored;
-use crate::tests::{ORDERED, UNORDERED, keeping, readers_of};
+use crate::tests::{ORDERED, OTHER_OBJECT, UNORDERED, keeping, readers_of};
 use hprof_devices::{Device, WriteFault};
 use hprof_engine::join_to;
 use hprof_objects::ObjectStop;
@@ -14,11 +14,6 @@ use std::alloc::{AllocError, Global};
 use std::io;
 use std::io::Write;
 use std::test::*;
-
-/// The byte array 8 of `UNORDERED` with other bytes.
-const OTHER: &[u8; 56] = b"JAVA PROFILE 1.0.2\0\0\0\0\x04\0\0\0\0\0\0\0\x01\
-    \x1c\0\0\0\0\0\0\0\x10\
-    \x23\0\0\0\x08\0\0\0\x01\0\0\0\x02\x08\x07\x09";
 
 /// A writer that takes no more bytes than it has room for.
 #[derive(Drop)]
@@ -93,7 +88,7 @@ fn the_same_dump(rt: HostRuntime) -> Result<(), Fail> {
 
 #[test]
 fn objects_with_two_contents(rt: HostRuntime) -> Result<(), Fail> {
-    let (outcome, bytes) = joined(rt.alloc(), &[ORDERED, OTHER, UNORDERED], 1000)?;
+    let (outcome, bytes) = joined(rt.alloc(), &[ORDERED, OTHER_OBJECT, UNORDERED], 1000)?;
     assert!(rt; outcome == Err(JoinStop::Objects(ObjectStop::TwoContents(8))));
     assert!(rt; bytes.is_empty());
     Ok(())

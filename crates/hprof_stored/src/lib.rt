@@ -4,12 +4,19 @@
 
 mod dumping;
 mod finding;
+mod in_parts;
+#[cfg(test)]
+mod in_parts_tests;
 mod join_stop;
 mod joining;
 #[cfg(test)]
 mod joining_tests;
 pub mod laws;
+mod object_counter;
+mod object_row;
+mod pass_fault;
 mod reading;
+mod row_decoder;
 mod stored_fault;
 mod stored_heap;
 mod stored_sink;
@@ -19,8 +26,10 @@ mod tests;
 
 pub use dumping::write_stored_dump;
 pub use finding::find_conflict;
+pub use in_parts::InParts;
 pub use join_stop::JoinStop;
 pub use joining::join_stored;
+pub use pass_fault::PassFault;
 pub use reading::read_stored;
 pub use stored_fault::StoredFault;
 pub use stored_heap::StoredHeap;

@@ -35,6 +35,11 @@ pub(crate) const UNORDERED: &[u8; 120] = b"JAVA PROFILE 1.0.2\0\0\0\0\x04\0\0\0\
     \x23\0\0\0\x08\0\0\0\x01\0\0\0\x02\x08\x07\x08\
     \x23\0\0\0\x07\0\0\0\x01\0\0\0\x02\x08\x09\x0a";
 
+/// The byte array 8 of `UNORDERED` with other bytes.
+pub(crate) const OTHER_OBJECT: &[u8; 56] = b"JAVA PROFILE 1.0.2\0\0\0\0\x04\0\0\0\0\0\0\0\x01\
+    \x1c\0\0\0\0\0\0\0\x10\
+    \x23\0\0\0\x08\0\0\0\x01\0\0\0\x02\x08\x07\x09";
+
 /// The name 2 as another text.
 const OTHER: &[u8; 45] = b"JAVA PROFILE 1.0.2\0\0\0\0\x04\0\0\0\0\0\0\0\x03\
     \x01\0\0\0\0\0\0\0\x05\0\0\0\x02C";

@@ -1,0 +1,137 @@
+-- Objects, their rows, and the bytes that spell them.
+use Rattle.std.proofs.Common.{◌≡◌, ◌≤◌, ℕ, suc, true, false, List, [], ◌∷◌, ◌++◌, length, drop, Some, None, refl, sym, ap, ◌∙◌, arith}
+use Rattle.std.specs.Prelude.{is_some}
+use Rattle.std.proofs.lemmas.List.{append-nil, drop_all}
+use Rattle.hprof_values.specs.declared.ids.IdSize.{IdSize}
+use Rattle.hprof_items.specs.FactValue.{FactValue, Name, Load, Unload, Frame, Trace, Start, End}
+use Rattle.hprof_items.specs.FactValue.{Rooted, Class, Instance, ObjArray, PrimArray}
+use Rattle.hprof_items.specs.Spelling.{Fits, longest_body}
+use Rattle.hprof_items.specs.SubRecord.{DumpFits, dump_bytes}
+use Rattle.hprof_items.proofs.Dumps.{dump_once}
+use Rattle.hprof_merge.specs.Rows.{ByteRow}
+use Rattle.hprof_objects.specs.ObjectRows.{object_key, object_row}
+use Rattle.hprof_objects.specs.Whole.{AreObjects, is_object}
+use Rattle.hprof_stored.specs.RowDecoder.{SpellsObject}
+
+-- an object has a spelling as a sub-record
+pub record HasSub (ids : IdSize) (object : FactValue) : Type 0 where
+  pub fits : DumpFits ids object
+  pub short : length (dump_bytes ids object) ≤ longest_body
+  pub some : dump_bytes ids object ≡ [] → ⊥
+
+pub sub_of : (ids : IdSize) (object : FactValue) → is_object object ≡ true → Fits ids object → HasSub ids object
+sub_of ids (Instance id trace class bytes) is fits = record { fits = fits.0; short = fits.1; some = λ e. cc }
+sub_of ids (ObjArray id trace class elements) is fits = record { fits = fits.0; short = fits.1; some = λ e. cc }
+sub_of ids (PrimArray id trace elem bytes) is fits = record { fits = fits.0; short = fits.1; some = λ e. cc }
+sub_of ids (Name id text) is fits = absurd cc
+sub_of ids (Load serial class trace name) is fits = absurd cc
+sub_of ids (Unload serial) is fits = absurd cc
+sub_of ids (Frame id method signature source class_serial line) is fits = absurd cc
+sub_of ids (Trace serial thread frames) is fits = absurd cc
+sub_of ids (Start thread object trace name group parent_group) is fits = absurd cc
+sub_of ids (End thread) is fits = absurd cc
+sub_of ids (Rooted root) is fits = absurd cc
+sub_of ids (Class id trace parent loader signers domain reserved1 reserved2 size constants statics fields) is fits = absurd cc
+
+-- the bytes spell one object
+pub one_spelled : (ids : IdSize) (bytes : List ℕ) (one other : FactValue) → SpellsObject ids bytes one → SpellsObject ids bytes other
+    → one ≡ other
+one_spelled ids bytes one other spells more =
+    (dump_once ids one other [] [] (sub_of ids one spells.is spells.fits).fits (sub_of ids other more.is more.fits).fits
+    (ap (λ (l : List ℕ). l ++ []) (sym spells.spelled ∙ more.spelled))).0
+
+-- the bytes of an object's row spell it
+pub row_spells : (ids : IdSize) (object : FactValue) (row : ByteRow) → Fits ids object → object_row ids object ≡ Some row
+    → SpellsObject ids row.1 object
+row_spells ids (Instance id trace class bytes) row fits e =
+    let is : (id, dump_bytes ids (Instance id trace class bytes)) ≡ row = cc in
+    record { fits = fits; is = refl; spelled = sym (ap (λ (r : ByteRow). r.1) is) }
+row_spells ids (ObjArray id trace class elements) row fits e =
+    let is : (id, dump_bytes ids (ObjArray id trace class elements)) ≡ row = cc in
+    record { fits = fits; is = refl; spelled = sym (ap (λ (r : ByteRow). r.1) is) }
+row_spells ids (PrimArray id trace elem bytes) row fits e =
+    let is : (id, dump_bytes ids (PrimArray id trace elem bytes)) ≡ row = cc in
+    record { fits = fits; is = refl; spelled = sym (ap (λ (r : ByteRow). r.1) is) }
+row_spells ids (Name id text) row fits e = absurd cc
+row_spells ids (Load serial class trace name) row fits e = absurd cc
+row_spells ids (Unload serial) row fits e = absurd cc
+row_spells ids (Frame id method signature source class_serial line) row fits e = absurd cc
+row_spells ids (Trace serial thread frames) row fits e = absurd cc
+row_spells ids (Start thread object trace name group parent_group) row fits e = absurd cc
+row_spells ids (End thread) row fits e = absurd cc
+row_spells ids (Rooted root) row fits e = absurd cc
+row_spells ids (Class id trace parent loader signers domain reserved1 reserved2 size constants statics fields) row fits e = absurd cc
+
+-- ---- what was read of some bytes
+
+-- all of the bytes
+pub all_spelled : (bytes spelled : List ℕ) (end : ℕ) → bytes ≡ spelled ++ drop end bytes → end ≡ length bytes → bytes ≡ spelled
+all_spelled bytes spelled end is all =
+    is ∙ ap (λ (l : List ℕ). spelled ++ l) (drop_all end bytes (omega (arith, all))) ∙ append-nil spelled
+
+-- an object has an identifier
+pub some_key : (object : FactValue) → is_object object ≡ true → object_key object ≡ None → ⊥
+some_key object is none = let no : is_object object ≡ false = ap is_some none in cc
+
+-- ---- rows of objects
+
+-- the objects of the first rows, and those of the others
+pub record AreSplit (ids : IdSize) (front rest : List ByteRow) (objects : List FactValue) : Type 0 where
+  pub mine : List FactValue
+  pub behind : List FactValue
+  pub are : AreObjects ids front mine
+  pub others : AreObjects ids rest behind
+  pub all : objects ≡ mine ++ behind
+
+pub split_objects : (ids : IdSize) (front rest : List ByteRow) (objects : List FactValue) → AreObjects ids (front ++ rest) objects
+    → AreSplit ids front rest objects
+split_objects ids [] rest objects are = record { mine = []; behind = objects; are = tt; others = are; all = refl }
+split_objects ids (row ∷ front) rest [] are = absurd are
+split_objects ids (row ∷ front) rest (object ∷ objects) are =
+    let it = split_objects ids front rest objects are.2 in
+    record {
+      mine = object ∷ it.mine;
+      behind = it.behind;
+      are = (are.0, are.1, it.are);
+      others = it.others;
+      all = ap (λ (l : List FactValue). object ∷ l) it.all;
+    }
+
+-- as many objects as rows
+pub as_many : (ids : IdSize) (rows : List ByteRow) (objects : List FactValue) → AreObjects ids rows objects → length rows ≡ length objects
+as_many ids [] [] are = refl
+as_many ids [] (object ∷ objects) are = absurd are
+as_many ids (row ∷ rows) [] are = absurd are
+as_many ids (row ∷ rows) (object ∷ objects) are = ap suc (as_many ids rows objects are.2)
+
+-- the object of a row among rows, with the objects before it
+pub record IsObjectAt (ids : IdSize) (front : List ByteRow) (row : ByteRow) (objects : List FactValue) : Type 0 where
+  pub before : List FactValue
+  pub object : FactValue
+  pub behind : List FactValue
+  pub all : objects ≡ before ++ object ∷ behind
+  pub are : AreObjects ids front before
+  pub spells : SpellsObject ids row.1 object
+
+pub object_at : (ids : IdSize) (front : List ByteRow) (row : ByteRow) (rest : List ByteRow) (objects : List FactValue)
+    → AreObjects ids (front ++ row ∷ rest) objects → IsObjectAt ids front row objects
+object_at ids [] row rest [] are = absurd are
+object_at ids [] row rest (object ∷ objects) are = record {
+  before = [];
+  object = object;
+  behind = objects;
+  all = refl;
+  are = tt;
+  spells = row_spells ids object row are.0 are.1;
+}
+object_at ids (first ∷ front) row rest [] are = absurd are
+object_at ids (first ∷ front) row rest (object ∷ objects) are =
+    let it = object_at ids front row rest objects are.2 in
+    record {
+      before = object ∷ it.before;
+      object = it.object;
+      behind = it.behind;
+      all = ap (λ (l : List FactValue). object ∷ l) it.all;
+      are = (are.0, are.1, it.are);
+      spells = it.spells;
+    }

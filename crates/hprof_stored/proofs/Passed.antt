@@ -1,0 +1,164 @@
+-- A merge into a sink of rows, as a pass over objects.
+use Rattle.std.proofs.Common.{◌≡◌, ◌+◌, ℕ, List, [], ◌∷◌, ◌++◌, Option, Result, Ok, Err, refl, sym, ap, subst, ◌∙◌, append_assoc}
+use Rattle.std.specs.Prelude.{OnOk, IfErr}
+use Rattle.hprof_values.specs.declared.ids.IdSize.{IdSize}
+use Rattle.hprof_items.specs.FactValue.{FactValue}
+use Rattle.hprof_devices.specs.declared.health.Health.{Health}
+use Rattle.hprof_merge.specs.Rows.{ByteRow}
+use Rattle.hprof_merge.specs.Run.{Runs}
+use Rattle.hprof_merge.specs.Merging.{RefusesRow, TakesAll, TakesBelow}
+use Rattle.hprof_merge.specs.Union.{IsUnion}
+use Rattle.hprof_merge.proofs.Unions.{union_front, union_unique}
+use Rattle.hprof_objects.specs.declared.object_stop.ObjectStop.{ObjectStop}
+use Rattle.hprof_objects.specs.declared.object_stop.ObjectStop.TheVariants as stops
+use Rattle.hprof_objects.specs.MergedObjects.{IfScratchFails, MergesLists, StopsWithin, TellsChange}
+use Rattle.hprof_objects.specs.PartsRead.{PartRead}
+use Rattle.hprof_objects.specs.StoredObjects.{objects_of, scratch_under}
+use Rattle.hprof_objects.specs.Whole.{AreObjects}
+use Rattle.hprof_passes.specs.Passing.{IfLost, Passes, RefusesObject, TakesFront, TakesObjects}
+use Rattle.hprof_stored.specs.declared.in_parts.InParts.{InParts}
+use Rattle.hprof_stored.specs.declared.row_decoder.RowDecoder.{RowDecoder}
+use Rattle.hprof_stored.specs.declared.row_decoder.RowRefusal.{RowRefusal}
+use Rattle.hprof_stored.specs.declared.row_decoder.RowRefusal.TheVariants as rows
+use Rattle.hprof_stored.specs.InParts.{AreAsRead, HaveUnion, TellsPass, limits_under, objects_under, parts_under, pass_stop}
+use Rattle.hprof_stored.specs.RowDecoder.{AreOverSame, GivesNone, GivesObject, SpellsObject, sink_under}
+use Rattle.hprof_stored.proofs.ObjectSpelling.{IsObjectAt, object_at, one_spelled, row_spells, split_objects}
+
+module _ {T E : Type 0} (takes : T → IdSize → FactValue → T → Type 0) (refuses : T → IdSize → FactValue → E → T → Type 0) where
+  -- ---- the sink stays one over the same sink of objects
+
+  same_then : (old mid new : RowDecoder T) → AreOverSame old mid → AreOverSame mid new → AreOverSame old new
+  same_then old mid new first second = (second.0 ∙ first.0, second.1 ∙ first.1)
+
+  same_run : (old : RowDecoder T) (rows : List ByteRow) (new : RowDecoder T) → Runs (GivesObject takes) old rows new → AreOverSame old new
+  same_run old [] new run = subst (AreOverSame old) run (refl, refl)
+  same_run old (row ∷ rows) new run = same_then old run.0 new run.1.over (same_run run.0 rows new run.2)
+
+  pub same_lists : (lists : List (List ByteRow)) (r : Result (Unit {0}) (ObjectStop (RowRefusal E))) (old new : RowDecoder T)
+      → MergesLists (GivesObject takes) (GivesNone refuses) lists r old new → AreOverSame old new
+  same_lists lists (Ok done) old new taken = same_run old taken.all new taken.run
+  same_lists lists (Err stops.OutOfMemory) old new front = same_run old front.1.front new front.1.run
+  same_lists lists (Err (stops.TwoContents id)) old new front = same_run old front.1.front new front.1.run
+  same_lists lists (Err (stops.Scratch fault)) old new front = same_run old front.1.front new front.1.run
+  same_lists lists (Err (stops.Part part fault)) old new front = same_run old front.1.front new front.1.run
+  same_lists lists (Err (stops.Sink refusal)) old new refused =
+      let it = refused.1 in same_then old it.mid new (same_run old it.front it.mid it.run) it.refused.0
+
+  -- ---- the objects of rows
+
+  module _ (ids : IdSize) where
+    object_taken : (old new : RowDecoder T) (row : ByteRow) (object : FactValue) → old.ids ≡ ids → SpellsObject ids row.1 object
+        → GivesObject takes old row.0 row.1 new → takes (sink_under old) ids object (sink_under new)
+    object_taken old new row object size spells gives =
+        let one : gives.object ≡ object =
+        one_spelled ids row.1 gives.object object (subst (λ (i : IdSize). SpellsObject i row.1 gives.object) size gives.spells) spells in
+        subst (λ (o : FactValue). takes (sink_under old) ids o (sink_under new)) one
+        (subst (λ (i : IdSize). takes (sink_under old) i gives.object (sink_under new)) size gives.took)
+
+    -- the objects of the rows that were given
+    all_taken : (old new : RowDecoder T) (rows : List ByteRow) (objects : List FactValue) → old.ids ≡ ids → AreObjects ids rows objects
+        → Runs (GivesObject takes) old rows new → TakesObjects takes ids (sink_under old) objects (sink_under new)
+    all_taken old new [] [] size are run = ap (λ (it : RowDecoder T). sink_under it) run
+    all_taken old new [] (object ∷ objects) size are run = absurd are
+    all_taken old new (row ∷ rows) [] size are run = absurd are
+    all_taken old new (row ∷ rows) (object ∷ objects) size are run = (
+      sink_under run.0,
+      object_taken old run.0 row object size (row_spells ids object row are.0 are.1) run.1,
+      all_taken run.0 new rows objects (run.1.over.0 ∙ size) are.2 run.2,
+    )
+
+    module _ (lists : List (List ByteRow)) (rows : List ByteRow) (objects : List FactValue) (union : IsUnion lists rows)
+        (are : AreObjects ids rows objects) (old new : RowDecoder T) (size : old.ids ≡ ids) where
+      -- all of them
+      pub merged : TakesAll (GivesObject takes) lists old new → TakesObjects takes ids (sink_under old) objects (sink_under new)
+      merged taken =
+          all_taken old new rows objects size are
+          (subst (λ (l : List ByteRow). Runs (GivesObject takes) old l new) (union_unique lists taken.all rows taken.union union) taken.run)
+
+      -- the first of them
+      below : (bound : ℕ) → TakesBelow (GivesObject takes) lists bound old new
+          → TakesFront takes ids objects (sink_under old) (sink_under new)
+      below bound taken =
+          let cut = union_front lists bound taken.front rows taken.union union in
+          let it = split_objects ids taken.front cut.0 objects (subst (λ (l : List ByteRow). AreObjects ids l objects) cut.1 are) in
+          record {
+            front = it.mine;
+            behind = it.behind;
+            are = it.all;
+            took = all_taken old new taken.front it.mine size it.are taken.run;
+          }
+
+      -- the object of the row that was refused
+      refused_at : (row : ByteRow) (refusal : RowRefusal E)
+          → (refused : RefusesRow (GivesObject takes) (GivesNone refuses) lists row refusal old new)
+          → IsObjectAt ids refused.front row objects
+      refused_at row refusal refused =
+          let cut = union_front lists (row.0 + 1) (refused.front ++ row ∷ []) rows refused.union union in
+          object_at ids refused.front row cut.0 objects
+          (subst (λ (l : List ByteRow). AreObjects ids l objects) (cut.1 ∙ append_assoc refused.front (row ∷ []) cut.0) are)
+
+      size_then : (row : ByteRow) (refusal : RowRefusal E)
+          → (refused : RefusesRow (GivesObject takes) (GivesNone refuses) lists row refusal old new) → refused.mid.ids ≡ ids
+      size_then row refusal refused = (same_run old refused.front refused.mid refused.run).0 ∙ size
+
+      -- each row spells an object
+      pub none_refused : (row : ByteRow) → RefusesRow (GivesObject takes) (GivesNone refuses) lists row rows.NoObject old new → ⊥
+      none_refused row refused =
+          let at = refused_at row rows.NoObject refused in
+          refused.refused.1.1 at.object
+          (subst (λ (i : IdSize). SpellsObject i row.1 at.object) (sym (size_then row rows.NoObject refused)) at.spells)
+
+      object_refused : (row : ByteRow) (fault : E) → RefusesRow (GivesObject takes) (GivesNone refuses) lists row (rows.Sink fault) old new
+          → RefusesObject takes refuses ids objects fault (sink_under old) (sink_under new)
+      object_refused row fault refused =
+          let at = refused_at row (rows.Sink fault) refused in
+          let sized = size_then row (rows.Sink fault) refused in
+          let mid = refused.mid in
+          let it = refused.refused.1 in
+          let one : it.0 ≡ at.object =
+          one_spelled ids row.1 it.0 at.object (subst (λ (i : IdSize). SpellsObject i row.1 it.0) sized it.1) at.spells in
+          record {
+            front = at.before;
+            object = at.object;
+            behind = at.behind;
+            are = at.all;
+            mid = sink_under mid;
+            took = all_taken old mid refused.front at.before size at.are refused.run;
+            refused = subst (λ (o : FactValue). refuses (sink_under mid) ids o fault (sink_under new)) one
+                (subst (λ (i : IdSize). refuses (sink_under mid) i it.0 fault (sink_under new)) sized it.2);
+          }
+
+      -- a merge that stopped
+      pub stopped : (stop : ObjectStop (RowRefusal E)) → StopsWithin (GivesObject takes) (GivesNone refuses) lists stop old new
+          → Passes takes refuses ids {A = Unit {0}} objects (Err (pass_stop stop)) (sink_under old) (sink_under new)
+      stopped stops.OutOfMemory front = below front.0 front.1
+      stopped (stops.TwoContents id) front = below id front.1
+      stopped (stops.Scratch fault) front = below front.0 front.1
+      stopped (stops.Part part fault) front = below front.0 front.1
+      stopped (stops.Sink rows.NoObject) refused = absurd (none_refused refused.0 refused.1)
+      stopped (stops.Sink (rows.Sink fault)) refused = object_refused refused.0 fault refused.1
+
+-- ---- what a pass tells of the parts
+
+module _ {S P T E : Type 0} (written : S → Option (List ℕ)) (health : S → Health) (bytes : P → List (Option (List ℕ)))
+    (unreadable : S → Type 0) (takes : T → IdSize → FactValue → T → Type 0) (refuses : T → IdSize → FactValue → E → T → Type 0)
+    (it : InParts S P) (old new : RowDecoder T) where
+  pub agreed : (r : Result (Unit {0}) (ObjectStop (RowRefusal E))) → ((reads : List PartRead) → AreAsRead written health bytes it reads
+      → MergesLists (GivesObject takes) (GivesNone refuses) (objects_of reads) r old new) → OnOk r (HaveUnion written health bytes it)
+  agreed (Ok done) merged = λ reads as_read. let taken = merged reads as_read in (taken.all, taken.union)
+  agreed (Err stop) merged = tt
+
+  pub told_by : (ids : IdSize) (facts : List FactValue) (size : old.ids ≡ ids) (stop : ObjectStop (RowRefusal E))
+      → ((reads : List PartRead) → AreAsRead written health bytes it reads
+      → StopsWithin (GivesObject takes) (GivesNone refuses) (objects_of reads) stop old new)
+      → TellsChange written health (limits_under it) (bytes (parts_under it)) (objects_under it) stop
+      → IfScratchFails stop (unreadable (scratch_under (objects_under it)))
+      → IfLost (TellsPass written health bytes unreadable it ids facts) (pass_stop stop)
+  told_by ids facts size stops.OutOfMemory within changed fails = tt
+  told_by ids facts size (stops.TwoContents id) within changed fails = λ reads as_read. (within reads as_read).0
+  told_by ids facts size (stops.Scratch fault) within changed fails = (fails, changed)
+  told_by ids facts size (stops.Part part fault) within changed fails = changed
+  told_by ids facts size (stops.Sink rows.NoObject) within changed fails = λ reads all objects as_read union are.
+      let refused = within reads as_read in
+      none_refused takes refuses ids (objects_of reads) all objects union are old new size refused.0 refused.1
+  told_by ids facts size (stops.Sink (rows.Sink fault)) within changed fails = tt

@@ -1,0 +1,94 @@
+//! The objects of parts, which stay in the parts, in memory and in scratch.
+
+ghost use Rattle.std.specs.Prelude.{◌≡◌};
+ghost use Rattle.hprof_stored.specs.InParts.{pass_stop};
+
+use crate::object_counter::ObjectCounter;
+use crate::pass_fault::PassFault;
+use crate::row_decoder::{RowDecoder, RowRefusal};
+use hprof_heap::{Heap, id_size};
+use hprof_objects::{ObjectStop, StoredObjects};
+use hprof_parts::Parts;
+use hprof_passes::{ObjectSink, Objects, PassStop};
+use hprof_runs::Scratch;
+use hprof_stream::Limits;
+use std::alloc::Global;
+
+/// The objects of parts, which are read again for each pass.
+#[derive(Drop)]
+pub struct InParts<'a, S, P> {
+    objects: &'a StoredObjects<S>,
+    parts: &'a P,
+    limits: Limits,
+}
+
+impl<'a, S, P> InParts<'a, S, P> {
+    ghost use Rattle.hprof_stored.specs.InParts.{limits_under, objects_under, parts_under};
+
+    /// Returns the stored objects of parts. The parts are those that were read, and the limits those of the first reading; the reads of a
+    /// part are counted anew in each pass.
+    pub fn new(objects: &'a StoredObjects<S>, parts: &'a P, limits: Limits) -> Self
+        ensures objects { objects_under result ≡ objects.now }
+        ensures parts { parts_under result ≡ parts.now }
+        ensures limits { limits_under result ≡ limits }
+    {
+        InParts {
+            objects,
+            parts,
+            limits,
+        }
+    }
+}
+
+/// Returns why a pass stops, where a merge into a sink of rows stopped.
+fn pass_stop<E>(stop: ObjectStop<RowRefusal<E>>) -> PassStop<E, PassFault>
+    ensures { result ≡ pass_stop stop }
+{
+    match stop {
+        ObjectStop::OutOfMemory => PassStop::Lost(PassFault::OutOfMemory),
+        ObjectStop::TwoContents(id) => PassStop::Lost(PassFault::TwoContents(id)),
+        ObjectStop::Scratch(fault) => PassStop::Lost(PassFault::Scratch(fault)),
+        ObjectStop::Part { part, fault } => PassStop::Lost(PassFault::Part { part, fault }),
+        ObjectStop::Sink(RowRefusal::NoObject) => PassStop::Lost(PassFault::NoObject),
+        ObjectStop::Sink(RowRefusal::Sink(fault)) => PassStop::Sink(fault),
+    }
+}
+
+impl<S: Scratch + Drop, P: Parts> Objects for InParts<'_, S, P> {
+    ghost use Rattle.hprof_stored.specs.InParts.{HaveUnion, MakeUp, TellsPass};
+
+    ghost make_up = { MakeUp S.written S.health P.bytes };
+
+    ghost agree = { λ it ids facts. HaveUnion S.written S.health P.bytes it };
+
+    ghost tells = { TellsPass S.written S.health P.bytes S.unreadable };
+
+    type Fault = PassFault;
+
+    fn pass<T: ObjectSink>(
+        &self,
+        alloc: Global,
+        heap: &Heap,
+        sink: &mut T,
+    ) -> Result<(), PassStop<T::Fault, PassFault>> {
+        let mut rows = RowDecoder::new(id_size(heap), sink);
+        match self
+            .objects
+            .merge(alloc, self.parts, self.limits, &mut rows)
+        {
+            Ok(()) => Ok(()),
+            Err(stop) => Err(pass_stop(stop)),
+        }
+    }
+
+    fn count(&self, alloc: Global, heap: &Heap) -> Result<u64, PassFault> {
+        let mut counter = ObjectCounter { count: 0 };
+        match self.pass(alloc, heap, &mut counter) {
+            Ok(()) => Ok(counter.count),
+            Err(PassStop::Sink(fault)) => Err(fault),
+            Err(PassStop::Lost(fault)) => Err(fault),
+        }
+    }
+
+    ghost whole = { λ it ids facts all make. make.whole };
+}

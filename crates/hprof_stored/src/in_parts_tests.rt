@@ -1,0 +1,135 @@
+//! Plain parts, and passes over their objects.
+
+ghost use Rattle.std.specs.Prelude.{⊤};
+
+use crate::in_parts::InParts;
+use crate::pass_fault::PassFault;
+use crate::reading::read_stored;
+use crate::stored_heap::StoredHeap;
+use crate::tests::{ORDERED, OTHER_OBJECT, UNORDERED, keeping, readers_of};
+use hprof_engine::NoSummaries;
+use hprof_items::Fact;
+use hprof_objects::{StretchFault, object_id};
+use hprof_parts::Slices;
+use hprof_passes::{ObjectSink, Objects, PassStop};
+use hprof_runs::MemoryScratch;
+use hprof_stream::Limits;
+use hprof_values::IdSize;
+use std::alloc::{AllocError, Global};
+use std::test::*;
+
+/// A sink that keeps the identifiers of objects.
+#[derive(Drop)]
+struct Identifiers {
+    ids: Vec<u64>,
+}
+
+impl ObjectSink for Identifiers {
+    ghost takes = { λ old ids object new. ⊤ };
+
+    ghost refuses = { λ old ids object fault new. ⊤ };
+
+    type Fault = AllocError;
+
+    fn take(&mut self, _ids: IdSize, object: &Fact<'_>) -> Result<(), AllocError> {
+        match object_id(object) {
+            Some(id) => self.ids.push(id),
+            None => Ok(()),
+        }
+    }
+}
+
+/// What two passes answer: one that keeps identifiers, and one that counts.
+#[derive(Drop)]
+struct Passed {
+    outcome: Result<(), PassStop<AllocError, PassFault>>,
+    ids: Vec<u64>,
+    count: Result<u64, PassFault>,
+}
+
+/// Reads the parts, and goes over their objects where these are the parts that can be opened again.
+fn passed(alloc: Global, parts: &[&[u8]], again: &[&[u8]]) -> Result<Passed, Fail> {
+    let mut readers = readers_of(alloc, parts)?;
+    let limits = Limits::usual();
+    let mut kept = ();
+    let stored = match read_stored(
+        alloc,
+        &mut readers,
+        limits,
+        keeping(),
+        MemoryScratch::new(alloc),
+        &NoSummaries,
+        &mut kept,
+    ) {
+        Ok(stored) => stored,
+        Err(_) => return Err("not read".into()),
+    };
+    let StoredHeap { heap, objects } = stored;
+    let objects = objects.finish();
+    let slices = Slices::new(again);
+    let in_parts = InParts::new(&objects, &slices, limits);
+    let mut sink = Identifiers {
+        ids: Vec::new(alloc),
+    };
+    let outcome = in_parts.pass(alloc, &heap, &mut sink);
+    let count = in_parts.count(alloc, &heap);
+    Ok(Passed {
+        outcome,
+        ids: sink.ids,
+        count,
+    })
+}
+
+#[test]
+fn each_object_once(rt: HostRuntime) -> Result<(), Fail> {
+    // A stretch stays in the part, 8 and 9 go to scratch, and 7 stays in memory.
+    let parts: &[&[u8]] = &[UNORDERED];
+    let it = passed(rt.alloc(), parts, parts)?;
+    assert!(rt; it.outcome == Ok(()));
+    assert_eq!(rt; it.ids.as_slice(), [7, 8, 9, 16, 32].as_slice());
+    assert!(rt; it.count == Ok(5));
+
+    let parts: &[&[u8]] = &[ORDERED, UNORDERED, ORDERED];
+    let it = passed(rt.alloc(), parts, parts)?;
+    assert!(rt; it.outcome == Ok(()));
+    assert_eq!(rt; it.ids.as_slice(), [7, 8, 9, 16, 32].as_slice());
+    assert!(rt; it.count == Ok(5));
+    Ok(())
+}
+
+#[test]
+fn a_part_that_changed(rt: HostRuntime) -> Result<(), Fail> {
+    let (cut, _) = UNORDERED.split_at(60);
+    let changed = PassFault::Part {
+        part: 1,
+        fault: StretchFault::Changed,
+    };
+    let it = passed(rt.alloc(), &[ORDERED, UNORDERED], &[ORDERED, cut])?;
+    assert!(rt; it.outcome == Err(PassStop::Lost(changed)));
+    assert!(rt; it.count == Err(changed));
+    let it = passed(rt.alloc(), &[ORDERED, UNORDERED], &[ORDERED])?;
+    assert!(rt; it.outcome == Err(PassStop::Lost(changed)));
+    assert!(rt; it.ids.is_empty());
+    Ok(())
+}
+
+#[test]
+fn two_contents(rt: HostRuntime) -> Result<(), Fail> {
+    let parts: &[&[u8]] = &[ORDERED, OTHER_OBJECT, UNORDERED];
+    let it = passed(rt.alloc(), parts, parts)?;
+    assert!(rt; it.outcome == Err(PassStop::Lost(PassFault::TwoContents(8))));
+    assert_eq!(rt; it.ids.as_slice(), [7].as_slice());
+    assert!(rt; it.count == Err(PassFault::TwoContents(8)));
+    Ok(())
+}
+
+#[test]
+fn one_stretch_is_counted_unread(rt: HostRuntime) -> Result<(), Fail> {
+    let it = passed(rt.alloc(), &[ORDERED], &[ORDERED])?;
+    assert!(rt; it.outcome == Ok(()));
+    assert_eq!(rt; it.ids.as_slice(), [16, 32].as_slice());
+    assert!(rt; it.count == Ok(2));
+    let it = passed(rt.alloc(), &[ORDERED], &[])?;
+    assert!(rt; it.count == Ok(2));
+    Ok(())
+}
