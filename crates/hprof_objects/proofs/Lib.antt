@@ -3,6 +3,7 @@ mod Rows
 mod Stretches
 mod Whole
 mod WholeHeap
+mod InOrder
 mod Spilled
 mod Logged
 mod Parts

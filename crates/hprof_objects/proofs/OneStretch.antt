@@ -1,12 +1,13 @@
 -- Objects that are stored as one stretch.
-use Rattle.std.proofs.Common.{◌≡◌, ◌≤◌, ◌++◌, ℕ, zero, suc, List, [], ◌∷◌, length, Option, inl, inr, refl, sym}
-use Rattle.std.proofs.Common.{ap, subst, ◌∙◌, arith}
+use Rattle.std.proofs.Common.{◌≡◌, ◌≤◌, ◌++◌, ℕ, zero, suc, List, [], ◌∷◌, length, Option, Some, None, refl, sym, ap, subst}
+use Rattle.std.proofs.Common.{◌∙◌, arith}
+use Rattle.std.specs.Prelude.{slice_get}
 use Rattle.hprof_devices.specs.declared.health.Health.{Health}
 use Rattle.hprof_stream.specs.declared.limits.Limits.{Limits}
 use Rattle.hprof_merge.specs.Rows.{ByteRow, Has}
-use Rattle.hprof_merge.specs.TwoContents.{HasEnoughOf, HasTwoContents}
-use Rattle.hprof_merge.specs.Union.{rows_at}
-use Rattle.hprof_merge.proofs.Lists.{one_at_key}
+use Rattle.hprof_merge.specs.TwoContents.{HasTwoContents}
+use Rattle.hprof_merge.specs.Union.{IsUnion, rows_at}
+use Rattle.hprof_merge.proofs.Unions.{enough_union, union_apart, union_unique}
 use Rattle.hprof_runs.specs.RowsIn.{sorted_in}
 use Rattle.hprof_runs.proofs.Added.{runs_count}
 use Rattle.hprof_objects.specs.declared.stored_objects.StoredObjects.{StoredObjects}
@@ -15,50 +16,76 @@ use Rattle.hprof_objects.specs.PartsRead.{PartRead}
 use Rattle.hprof_objects.specs.StoredObjects.{HoldsObjects, IsOneStretch, objects_of}
 use Rattle.hprof_objects.specs.Stretches.{AreStretches}
 
--- two contents are two among those that are enough
-two_kept : (lists others : List (List ByteRow)) → HasEnoughOf lists others → (key : ℕ) → HasTwoContents lists key → HasTwoContents others key
-two_kept lists others enough key two = elim (enough.each (key, two.one) two.has_one) [
-  | inr kept ↦ kept
-  | inl one ↦ elim (enough.each (key, two.other) two.has_other) [
-    | inr kept ↦ kept
-    | inl other ↦ record { one = two.one; other = two.other; has_one = one; has_other = other; differ = two.differ }
-  ]
-]
+-- the number of objects of the first stretch, if there is one
+abbrev pub first_count : List Stretch → ℕ
+first_count [] = 0
+first_count (stretch ∷ stretches) = stretch.count
+
+pub first_counted : (list slice : List Stretch) (stretch : Stretch) → slice ≡ list → Some stretch ≡ slice_get slice 0
+    → stretch.count ≡ first_count list
+first_counted list [] stretch same is = absurd cc
+first_counted list (first ∷ others) stretch same is =
+    let one : stretch ≡ first = cc in ap (λ (s : Stretch). s.count) one ∙ ap first_count same
+
+pub none_counted : (list slice : List Stretch) → slice ≡ list → None ≡ slice_get slice 0 → 0 ≡ first_count list
+none_counted list [] same is = ap first_count same
+none_counted list (first ∷ others) same is = absurd cc
+
+-- ---- the rows of one stretch
+
+in_it : (rows : List ByteRow) (row : ByteRow) (place : ℕ) → Has (rows_at ([] ∷ rows ∷ []) place) row → Has rows row
+in_it rows row zero has = absurd has
+in_it rows row (suc zero) has = has
+in_it rows row (suc (suc place)) has = absurd has
+
+in_none : (row : ByteRow) (place : ℕ) → Has (rows_at ([] ∷ []) place) row → Has [] row
+in_none row zero has = has
+in_none row (suc place) has = has
 
 no_list : (lists : List (List ByteRow)) → length lists ≡ 0 → lists ≡ []
 no_list [] none = refl
 no_list (rows ∷ lists) none = absurd (omega (arith, none))
 
--- one list that ascends has no key with two contents
-one_apart : (limits : Limits) (reads : List PartRead) (list : List Stretch) (lists : List (List ByteRow)) → AreStretches limits reads list lists
-    → length list ≤ 1 → (key : ℕ) → HasTwoContents ([] ∷ lists) key → ⊥
-one_apart limits reads [] [] are few key two = none (key, two.one) two.has_one.0 two.has_one.1
-  where
-    none : (row : ByteRow) (place : ℕ) → Has (rows_at ([] ∷ []) place) row → ⊥
-    none row zero has = has
-    none row (suc place) has = has
-one_apart limits reads [] (rows ∷ lists) are few key two = absurd are
-one_apart limits reads (one ∷ list) [] are few key two = absurd are
-one_apart limits reads (one ∷ []) (rows ∷ []) are few key two =
-    two.differ (one_at_key rows are.0.stands.ascend key two.one two.other (in_it (key, two.one) two.has_one.0 two.has_one.1)
-    (in_it (key, two.other) two.has_other.0 two.has_other.1))
-  where
-    in_it : (row : ByteRow) (place : ℕ) → Has (rows_at ([] ∷ rows ∷ []) place) row → Has rows row
-    in_it row zero has = absurd has
-    in_it row (suc zero) has = has
-    in_it row (suc (suc place)) has = absurd has
-one_apart limits reads (one ∷ []) (rows ∷ other ∷ lists) are few key two = absurd are.1
-one_apart limits reads (one ∷ other ∷ list) lists are few key two = absurd (omega (arith, few))
+one_union : (limits : Limits) (reads : List PartRead) (list : List Stretch) (lists : List (List ByteRow))
+    → AreStretches limits reads list lists → length list ≤ 1
+    → (rows : List ByteRow) × IsUnion ([] ∷ lists) rows × (first_count list ≡ length rows)
+one_union limits reads [] [] are few =
+    ([], record { ascends = tt; same = λ row. ((λ has. absurd has), (λ any. in_none row any.0 any.1)) }, refl)
+one_union limits reads [] (rows ∷ lists) are few = absurd are
+one_union limits reads (one ∷ list) [] are few = absurd are
+one_union limits reads (one ∷ []) (rows ∷ []) are few = (
+  rows,
+  record { ascends = are.0.stands.ascend; same = λ row. ((λ has. (1, has)), (λ any. in_it rows row any.0 any.1)) },
+  are.0.stands.count,
+)
+one_union limits reads (one ∷ []) (rows ∷ other ∷ lists) are few = absurd are.1
+one_union limits reads (one ∷ other ∷ list) lists are few = absurd (omega (arith, few))
 
-module _ {S : Type 0} (written : S → Option (List ℕ)) (health : S → Health) (limits : Limits) where
-  pub one_stretch_apart : (reads : List PartRead) (objects : StoredObjects S) → IsOneStretch objects
-      → HoldsObjects written health limits reads objects → (key : ℕ) → HasTwoContents (objects_of reads) key → ⊥
-  one_stretch_apart reads objects is holds key two =
+-- ---- the objects of the parts
+
+module _ {S : Type 0} (written : S → Option (List ℕ)) (health : S → Health) (limits : Limits) (reads : List PartRead)
+    (objects : StoredObjects S) (is : IsOneStretch objects) (holds : HoldsObjects written health limits reads objects) where
+  counted_union : (rows : List ByteRow) × IsUnion (objects_of reads) rows × (first_count objects.stretches.items ≡ length rows)
+  counted_union =
       let runs : holds.runs ≡ [] =
       no_list holds.runs (sym (runs_count holds.are_runs.all objects.runs.runs.items holds.runs holds.are_runs.each) ∙ is.no_runs) in
-      let kept = two_kept (objects_of reads) (sorted_in objects.rows ∷ (holds.runs ++ holds.lists)) holds.enough key two in
-      let few : HasTwoContents ([] ∷ holds.lists) key =
-      subst (λ (l : List (List ByteRow)). HasTwoContents l key)
-      (ap (λ (rows : List ByteRow). rows ∷ (holds.runs ++ holds.lists)) is.no_rows
-      ∙ ap (λ (l : List (List ByteRow)). [] ∷ (l ++ holds.lists)) runs) kept in
-      one_apart limits reads objects.stretches.items holds.lists holds.are_stretches is.one key few
+      let lists : sorted_in objects.rows ∷ (holds.runs ++ holds.lists) ≡ [] ∷ holds.lists =
+      ap (λ (l : List ByteRow). l ∷ (holds.runs ++ holds.lists)) is.no_rows
+      ∙ ap (λ (l : List (List ByteRow)). [] ∷ (l ++ holds.lists)) runs in
+      let it = one_union limits reads objects.stretches.items holds.lists holds.are_stretches is.one in (
+        it.0,
+        (enough_union (objects_of reads) (sorted_in objects.rows ∷ (holds.runs ++ holds.lists)) holds.enough it.0).1
+            (subst (λ (l : List (List ByteRow)). IsUnion l it.0) (sym lists) it.1),
+        it.2,
+      )
+
+  pub stretch_union : (rows : List ByteRow) × IsUnion (objects_of reads) rows
+  stretch_union = (counted_union.0, counted_union.1)
+
+  pub stretch_count : (rows : List ByteRow) → IsUnion (objects_of reads) rows → first_count objects.stretches.items ≡ length rows
+  stretch_count rows union =
+      let it = counted_union in it.2 ∙ ap length (union_unique (objects_of reads) it.0 rows it.1 union)
+
+  -- no identifier has two contents
+  pub one_stretch_apart : (key : ℕ) → HasTwoContents (objects_of reads) key → ⊥
+  one_stretch_apart key two = union_apart (objects_of reads) counted_union.0 key counted_union.1 two

@@ -89,7 +89,7 @@ row_of_object ids (row ∷ rows) (first ∷ facts) fact are (inr h) =
 -- ---- the order
 
 -- an object stands before one of a higher identifier
-object_before : (ids : IdSize) (one other : FactValue) (row more : ByteRow) → object_row ids one ≡ Some row
+pub object_before : (ids : IdSize) (one other : FactValue) (row more : ByteRow) → object_row ids one ≡ Some row
     → object_row ids other ≡ Some more → row.0 < more.0 → IsBefore one other
 object_before ids one other row more is is_too less =
     let a = (row_of ids one row is).order in

@@ -1,11 +1,13 @@
 //! Merging stored objects into a sink.
 
-ghost use Rattle.std.specs.Prelude.{◌≡◌, ◌↔◌, List, IfErr, IsTrue};
+ghost use Rattle.std.specs.Prelude.{◌≡◌, ◌↔◌, List, length, IfErr, IfSome, IsSome, IsTrue};
 ghost use Rattle.hprof_merge.specs.Rows.{ByteRow};
+ghost use Rattle.hprof_merge.specs.Union.{IsUnion};
+ghost use Rattle.hprof_stream.specs.declared.limits.Limits.{Limits};
 ghost use Rattle.hprof_objects.specs.MergedObjects.{IfScratchFails, MergesLists, TellsChange, UnlessRefused};
 ghost use Rattle.hprof_objects.specs.ObjectCursors.{object_stop, part_under};
 ghost use Rattle.hprof_objects.specs.PartsRead.{PartRead};
-ghost use Rattle.hprof_objects.specs.StoredObjects.{AreToldAgain, IsOneStretch, objects_of, scratch_under};
+ghost use Rattle.hprof_objects.specs.StoredObjects.{AreToldAgain, HoldsObjects, IsOneStretch, objects_of, scratch_under};
 
 use crate::object_stop::ObjectStop;
 use crate::opening::{part_stop, scratch_stop};
@@ -54,6 +56,21 @@ impl<S: Scratch + Drop> StoredObjects<S> {
         ensures { IsTrue result ↔ IsOneStretch self.now }
     {
         self.rows.is_empty() && self.runs.count() == 0 && self.stretches.len() <= 1
+    }
+
+    /// Returns the number of objects if `is_one_stretch`, and else `None`. Nothing is read.
+    pub fn count_in_one_stretch(&self) -> Option<u64>
+        ensures one { IsSome result ↔ IsOneStretch self.now }
+        ensures count { IfSome result (λ count. (limits : Limits) (reads : List PartRead) (rows : List ByteRow)
+            → HoldsObjects S.written S.health limits reads self.now → IsUnion (objects_of reads) rows → count ≡ length rows) }
+    {
+        if !self.is_one_stretch() {
+            return None;
+        }
+        match self.stretches.first() {
+            Some(stretch) => Some(stretch.count),
+            None => Some(0),
+        }
     }
 
     /// Merges the objects into a sink, which is given each of them once, in ascending order of identifier, with the bytes of its sub-record.
