@@ -11,4 +11,5 @@ mod Joined
 mod ObjectSpelling
 mod ObjectTable
 mod Passed
+mod Counted
 mod MadeUp

@@ -62,6 +62,31 @@ row_spells ids (End thread) row fits e = absurd cc
 row_spells ids (Rooted root) row fits e = absurd cc
 row_spells ids (Class id trace parent loader signers domain reserved1 reserved2 size constants statics fields) row fits e = absurd cc
 
+-- ---- bytes that spell an object
+
+module _ (ids : IdSize) (bytes : List ℕ) (object : FactValue) (spells : SpellsObject ids bytes object) where
+  sub : HasSub ids object
+  sub = sub_of ids object spells.is spells.fits
+
+  pub some_bytes : length bytes ≡ 0 → ⊥
+  some_bytes none = by bytes none spells.spelled
+    where
+      by : (l : List ℕ) → length l ≡ 0 → l ≡ dump_bytes ids object → ⊥
+      by [] e is = sub.some (sym is)
+      by (b ∷ l) e is = absurd (omega (arith, e))
+
+  pub as_long : length (dump_bytes ids object) ≡ length bytes
+  as_long = ap length (sym spells.spelled)
+
+  pub few_bytes : length bytes ≤ longest_body
+  few_bytes = omega (arith, as_long, sub.short)
+
+  pub all_bytes : bytes ≡ dump_bytes ids object ++ []
+  all_bytes = spells.spelled ∙ sym (append-nil (dump_bytes ids object))
+
+  pub sub_fits : DumpFits ids object
+  sub_fits = sub.fits
+
 -- ---- what was read of some bytes
 
 -- all of the bytes

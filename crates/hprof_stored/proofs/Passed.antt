@@ -15,12 +15,14 @@ use Rattle.hprof_objects.specs.MergedObjects.{IfScratchFails, MergesLists, Stops
 use Rattle.hprof_objects.specs.PartsRead.{PartRead}
 use Rattle.hprof_objects.specs.StoredObjects.{objects_of, scratch_under}
 use Rattle.hprof_objects.specs.Whole.{AreObjects}
-use Rattle.hprof_passes.specs.Passing.{IfLost, Passes, RefusesObject, TakesFront, TakesObjects}
+use Rattle.hprof_passes.specs.declared.pass_stop.PassStop.{PassStop}
+use Rattle.hprof_passes.specs.Passing.{IfLost, Passes, RefusesObject, TakesFront, TakesObjects, objects_among}
 use Rattle.hprof_stored.specs.declared.in_parts.InParts.{InParts}
+use Rattle.hprof_stored.specs.declared.pass_fault.PassFault.{PassFault}
 use Rattle.hprof_stored.specs.declared.row_decoder.RowDecoder.{RowDecoder}
 use Rattle.hprof_stored.specs.declared.row_decoder.RowRefusal.{RowRefusal}
 use Rattle.hprof_stored.specs.declared.row_decoder.RowRefusal.TheVariants as rows
-use Rattle.hprof_stored.specs.InParts.{AreAsRead, HaveUnion, TellsPass, limits_under, objects_under, parts_under, pass_stop}
+use Rattle.hprof_stored.specs.InParts.{AreAsRead, HaveUnion, MakeUp, TellsPass, limits_under, objects_under, parts_under, pass_stop}
 use Rattle.hprof_stored.specs.RowDecoder.{AreOverSame, GivesNone, GivesObject, SpellsObject, sink_under}
 use Rattle.hprof_stored.proofs.ObjectSpelling.{IsObjectAt, object_at, one_spelled, row_spells, split_objects}
 
@@ -162,3 +164,22 @@ module _ {S P T E : Type 0} (written : S → Option (List ℕ)) (health : S → 
       let refused = within reads as_read in
       none_refused takes refuses ids (objects_of reads) all objects union are old new size refused.0 refused.1
   told_by ids facts size (stops.Sink (rows.Sink fault)) within changed fails = tt
+
+  -- facts that the objects make up
+  module _ (ids : IdSize) (facts all : List FactValue) (make : MakeUp written health bytes it ids facts all) (size : old.ids ≡ ids)
+      (was now : T) (begins : sink_under old ≡ was) (ends : now ≡ sink_under new) where
+    pub all_given : TakesAll (GivesObject takes) (objects_of make.reads) old new → TakesObjects takes ids was (objects_among all) now
+    all_given taken =
+        subst (λ (l : List FactValue). TakesObjects takes ids was l now) (sym make.among)
+        (subst (λ (t : T). TakesObjects takes ids was make.objects t) (sym ends)
+        (subst (λ (t : T). TakesObjects takes ids t make.objects (sink_under new)) begins
+        (merged takes refuses ids (objects_of make.reads) make.rows make.objects make.union make.are old new size taken)))
+
+    pub some_given : (stop : ObjectStop (RowRefusal E)) → StopsWithin (GivesObject takes) (GivesNone refuses) (objects_of make.reads) stop old new
+        → Passes takes refuses ids {A = Unit {0}} (objects_among all) (Err (pass_stop stop)) was now
+    some_given stop within =
+        let r : Result (Unit {0}) (PassStop E PassFault) = Err (pass_stop stop) in
+        subst (λ (l : List FactValue). Passes takes refuses ids l r was now) (sym make.among)
+        (subst (λ (t : T). Passes takes refuses ids make.objects r was t) (sym ends)
+        (subst (λ (t : T). Passes takes refuses ids make.objects r t (sink_under new)) begins
+        (stopped takes refuses ids (objects_of make.reads) make.rows make.objects make.union make.are old new size stop within)))

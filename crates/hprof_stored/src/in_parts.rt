@@ -3,7 +3,7 @@
 ghost use Rattle.std.specs.Prelude.{◌≡◌};
 ghost use Rattle.hprof_stored.specs.InParts.{pass_stop};
 
-use crate::object_counter::ObjectCounter;
+use crate::object_counter::{CountFull, ObjectCounter};
 use crate::pass_fault::PassFault;
 use crate::row_decoder::{RowDecoder, RowRefusal};
 use hprof_heap::{Heap, id_size};
@@ -82,10 +82,13 @@ impl<S: Scratch + Drop, P: Parts> Objects for InParts<'_, S, P> {
     }
 
     fn count(&self, alloc: Global, heap: &Heap) -> Result<u64, PassFault> {
+        if let Some(count) = self.objects.count_in_one_stretch() {
+            return Ok(count);
+        }
         let mut counter = ObjectCounter { count: 0 };
         match self.pass(alloc, heap, &mut counter) {
             Ok(()) => Ok(counter.count),
-            Err(PassStop::Sink(fault)) => Err(fault),
+            Err(PassStop::Sink(CountFull)) => Err(PassFault::TooMany),
             Err(PassStop::Lost(fault)) => Err(fault),
         }
     }

@@ -1,7 +1,8 @@
 use Rattle.std.proofs.Common.{rules, List}
 use Rattle.hprof_objects.specs.PartsRead.{PartRead}
 use Rattle.hprof_objects.specs.StoredObjects.{AreToldAgain, IsOneStretch}
-use Rattle.hprof_stored.proofs.Found.{least_found, none_found, stretch_union}
+use Rattle.hprof_objects.proofs.OneStretch.{stretch_union}
+use Rattle.hprof_stored.proofs.Found.{least_found, none_found}
 use Rattle.hprof_stored.proofs.finding.find_conflict.Goals as goal
 
 pub returns-then-is_one_stretch-clause-none : goal.returns-then-is_one_stretch-clause-none
