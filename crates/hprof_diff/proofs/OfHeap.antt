@@ -1,12 +1,9 @@
 -- What is kept of all rows are totals.
-use Rattle.std.proofs.Common.{◌≡◌, ◌^◌, ◌<◌, ℕ, List, [], length, sym, ap, subst, ◌∙◌}
+use Rattle.std.proofs.Common.{◌≡◌, ℕ, List, sym, ap, ◌∙◌}
 use Rattle.std.specs.Prelude.{bytes_eq}
 use Rattle.std.specs.List.Sorted.{IsPermutation}
 use Rattle.hprof_values.specs.declared.ids.IdSize.{IdSize}
 use Rattle.hprof_items.specs.FactValue.{FactValue}
-use Rattle.hprof_rows.specs.declared.table.Table.TheVariants as tables
-use Rattle.hprof_rows.specs.Facts.{AllFit}
-use Rattle.hprof_rows.specs.Tables.{facts_of_table}
 use Rattle.hprof_histogram.specs.declared.row.Row.{Row}
 use Rattle.hprof_histogram.specs.Histogram.{IsHistogram}
 use Rattle.hprof_diff.specs.declared.counted.Counted.{Counted}
@@ -17,21 +14,13 @@ use Rattle.hprof_diff.specs.Counts.{AreTotals}
 use Rattle.hprof_diff.specs.Kept.{AreKept, totals_in}
 use Rattle.hprof_meaning.specs.BareLabels.{AreBareLabels}
 use Rattle.hprof_diff.specs.Labels.{kind_label}
-use Rattle.hprof_diff.specs.Sources.{AreSourceLabels, FitsCounted, counted_of_row, parts_under, rows_under, sum_of, sum_of_parts}
+use Rattle.hprof_diff.specs.Sources.{AreSourceLabels, parts_under, rows_under}
 use Rattle.hprof_meaning.proofs.LabelTexts.{labels_exist}
 use Rattle.hprof_diff.specs.LabelTexts.{source_labels_exist}
-use Rattle.hprof_diff.proofs.RowSums.{all_rows_fit}
 use Rattle.hprof_diff.proofs.Sums.{sum_of_filter, under_moved}
 
 module _ (ids : IdSize) (facts : List FactValue) (rows : List Row) (is : IsHistogram ids facts rows) (parts sorted : List Part)
     (moved : IsPermutation parts sorted) where
-  -- the parts of all rows have room
-  pub parts_fit : AllFit ids facts → length (facts_of_table tables.Objects facts) < 2 ^ 64 → sum_of_parts parts ≡ sum_of counted_of_row rows
-      → FitsCounted (sum_of_parts sorted)
-  parts_fit fit few sums =
-      subst FitsCounted (sym (under_moved (λ (p : Part). []) (λ (p : Part). p.counted) [] parts sorted moved ∙ sums))
-      (all_rows_fit ids facts fit rows is few)
-
   -- what is kept of them are totals
   pub kept_are_totals : ((label : Source → List ℕ) (class_label : ℕ → List ℕ) → AreSourceLabels facts label
       → AreBareLabels facts class_label

@@ -1,7 +1,7 @@
 -- How many objects of a kind facts have, counted from the front.
-use Rattle.std.proofs.Common.{◌≡◌, ℕ, ◌+◌, ◌*◌, ◌^◌, ◌<◌, ◌≤◌, Bool, true, false, cond, List, [], ◌∷◌, length, refl, sym, ap}
+use Rattle.std.proofs.Common.{◌≡◌, ℕ, ◌+◌, ◌*◌, ◌^◌, ◌<◌, ◌≤◌, Bool, true, false, cond, List, [], ◌∷◌, Option, None, length, refl, sym, ap}
 use Rattle.std.proofs.Common.{◌∙◌, arith, length-append, subst}
-use Rattle.std.specs.List.{sum_by}
+use Rattle.std.specs.List.{filter, sum_by}
 use Rattle.std.proofs.lemmas.List.Sums.{sum_by-cons}
 use Rattle.hprof_values.specs.declared.ids.IdSize.{IdSize}
 use Rattle.hprof_values.specs.declared.ids.IdSize.TheVariants as sizes
@@ -94,12 +94,6 @@ tally_taken ids all (object ∷ objects) old new takes to =
 
 -- ---- all facts
 
--- a fact of the table that may be of the kind
-kept_too : (kind : Kind) (fact : FactValue) (facts : List FactValue) → of_kind kind (facts_of_table tables.Objects facts)
-    ≡ of_kind kind facts
-    → of_kind kind (fact ∷ facts_of_table tables.Objects facts) ≡ of_kind kind (fact ∷ facts)
-kept_too kind fact facts e = ap (λ (l : List FactValue). cond (is_kind kind (object_kind fact)) (fact ∷ l) l) e
-
 elements_within : (ids : IdSize) (elements : ℕ) → elements < 256 ^ 4 → elements * width_of ids ≤ 2 ^ 36
 elements_within sizes.Four elements few = omega arith
 elements_within sizes.Eight elements few = omega arith
@@ -113,23 +107,49 @@ size_within ids (PrimArray id trace elem bytes) fits =
     omega (arith, fits.1, length-append (field_bytes (prim_array_widths ids) (prim_array_numbers ids id trace elem bytes)) bytes)
 size_within ids _ fits = omega arith
 
--- the objects of a kind stand in the table of objects
+-- the objects that pass a test stand in the table of objects
+module _ (test : Option Kind → Bool) (none : test None ≡ false) where
+  abbrev pub passing : List FactValue → List FactValue
+  passing facts = filter (λ fact. test (object_kind fact)) facts
+
+  -- an object that may pass
+  passing_too : (fact : FactValue) (facts others : List FactValue) → passing facts ≡ passing others
+      → passing (fact ∷ facts) ≡ passing (fact ∷ others)
+  passing_too fact facts others e = ap (λ (l : List FactValue). cond (test (object_kind fact)) (fact ∷ l) l) e
+
+  -- a fact that is no object
+  passing_past : (fact : FactValue) (facts others : List FactValue) → object_kind fact ≡ None → passing facts ≡ passing others
+      → passing facts ≡ passing (fact ∷ others)
+  passing_past fact facts others no_object e =
+      e ∙ sym (ap (λ (b : Bool). cond b (fact ∷ passing others) (passing others)) (ap test no_object ∙ none))
+
+  pub same_passing : (facts : List FactValue) → passing (facts_of_table tables.Objects facts) ≡ passing facts
+  same_passing [] = refl
+  same_passing (Instance id trace class bytes ∷ facts) =
+      passing_too (Instance id trace class bytes) (facts_of_table tables.Objects facts) facts (same_passing facts)
+  same_passing (ObjArray id trace class elements ∷ facts) =
+      passing_too (ObjArray id trace class elements) (facts_of_table tables.Objects facts) facts (same_passing facts)
+  same_passing (PrimArray id trace elem bytes ∷ facts) =
+      passing_too (PrimArray id trace elem bytes) (facts_of_table tables.Objects facts) facts (same_passing facts)
+  same_passing (Name id text ∷ facts) = passing_past (Name id text) (facts_of_table tables.Objects facts) facts refl (same_passing facts)
+  same_passing (Load serial class trace name ∷ facts) =
+      passing_past (Load serial class trace name) (facts_of_table tables.Objects facts) facts refl (same_passing facts)
+  same_passing (Unload serial ∷ facts) = passing_past (Unload serial) (facts_of_table tables.Objects facts) facts refl (same_passing facts)
+  same_passing (Frame id method signature source class_serial line ∷ facts) =
+      passing_past (Frame id method signature source class_serial line) (facts_of_table tables.Objects facts) facts refl (same_passing facts)
+  same_passing (Trace serial thread frames ∷ facts) =
+      passing_past (Trace serial thread frames) (facts_of_table tables.Objects facts) facts refl (same_passing facts)
+  same_passing (Start thread object trace name group parent_group ∷ facts) =
+      passing_past (Start thread object trace name group parent_group) (facts_of_table tables.Objects facts) facts refl (same_passing facts)
+  same_passing (End thread ∷ facts) = passing_past (End thread) (facts_of_table tables.Objects facts) facts refl (same_passing facts)
+  same_passing (Rooted root ∷ facts) = passing_past (Rooted root) (facts_of_table tables.Objects facts) facts refl (same_passing facts)
+  same_passing (Class id trace parent loader signers domain reserved1 reserved2 size constants statics fields ∷ facts) =
+      passing_past (Class id trace parent loader signers domain reserved1 reserved2 size constants statics fields)
+      (facts_of_table tables.Objects facts) facts refl (same_passing facts)
+
+-- so do those of a kind
 pub same_of_kind : (kind : Kind) (facts : List FactValue) → of_kind kind (facts_of_table tables.Objects facts) ≡ of_kind kind facts
-same_of_kind kind [] = refl
-same_of_kind kind (Instance id trace class bytes ∷ facts) = kept_too kind (Instance id trace class bytes) facts (same_of_kind kind facts)
-same_of_kind kind (ObjArray id trace class elements ∷ facts) =
-    kept_too kind (ObjArray id trace class elements) facts (same_of_kind kind facts)
-same_of_kind kind (PrimArray id trace elem bytes ∷ facts) = kept_too kind (PrimArray id trace elem bytes) facts (same_of_kind kind facts)
-same_of_kind kind (Name id text ∷ facts) = same_of_kind kind facts
-same_of_kind kind (Load serial class trace name ∷ facts) = same_of_kind kind facts
-same_of_kind kind (Unload serial ∷ facts) = same_of_kind kind facts
-same_of_kind kind (Frame id method signature source class_serial line ∷ facts) = same_of_kind kind facts
-same_of_kind kind (Trace serial thread frames ∷ facts) = same_of_kind kind facts
-same_of_kind kind (Start thread object trace name group parent_group ∷ facts) = same_of_kind kind facts
-same_of_kind kind (End thread ∷ facts) = same_of_kind kind facts
-same_of_kind kind (Rooted root ∷ facts) = same_of_kind kind facts
-same_of_kind kind (Class id trace parent loader signers domain reserved1 reserved2 size constants statics fields ∷ facts) =
-    same_of_kind kind facts
+same_of_kind kind facts = same_passing (is_kind kind) refl facts
 
 -- what was counted of the table of objects is a tally of all facts
 pub tally_of_all : (ids : IdSize) (facts : List FactValue) (old new : CountedKinds) → ((kind : Kind) → counted_in old kind ≡ nothing)

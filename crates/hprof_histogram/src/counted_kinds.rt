@@ -1,11 +1,7 @@
 //! The counts of the objects so far, by kind.
 
-ghost use Rattle.std.specs.Prelude.{◌≡◌, length, IfSome};
-ghost use Rattle.std.specs.Option.{option_map};
-ghost use Rattle.hprof_items.specs.FactValue.{value_of};
-ghost use Rattle.hprof_histogram.specs.Histogram.{object_kind, size_of_object};
-
 use crate::counted::Counted;
+use crate::measured::measure;
 use crate::row::Kind;
 use hprof_items::Fact;
 use hprof_passes::ObjectSink;
@@ -94,35 +90,6 @@ impl CountedKinds {
     }
 }
 
-/// Returns the number of bytes.
-#[inline(always)]
-fn size_of_bytes(bytes: &[u8]) -> u128
-    ensures { result ≡ length bytes.now }
-{
-    bytes.len() as u128
-}
-
-/// Returns the kind of an object and the number of its bytes, or `None` if the fact is no object dump.
-#[inline(always)]
-fn object_of(fact: &Fact<'_>, ids: IdSize) -> Option<(Kind, u128)>
-    ensures kind { option_map (λ object. object.0) result ≡ object_kind (value_of fact.now) }
-    ensures size { IfSome result (λ object. object.1 ≡ size_of_object ids (value_of fact.now)) }
-{
-    match *fact {
-        Fact::Instance { class, bytes, .. } => Some((Kind::Class(class), size_of_bytes(bytes))),
-        Fact::ObjArray {
-            class,
-            elements,
-            ..
-        } => {
-            let size = elements.len() as u128 * ids.width() as u128;
-            Some((Kind::Class(class), size))
-        }
-        Fact::PrimArray { elem, bytes, .. } => Some((Kind::Prim(elem), size_of_bytes(bytes))),
-        _ => None,
-    }
-}
-
 /// Counts each object. The fault is want of memory, or that there are more objects, or more bytes, than a number can count.
 impl ObjectSink for CountedKinds {
     ghost use Rattle.std.specs.Prelude.{⊤};
@@ -136,8 +103,8 @@ impl ObjectSink for CountedKinds {
 
     #[inline(always)]
     fn take(&mut self, ids: IdSize, object: &Fact<'_>) -> Result<(), AllocError> {
-        match object_of(object, ids) {
-            Some((kind, size)) => self.count(kind, size),
+        match measure(object, ids) {
+            Some(object) => self.count(object.kind, object.size),
             None => Ok(()),
         }
     }

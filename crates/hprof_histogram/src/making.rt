@@ -39,7 +39,7 @@ fn rows_in_order(alloc: Global, tally: &CountedKinds) -> Result<Vec<Row>, AllocE
 ///
 /// - `Sink`: memory ran out, or there are more objects than a number can count.
 /// - `Lost`: the objects cannot be gone through.
-pub fn histogram_of<O: Objects>(
+pub fn histogram_over<O: Objects>(
     alloc: Global,
     heap: &Heap,
     objects: &O,
@@ -57,12 +57,12 @@ pub fn histogram_of<O: Objects>(
     }
 }
 
-/// Returns the class histogram of a heap with its objects in memory, as [`histogram_of`] does. If memory runs out, the answer is `AllocError`.
+/// Returns the class histogram of a heap with its objects in memory, as [`histogram_over`] does. If memory runs out, the answer is `AllocError`.
 pub fn histogram(alloc: Global, heap: &Heap) -> Result<Vec<Row>, AllocError>
     ensures { IfOk result (λ rows. IsHistogram (size_of heap.now) (facts_of heap.now) rows.items) }
 {
     holds_of_heap(heap);
-    match histogram_of(alloc, heap, &InHeap) {
+    match histogram_over(alloc, heap, &InHeap) {
         Ok(rows) => Ok(rows),
         Err(stop) => Err(stop.of_sink()),
     }

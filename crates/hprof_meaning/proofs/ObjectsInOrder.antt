@@ -30,7 +30,8 @@ use Rattle.hprof_histogram.proofs.Joining.{join_one}
 use Rattle.hprof_histogram.proofs.Members.{IsIn, Contains-from_in, in_from_Contains, one_sorted}
 use Rattle.hprof_histogram.proofs.RowOrder.{then_tied, tied_numbers}
 use Rattle.hprof_histogram.proofs.SomeHistogram.{first_tied}
-use Rattle.hprof_meaning.specs.ObjectsOf.{AreObjectsOf, IsObjectOf, is_among, is_kind_of, of_classes}
+use Rattle.hprof_histogram.specs.Chosen.{is_among}
+use Rattle.hprof_meaning.specs.ObjectsOf.{AreObjectsOf, IsObjectOf, is_kind_of, of_classes}
 use Rattle.hprof_meaning.proofs.ClassLists.{is_there, one_there}
 use Rattle.hprof_meaning.proofs.ObjectLists.{kept_first, left_out, of_these}
 

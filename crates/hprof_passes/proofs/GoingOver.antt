@@ -58,12 +58,12 @@ module _ {T : Type 0} (takes : T → IdSize → FactValue → T → Type 0) (ids
     pub refused : (all : List FactValue) (old now new : T) (left rest : List FactValue) (object : FactValue) (fault : E)
         → left ≡ object ∷ rest → refuses now ids object fault new → GoesOver all old now left
         → RefusesObject takes refuses ids all fault old new
-    refused all old now new left rest object fault next refused over = record {
+    refused all old now new left rest object fault next says over = record {
       front = over.front;
       object = object;
       behind = rest;
       are = over.are ∙ ap (λ (l : List FactValue). over.front ++ l) next;
       mid = now;
       took = over.took;
-      refused = refused;
+      refused = says;
     }

@@ -192,7 +192,7 @@ fn write_counts<W: Target>(
 ///
 /// - `Sink`: the writer failed. The bytes written are the beginning of the report.
 /// - `Lost`: the objects cannot be gone through. Nothing was written.
-pub fn write_check_of<O: Objects, W: Target>(
+pub fn write_check_over<O: Objects, W: Target>(
     alloc: Global,
     summaries: &[PartSummary],
     heap: &Heap,
@@ -214,7 +214,7 @@ pub fn write_check_of<O: Objects, W: Target>(
     }
 }
 
-/// Writes the report `check` on a heap with its objects in memory, as [`write_check_of`] does. It allocates and flushes nothing. If the writer
+/// Writes the report `check` on a heap with its objects in memory, as [`write_check_over`] does. It allocates and flushes nothing. If the writer
 /// fails, the bytes written are the beginning of the report.
 pub fn write_check<W: Target>(
     summaries: &[PartSummary],

@@ -111,7 +111,7 @@ fn write_counted<W: Target>(
 ///
 /// - `Sink`: the writer failed or memory ran out. The bytes written are the beginning of the report.
 /// - `Lost`: the objects cannot be gone through. Nothing was written.
-pub fn write_classes_of<O: Objects, W: Target>(
+pub fn write_classes_over<O: Objects, W: Target>(
     alloc: Global,
     heap: &Heap,
     objects: &O,
@@ -132,7 +132,7 @@ pub fn write_classes_of<O: Objects, W: Target>(
     }
 }
 
-/// Writes the report `classes` on a heap with its objects in memory, as [`write_classes_of`] does. If the writer fails or memory runs out,
+/// Writes the report `classes` on a heap with its objects in memory, as [`write_classes_over`] does. If the writer fails or memory runs out,
 /// the bytes written are the beginning of the report.
 pub fn write_classes<W: Target>(alloc: Global, heap: &Heap, target: &mut W) -> Result<(), WriteStop>
     requires { W.health target.old ≡ Well }
@@ -141,7 +141,7 @@ pub fn write_classes<W: Target>(alloc: Global, heap: &Heap, target: &mut W) -> R
     ensures health { LeavesTarget result (W.health target.new) }
 {
     holds_of_heap(heap);
-    match write_classes_of(alloc, heap, &InHeap, target) {
+    match write_classes_over(alloc, heap, &InHeap, target) {
         Ok(()) => Ok(()),
         Err(stop) => Err(stop.of_sink()),
     }

@@ -17,7 +17,7 @@ use crate::passed::stop_of_pass;
 use hprof_devices::Target;
 use hprof_engine::WriteStop;
 use hprof_heap::{Heap, holds_of_heap};
-use hprof_histogram::{Kind, Row, histogram_of};
+use hprof_histogram::{Kind, Row, histogram_over};
 use hprof_naming::{ClassNames, label_of, type_word};
 use hprof_passes::{InHeap, Objects, PassStop};
 use hprof_values::Basic;
@@ -107,7 +107,7 @@ fn write_histogram_rows<W: Target>(
 ///
 /// - `Sink`: the writer failed or memory ran out. The bytes written are the beginning of the report.
 /// - `Lost`: the objects cannot be gone through. Nothing was written.
-pub fn write_histogram_of<O: Objects, W: Target>(
+pub fn write_histogram_over<O: Objects, W: Target>(
     alloc: Global,
     heap: &Heap,
     objects: &O,
@@ -118,7 +118,7 @@ pub fn write_histogram_of<O: Objects, W: Target>(
         (O.agree objects.now (size_of heap.now) (facts_of heap.now)) (O.tells objects.now (size_of heap.now) (facts_of heap.now))
         (IsHistogramText (size_of heap.now)) W.written W.health target.old target.new result }
 {
-    let rows = match histogram_of(alloc, heap, objects) {
+    let rows = match histogram_over(alloc, heap, objects) {
         Ok(rows) => rows,
         Err(stop) => return Err(stop_of_pass(stop)),
     };
@@ -128,7 +128,7 @@ pub fn write_histogram_of<O: Objects, W: Target>(
     }
 }
 
-/// Writes the report `histo` on a heap with its objects in memory, as [`write_histogram_of`] does. If the writer fails or memory runs out,
+/// Writes the report `histo` on a heap with its objects in memory, as [`write_histogram_over`] does. If the writer fails or memory runs out,
 /// the bytes written are the beginning of the report.
 pub fn write_histogram<W: Target>(
     alloc: Global,
@@ -141,7 +141,7 @@ pub fn write_histogram<W: Target>(
     ensures health { LeavesTarget result (W.health target.new) }
 {
     holds_of_heap(heap);
-    match write_histogram_of(alloc, heap, &InHeap, target) {
+    match write_histogram_over(alloc, heap, &InHeap, target) {
         Ok(()) => Ok(()),
         Err(stop) => Err(stop.of_sink()),
     }

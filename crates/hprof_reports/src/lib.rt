@@ -22,13 +22,13 @@ mod shown;
 mod text_report;
 mod units;
 
-pub use check::{write_check, write_check_of};
-pub use classes::{write_classes, write_classes_of};
+pub use check::{write_check, write_check_over};
+pub use classes::{write_classes, write_classes_over};
 pub use field_names::FieldNames;
-pub use histogram_report::{write_histogram, write_histogram_of};
+pub use histogram_report::{write_histogram, write_histogram_over};
 pub use lines::{write_line, write_str};
 pub use object::{no_fields_line, nothing_line, write_object};
-pub use objects::{write_objects, write_objects_of};
+pub use objects::{write_object_lines, write_objects, write_objects_over};
 pub use passed::stop_of_pass;
 pub use path::{distance_line, write_path};
 pub use place_names::place_name;

@@ -31,7 +31,7 @@ fn set_line(line: &mut String, object: SizedObject) -> Result<(), AllocError>
 }
 
 /// Writes a line for each object. If it stops, some of them were written, from the front.
-fn write_all<W: Target>(
+pub fn write_object_lines<W: Target>(
     alloc: Global,
     objects: &[SizedObject],
     target: &mut W,
@@ -57,7 +57,7 @@ fn write_all<W: Target>(
 ///
 /// - `Sink`: the writer failed or memory ran out. The bytes written are the beginning of the report.
 /// - `Lost`: the objects cannot be gone through. Nothing was written.
-pub fn write_objects_of<O: Objects, W: Target>(
+pub fn write_objects_over<O: Objects, W: Target>(
     alloc: Global,
     heap: &Heap,
     objects: &O,
@@ -73,13 +73,13 @@ pub fn write_objects_of<O: Objects, W: Target>(
         Ok(found) => found,
         Err(stop) => return Err(stop_of_pass(stop)),
     };
-    match write_all(alloc, &found, target) {
+    match write_object_lines(alloc, &found, target) {
         Ok(()) => Ok(()),
         Err(stop) => Err(PassStop::Sink(stop)),
     }
 }
 
-/// Writes the report `objects` on a class or a type of a heap with its objects in memory, as [`write_objects_of`] does. If the writer fails
+/// Writes the report `objects` on a class or a type of a heap with its objects in memory, as [`write_objects_over`] does. If the writer fails
 /// or memory runs out, the bytes written are the beginning of the report.
 pub fn write_objects<W: Target>(
     alloc: Global,
@@ -93,7 +93,7 @@ pub fn write_objects<W: Target>(
     ensures health { LeavesTarget result (W.health target.new) }
 {
     holds_of_heap(heap);
-    match write_objects_of(alloc, heap, &InHeap, kind, target) {
+    match write_objects_over(alloc, heap, &InHeap, kind, target) {
         Ok(()) => Ok(()),
         Err(stop) => Err(stop.of_sink()),
     }
