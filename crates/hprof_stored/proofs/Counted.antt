@@ -20,21 +20,25 @@ use Rattle.hprof_stored.proofs.ObjectSpelling.{as_many}
 -- ---- a sink that counts
 
 module _ (ids : IdSize) where
-  pub all_counted : (objects : List FactValue) (old new : ObjectCounter)
+  more_counted : (objects : List FactValue) (old new : ObjectCounter)
       → TakesObjects (λ old ids object new. Counts old new) ids old objects new → new.count ≡ old.count + length objects
-  all_counted [] old new same = let one : old.count ≡ new.count = ap (λ (it : ObjectCounter). it.count) same in omega arith
-  all_counted (object ∷ objects) old new took = omega (arith, all_counted objects took.0 new took.2, took.1)
+  more_counted [] old new same = let one : old.count ≡ new.count = ap (λ (it : ObjectCounter). it.count) same in omega arith
+  more_counted (object ∷ objects) old new took = omega (arith, more_counted objects took.0 new took.2, took.1)
+
+  pub all_counted : (objects : List FactValue) (old new : ObjectCounter) → old.count ≡ 0
+      → TakesObjects (λ old ids object new. Counts old new) ids old objects new → new.count ≡ length objects
+  all_counted objects old new none took = omega (arith, more_counted objects old new took, none)
 
   pub too_many : (objects : List FactValue) (fault : CountFull) (old new : ObjectCounter) → old.count ≡ 0
       → RefusesObject (λ old ids object new. Counts old new) (λ old ids object fault new. IsFull old) ids objects fault old new
       → 2 ^ 64 ≤ length objects
   too_many objects fault old new none it =
       omega (
-      arith,
-      ap length it.are,
-      length-append it.front (it.object ∷ it.behind),
-      all_counted it.front old it.mid it.took,
-      it.refused
+        arith,
+        ap length it.are,
+        length-append it.front (it.object ∷ it.behind),
+        all_counted it.front old it.mid none it.took,
+        it.refused,
       )
 
 -- ---- one stretch

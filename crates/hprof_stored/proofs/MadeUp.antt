@@ -1,12 +1,11 @@
 -- The facts on which parts agree: those of the heap without objects, and the stored objects behind them.
-use Rattle.std.proofs.Common.{◌≡◌, ℕ, List, [], ◌∷◌, ◌++◌, length, map, take, Option, Some, Ok, refl, sym, ap, subst}
+use Rattle.std.proofs.Common.{◌≡◌, ℕ, false, List, [], ◌∷◌, ◌++◌, length, map, take, Option, Some, Ok, refl, sym, ap, subst}
 use Rattle.std.specs.List.{AllByRecursion}
 use Rattle.hprof_values.specs.declared.ids.IdSize.{IdSize}
 use Rattle.hprof_items.specs.FactValue.{FactValue}
 use Rattle.hprof_devices.specs.declared.health.Health.{Health}
-use Rattle.hprof_stream.specs.declared.limits.Limits.{Limits}
 use Rattle.hprof_rows.specs.declared.key.Key.TheVariants as keys
-use Rattle.hprof_rows.specs.Facts.{SameFacts}
+use Rattle.hprof_rows.specs.Facts.{Has, SameFacts}
 use Rattle.hprof_rows.specs.HeapValue.{HeapValue}
 use Rattle.hprof_rows.specs.Order.{IsCanonicalOrder}
 use Rattle.hprof_heap.specs.Gathering.{Given, Tells, all_given}
@@ -17,7 +16,7 @@ use Rattle.hprof_merge.specs.TwoContents.{IsLeastWithTwoContents}
 use Rattle.hprof_merge.specs.Union.{IsUnion}
 use Rattle.hprof_objects.specs.ObjectRows.{object_rows}
 use Rattle.hprof_objects.specs.StoredObjects.{objects_of}
-use Rattle.hprof_objects.specs.Whole.{AreObjects, FitGiven, rows_given, with_objects, without_objects}
+use Rattle.hprof_objects.specs.Whole.{AreObjects, FitGiven, is_object, rows_given, with_objects, without_objects}
 use Rattle.hprof_engine.specs.Joining.{Agree, AreGiven, Disagree}
 use Rattle.hprof_engine.specs.Outcome.{ComesTo, OneHeap, Outcome}
 use Rattle.hprof_engine.proofs.Answers.{agree, disagree, given_by_parts}
@@ -79,7 +78,7 @@ module _ {R S P : Type 0} (left : R → Option (List ℕ)) (written : S → Opti
     same_union : IsUnion (map rows_given given) rows
     same_union = subst (λ (l : List (List ByteRow)). IsUnion l rows) (rows_same parts) union
 
-    stored_objects : (objects : List FactValue) × AreObjects heap.ids rows objects
+    pub stored_objects : (objects : List FactValue) × AreObjects heap.ids rows objects
     stored_objects = behind given heap.ids rows sizes fit same_union
 
     tells_all : Tells given (Ok (with_objects heap stored_objects.0))
@@ -90,7 +89,8 @@ module _ {R S P : Type 0} (left : R → Option (List ℕ)) (written : S → Opti
 
     pub made_up : MakeUp written health bytes it heap.ids heap.facts (heap.facts ++ stored_objects.0)
     made_up =
-        let none = λ fact has. no_object_given given fact ((are.holds.tells.3 fact).0 has) in
+        let none : (fact : FactValue) → Has heap.facts fact → is_object fact ≡ false =
+        λ fact has. no_object_given given fact ((are.holds.tells.3 fact).0 has) in
         record {
           reads = all_read parts;
           as_read = as_read;

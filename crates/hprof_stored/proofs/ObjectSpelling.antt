@@ -1,6 +1,5 @@
 -- Objects, their rows, and the bytes that spell them.
-use Rattle.std.proofs.Common.{◌≡◌, ◌≤◌, ℕ, suc, true, false, List, [], ◌∷◌, ◌++◌, length, drop, Some, None, refl, sym, ap, ◌∙◌, arith}
-use Rattle.std.specs.Prelude.{is_some}
+use Rattle.std.proofs.Common.{◌≡◌, ◌≤◌, ℕ, suc, true, List, [], ◌∷◌, ◌++◌, length, drop, Some, refl, sym, ap, ◌∙◌, arith}
 use Rattle.std.proofs.lemmas.List.{append-nil, drop_all}
 use Rattle.hprof_values.specs.declared.ids.IdSize.{IdSize}
 use Rattle.hprof_items.specs.FactValue.{FactValue, Name, Load, Unload, Frame, Trace, Start, End}
@@ -9,7 +8,7 @@ use Rattle.hprof_items.specs.Spelling.{Fits, longest_body}
 use Rattle.hprof_items.specs.SubRecord.{DumpFits, dump_bytes}
 use Rattle.hprof_items.proofs.Dumps.{dump_once}
 use Rattle.hprof_merge.specs.Rows.{ByteRow}
-use Rattle.hprof_objects.specs.ObjectRows.{object_key, object_row}
+use Rattle.hprof_objects.specs.ObjectRows.{object_row}
 use Rattle.hprof_objects.specs.Whole.{AreObjects, is_object}
 use Rattle.hprof_stored.specs.RowDecoder.{SpellsObject}
 
@@ -93,10 +92,6 @@ module _ (ids : IdSize) (bytes : List ℕ) (object : FactValue) (spells : Spells
 pub all_spelled : (bytes spelled : List ℕ) (end : ℕ) → bytes ≡ spelled ++ drop end bytes → end ≡ length bytes → bytes ≡ spelled
 all_spelled bytes spelled end is all =
     is ∙ ap (λ (l : List ℕ). spelled ++ l) (drop_all end bytes (omega (arith, all))) ∙ append-nil spelled
-
--- an object has an identifier
-pub some_key : (object : FactValue) → is_object object ≡ true → object_key object ≡ None → ⊥
-some_key object is none = let no : is_object object ≡ false = ap is_some none in cc
 
 -- ---- rows of objects
 

@@ -1,6 +1,5 @@
 -- A merge into a sink of rows, as a pass over objects.
 use Rattle.std.proofs.Common.{◌≡◌, ◌+◌, ℕ, List, [], ◌∷◌, ◌++◌, Option, Result, Ok, Err, refl, sym, ap, subst, ◌∙◌, append_assoc}
-use Rattle.std.specs.Prelude.{OnOk, IfErr}
 use Rattle.hprof_values.specs.declared.ids.IdSize.{IdSize}
 use Rattle.hprof_items.specs.FactValue.{FactValue}
 use Rattle.hprof_devices.specs.declared.health.Health.{Health}
@@ -21,8 +20,8 @@ use Rattle.hprof_stored.specs.declared.in_parts.InParts.{InParts}
 use Rattle.hprof_stored.specs.declared.pass_fault.PassFault.{PassFault}
 use Rattle.hprof_stored.specs.declared.row_decoder.RowDecoder.{RowDecoder}
 use Rattle.hprof_stored.specs.declared.row_decoder.RowRefusal.{RowRefusal}
-use Rattle.hprof_stored.specs.declared.row_decoder.RowRefusal.TheVariants as rows
-use Rattle.hprof_stored.specs.InParts.{AreAsRead, HaveUnion, MakeUp, TellsPass, limits_under, objects_under, parts_under, pass_stop}
+use Rattle.hprof_stored.specs.declared.row_decoder.RowRefusal.TheVariants as refusals
+use Rattle.hprof_stored.specs.InParts.{AreAsRead, MakeUp, TellsPass, limits_under, objects_under, parts_under, pass_stop}
 use Rattle.hprof_stored.specs.RowDecoder.{AreOverSame, GivesNone, GivesObject, SpellsObject, sink_under}
 use Rattle.hprof_stored.proofs.ObjectSpelling.{IsObjectAt, object_at, one_spelled, row_spells, split_objects}
 
@@ -104,17 +103,17 @@ module _ {T E : Type 0} (takes : T → IdSize → FactValue → T → Type 0) (r
       size_then row refusal refused = (same_run old refused.front refused.mid refused.run).0 ∙ size
 
       -- each row spells an object
-      pub none_refused : (row : ByteRow) → RefusesRow (GivesObject takes) (GivesNone refuses) lists row rows.NoObject old new → ⊥
+      pub none_refused : (row : ByteRow) → RefusesRow (GivesObject takes) (GivesNone refuses) lists row refusals.NoObject old new → ⊥
       none_refused row refused =
-          let at = refused_at row rows.NoObject refused in
+          let at = refused_at row refusals.NoObject refused in
           refused.refused.1.1 at.object
-          (subst (λ (i : IdSize). SpellsObject i row.1 at.object) (sym (size_then row rows.NoObject refused)) at.spells)
+          (subst (λ (i : IdSize). SpellsObject i row.1 at.object) (sym (size_then row refusals.NoObject refused)) at.spells)
 
-      object_refused : (row : ByteRow) (fault : E) → RefusesRow (GivesObject takes) (GivesNone refuses) lists row (rows.Sink fault) old new
+      object_refused : (row : ByteRow) (fault : E) → RefusesRow (GivesObject takes) (GivesNone refuses) lists row (refusals.Sink fault) old new
           → RefusesObject takes refuses ids objects fault (sink_under old) (sink_under new)
       object_refused row fault refused =
-          let at = refused_at row (rows.Sink fault) refused in
-          let sized = size_then row (rows.Sink fault) refused in
+          let at = refused_at row (refusals.Sink fault) refused in
+          let sized = size_then row (refusals.Sink fault) refused in
           let mid = refused.mid in
           let it = refused.refused.1 in
           let one : it.0 ≡ at.object =
@@ -137,19 +136,14 @@ module _ {T E : Type 0} (takes : T → IdSize → FactValue → T → Type 0) (r
       stopped (stops.TwoContents id) front = below id front.1
       stopped (stops.Scratch fault) front = below front.0 front.1
       stopped (stops.Part part fault) front = below front.0 front.1
-      stopped (stops.Sink rows.NoObject) refused = absurd (none_refused refused.0 refused.1)
-      stopped (stops.Sink (rows.Sink fault)) refused = object_refused refused.0 fault refused.1
+      stopped (stops.Sink refusals.NoObject) refused = absurd (none_refused refused.0 refused.1)
+      stopped (stops.Sink (refusals.Sink fault)) refused = object_refused refused.0 fault refused.1
 
 -- ---- what a pass tells of the parts
 
 module _ {S P T E : Type 0} (written : S → Option (List ℕ)) (health : S → Health) (bytes : P → List (Option (List ℕ)))
     (unreadable : S → Type 0) (takes : T → IdSize → FactValue → T → Type 0) (refuses : T → IdSize → FactValue → E → T → Type 0)
     (it : InParts S P) (old new : RowDecoder T) where
-  pub agreed : (r : Result (Unit {0}) (ObjectStop (RowRefusal E))) → ((reads : List PartRead) → AreAsRead written health bytes it reads
-      → MergesLists (GivesObject takes) (GivesNone refuses) (objects_of reads) r old new) → OnOk r (HaveUnion written health bytes it)
-  agreed (Ok done) merged = λ reads as_read. let taken = merged reads as_read in (taken.all, taken.union)
-  agreed (Err stop) merged = tt
-
   pub told_by : (ids : IdSize) (facts : List FactValue) (size : old.ids ≡ ids) (stop : ObjectStop (RowRefusal E))
       → ((reads : List PartRead) → AreAsRead written health bytes it reads
       → StopsWithin (GivesObject takes) (GivesNone refuses) (objects_of reads) stop old new)
@@ -160,10 +154,10 @@ module _ {S P T E : Type 0} (written : S → Option (List ℕ)) (health : S → 
   told_by ids facts size (stops.TwoContents id) within changed fails = λ reads as_read. (within reads as_read).0
   told_by ids facts size (stops.Scratch fault) within changed fails = (fails, changed)
   told_by ids facts size (stops.Part part fault) within changed fails = changed
-  told_by ids facts size (stops.Sink rows.NoObject) within changed fails = λ reads all objects as_read union are.
+  told_by ids facts size (stops.Sink refusals.NoObject) within changed fails = λ reads all objects as_read union are.
       let refused = within reads as_read in
       none_refused takes refuses ids (objects_of reads) all objects union are old new size refused.0 refused.1
-  told_by ids facts size (stops.Sink (rows.Sink fault)) within changed fails = tt
+  told_by ids facts size (stops.Sink (refusals.Sink fault)) within changed fails = tt
 
   -- facts that the objects make up
   module _ (ids : IdSize) (facts all : List FactValue) (make : MakeUp written health bytes it ids facts all) (size : old.ids ≡ ids)
@@ -175,11 +169,14 @@ module _ {S P T E : Type 0} (written : S → Option (List ℕ)) (health : S → 
         (subst (λ (t : T). TakesObjects takes ids t make.objects (sink_under new)) begins
         (merged takes refuses ids (objects_of make.reads) make.rows make.objects make.union make.are old new size taken)))
 
-    pub some_given : (stop : ObjectStop (RowRefusal E)) → StopsWithin (GivesObject takes) (GivesNone refuses) (objects_of make.reads) stop old new
-        → Passes takes refuses ids {A = Unit {0}} (objects_among all) (Err (pass_stop stop)) was now
-    some_given stop within =
-        let r : Result (Unit {0}) (PassStop E PassFault) = Err (pass_stop stop) in
-        subst (λ (l : List FactValue). Passes takes refuses ids l r was now) (sym make.among)
-        (subst (λ (t : T). Passes takes refuses ids make.objects r was t) (sym ends)
-        (subst (λ (t : T). Passes takes refuses ids make.objects r t (sink_under new)) begins
-        (stopped takes refuses ids (objects_of make.reads) make.rows make.objects make.union make.are old new size stop within)))
+    pub some_given : (stop : ObjectStop (RowRefusal E)) (why : PassStop E PassFault) → why ≡ pass_stop stop
+        → StopsWithin (GivesObject takes) (GivesNone refuses) (objects_of make.reads) stop old new
+        → Passes takes refuses ids {A = Unit {0}} (objects_among all) (Err why) was now
+    some_given stop why is within =
+        let passes : T → List FactValue → T → Type 0 =
+        λ (from : T) (objects : List FactValue) (to : T). Passes takes refuses ids {A = Unit {0}} objects (Err (pass_stop stop)) from to in
+        subst (λ (w : PassStop E PassFault). Passes takes refuses ids {A = Unit {0}} (objects_among all) (Err w) was now) (sym is)
+        (subst (λ (l : List FactValue). passes was l now) (sym make.among)
+        (subst (λ (t : T). passes was make.objects t) (sym ends)
+        (subst (λ (t : T). passes t make.objects (sink_under new)) begins
+        (stopped takes refuses ids (objects_of make.reads) make.rows make.objects make.union make.are old new size stop within))))

@@ -1,5 +1,5 @@
 -- A sink that counts objects.
-use Rattle.std.specs.Prelude.{◌≡◌, ◌≤◌, ◌+◌, ◌^◌, ℕ}
+use Rattle.std.specs.Prelude.{◌≡◌, ◌≤◌, ◌+◌, ◌^◌}
 use Rattle.hprof_stored.specs.declared.object_counter.ObjectCounter.{ObjectCounter}
 
 -- one object more

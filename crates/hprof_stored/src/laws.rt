@@ -19,7 +19,9 @@ ghost use Rattle.hprof_stored.specs.declared.stored_heap.StoredHeap.{StoredHeap}
 
 use hprof_devices::Source;
 use hprof_engine::laws::parts_come_to_one_thing;
-use hprof_objects::laws::{conflicts_of_objects_come_last, objects_in_order_are_their_union, objects_stand_behind};
+use hprof_objects::laws::{
+    conflicts_of_objects_come_last, objects_in_order_are_their_union, objects_stand_behind,
+};
 use hprof_parts::Parts;
 use hprof_runs::Scratch;
 
