@@ -1,7 +1,7 @@
 mod Enough
 mod Rows
 mod Stretches
-mod Whole
+pub mod Whole
 mod WholeHeap
 mod InOrder
 mod Spilled

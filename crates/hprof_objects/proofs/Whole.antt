@@ -5,6 +5,7 @@ use Rattle.std.specs.List.{AllByRecursion}
 use Rattle.hprof_values.specs.declared.ids.IdSize.{IdSize}
 use Rattle.hprof_items.specs.FactValue.{FactValue, Name, Load, Unload, Frame, Trace, Start, End, Rooted, Class, Instance, ObjArray}
 use Rattle.hprof_items.specs.FactValue.{PrimArray}
+use Rattle.hprof_items.specs.RecordBody.{record_of}
 use Rattle.hprof_items.specs.Spelling.{Fits}
 use Rattle.hprof_items.specs.SubRecord.{DumpFits, dump_bytes}
 use Rattle.hprof_items.proofs.Dumps.{dump_once}
@@ -29,6 +30,7 @@ pub record IsRowOf (ids : IdSize) (fact : FactValue) (row : ByteRow) : Type 0 wh
   pub row_is : (row.0, dump_bytes ids fact) ≡ row
   pub key : key_of fact ≡ Some (keys.Object row.0)
   pub object : is_object fact ≡ true
+  pub no_record : record_of fact ≡ None
   pub order : order_of fact ≡ 9 ∷ row.0 ∷ []
   pub fits : Fits ids fact → DumpFits ids fact
 
@@ -36,15 +38,15 @@ pub row_of : (ids : IdSize) (fact : FactValue) (row : ByteRow) → object_row id
 row_of ids (Instance id trace class bytes) row e =
     let is : (id, dump_bytes ids (Instance id trace class bytes)) ≡ row = cc in
     subst (λ (r : ByteRow). IsRowOf ids (Instance id trace class bytes) r) is
-    (record { row_is = refl; key = refl; object = refl; order = refl; fits = λ fits. fits.0 })
+    (record { row_is = refl; key = refl; object = refl; no_record = refl; order = refl; fits = λ fits. fits.0 })
 row_of ids (ObjArray id trace class elements) row e =
     let is : (id, dump_bytes ids (ObjArray id trace class elements)) ≡ row = cc in
     subst (λ (r : ByteRow). IsRowOf ids (ObjArray id trace class elements) r) is
-    (record { row_is = refl; key = refl; object = refl; order = refl; fits = λ fits. fits.0 })
+    (record { row_is = refl; key = refl; object = refl; no_record = refl; order = refl; fits = λ fits. fits.0 })
 row_of ids (PrimArray id trace elem bytes) row e =
     let is : (id, dump_bytes ids (PrimArray id trace elem bytes)) ≡ row = cc in
     subst (λ (r : ByteRow). IsRowOf ids (PrimArray id trace elem bytes) r) is
-    (record { row_is = refl; key = refl; object = refl; order = refl; fits = λ fits. fits.0 })
+    (record { row_is = refl; key = refl; object = refl; no_record = refl; order = refl; fits = λ fits. fits.0 })
 row_of ids (Name id text) row e = absurd cc
 row_of ids (Load serial class trace name) row e = absurd cc
 row_of ids (Unload serial) row e = absurd cc

@@ -1,6 +1,5 @@
-//! The objects of parts that are larger than the memory: those that ascend in their part stay there, and the others are kept in memory or
-//! in
-//! scratch, in sorted runs.
+//! The objects of parts that are larger than the memory: those that ascend in their part stay there, and the others are kept in memory
+//! or in scratch, in sorted runs.
 #![tactic(auto)]
 
 mod growing;

@@ -50,8 +50,8 @@ impl<S: Scratch + Drop> StoredObjects<S> {
         }
     }
 
-    /// Returns whether no object is in memory or in scratch, and at most one stretch stays in its part. Then no identifier has objects with two
-    /// contents.
+    /// Returns whether no object is in memory or in scratch, and at most one stretch stays in its part. Then no identifier has objects with
+    /// two contents.
     pub fn is_one_stretch(&self) -> bool
         ensures { IsTrue result ↔ IsOneStretch self.now }
     {
@@ -73,8 +73,8 @@ impl<S: Scratch + Drop> StoredObjects<S> {
         }
     }
 
-    /// Merges the objects into a sink, which is given each of them once, in ascending order of identifier, with the bytes of its sub-record.
-    /// They can be merged again as often as is wanted.
+    /// Merges the objects into a sink, which is given each of them once, in ascending order of identifier, with the bytes of its
+    /// sub-record. They can be merged again as often as is wanted.
     ///
     /// The parts are those that were read, and the limits are those of the first reading; the reads of a part are counted anew.
     ///

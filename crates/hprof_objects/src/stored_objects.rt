@@ -3,8 +3,8 @@
 use crate::stretch::Stretch;
 use hprof_runs::{Runs, SortedRows};
 
-/// The objects of parts that were read: rows in memory, runs in scratch, and stretches that stay in their part. An object may be stored more
-/// than once.
+/// The objects of parts that were read: rows in memory, runs in scratch, and stretches that stay in their part. An object may be stored
+/// more than once.
 #[derive(Drop)]
 pub struct StoredObjects<S> {
     pub(crate) rows: SortedRows,

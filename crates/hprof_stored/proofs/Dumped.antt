@@ -1,12 +1,12 @@
 -- The dump of a heap, whose objects are rows.
 use Rattle.std.proofs.Common.{◌≡◌, ℕ, Bool, false, not, cond, List, [], ◌∷◌, ◌++◌, map, Some, refl, sym, ap, ◌∙◌, append_assoc, append-nil}
+use Rattle.std.specs.Prelude.{is_some}
 use Rattle.std.specs.List.{filter, flat_map}
 use Rattle.std.proofs.lemmas.List.{map-append}
 use Rattle.std.proofs.lemmas.List.Elements.{filter-append}
 use Rattle.hprof_values.specs.declared.ids.IdSize.{IdSize}
 use Rattle.hprof_items.specs.declared.header.Version.TheVariants.{V102}
-use Rattle.hprof_items.specs.FactValue.{FactValue, Name, Load, Unload, Frame, Trace, Start, End}
-use Rattle.hprof_items.specs.FactValue.{Rooted, Class, Instance, ObjArray, PrimArray}
+use Rattle.hprof_items.specs.FactValue.{FactValue}
 use Rattle.hprof_items.specs.Header.{header_bytes}
 use Rattle.hprof_items.specs.Head.{head_bytes}
 use Rattle.hprof_items.specs.Spelling.{spelling}
@@ -19,6 +19,7 @@ use Rattle.hprof_segments.specs.ByteSegments.{segment_records}
 use Rattle.hprof_segments.proofs.Mapped.{facts_packed}
 use Rattle.hprof_objects.specs.ObjectRows.{object_row}
 use Rattle.hprof_objects.specs.Whole.{AreObjects}
+use Rattle.hprof_objects.proofs.Whole.{row_again, row_of}
 use Rattle.std.proofs.Common.{subst}
 use Rattle.hprof_segments.specs.ByteSegments.{IsSub}
 use Rattle.hprof_segments.proofs.FactSubs.{fact_is_sub}
@@ -37,30 +38,9 @@ dump_is heap rows =
 
 -- ---- objects behind a heap
 
--- what the row of an object says of its fact
-record IsSubOf (ids : IdSize) (fact : FactValue) (row : ByteRow) : Type 0 where
-  pub none : is_record_fact fact ≡ false
-  pub bytes : dump_bytes ids fact ≡ row.1
-
-sub_of : (ids : IdSize) (fact : FactValue) (row : ByteRow) → object_row ids fact ≡ Some row → IsSubOf ids fact row
-sub_of ids (Instance id trace class bytes) row e =
-    let is : (id, dump_bytes ids (Instance id trace class bytes)) ≡ row = cc in
-    record { none = refl; bytes = ap (λ (r : ByteRow). r.1) is }
-sub_of ids (ObjArray id trace class elements) row e =
-    let is : (id, dump_bytes ids (ObjArray id trace class elements)) ≡ row = cc in
-    record { none = refl; bytes = ap (λ (r : ByteRow). r.1) is }
-sub_of ids (PrimArray id trace elem bytes) row e =
-    let is : (id, dump_bytes ids (PrimArray id trace elem bytes)) ≡ row = cc in
-    record { none = refl; bytes = ap (λ (r : ByteRow). r.1) is }
-sub_of ids (Name id text) row e = absurd cc
-sub_of ids (Load serial class trace name) row e = absurd cc
-sub_of ids (Unload serial) row e = absurd cc
-sub_of ids (Frame id method signature source class_serial line) row e = absurd cc
-sub_of ids (Trace serial thread frames) row e = absurd cc
-sub_of ids (Start thread object trace name group parent_group) row e = absurd cc
-sub_of ids (End thread) row e = absurd cc
-sub_of ids (Rooted root) row e = absurd cc
-sub_of ids (Class id trace parent loader signers domain reserved1 reserved2 size constants statics fields) row e = absurd cc
+-- an object has no record
+no_record_fact : (ids : IdSize) (fact : FactValue) (row : ByteRow) → object_row ids fact ≡ Some row → is_record_fact fact ≡ false
+no_record_fact ids fact row is = ap is_some (row_of ids fact row is).no_record
 
 -- objects are sub-records, and their bytes are those of the rows
 record AreSubs (ids : IdSize) (rows : List ByteRow) (objects : List FactValue) : Type 0 where
@@ -73,14 +53,15 @@ are_subs ids [] [] are = record { none = refl; all = refl; bytes = refl }
 are_subs ids [] (fact ∷ objects) are = absurd are
 are_subs ids (row ∷ rows) [] are = absurd are
 are_subs ids (row ∷ rows) (fact ∷ objects) are =
-    let first = sub_of ids fact row are.1 in
+    let none = no_record_fact ids fact row are.1 in
+    let bytes = sym (row_again ids fact row are.1) in
     let rest = are_subs ids rows objects are.2 in
     record {
-      none = ap (λ (b : Bool). cond b (fact ∷ filter is_record_fact objects) (filter is_record_fact objects)) first.none ∙ rest.none;
+      none = ap (λ (b : Bool). cond b (fact ∷ filter is_record_fact objects) (filter is_record_fact objects)) none ∙ rest.none;
       all =
-          ap (λ (b : Bool). cond (not b) (fact ∷ sub_facts objects) (sub_facts objects)) first.none
+          ap (λ (b : Bool). cond (not b) (fact ∷ sub_facts objects) (sub_facts objects)) none
           ∙ ap (λ (l : List FactValue). fact ∷ l) rest.all;
-      bytes = ap (λ (l : List ℕ). l ∷ map (dump_bytes ids) objects) first.bytes ∙ ap (λ (l : List (List ℕ)). row.1 ∷ l) rest.bytes;
+      bytes = ap (λ (l : List ℕ). l ∷ map (dump_bytes ids) objects) bytes ∙ ap (λ (l : List (List ℕ)). row.1 ∷ l) rest.bytes;
     }
 
 pub dump_of_all : (heap : HeapValue) (rows : List ByteRow) (objects : List FactValue) → AreObjects heap.ids rows objects
@@ -110,7 +91,7 @@ rows_are_subs ids [] [] are = tt
 rows_are_subs ids [] (fact ∷ objects) are = absurd are
 rows_are_subs ids (row ∷ rows) [] are = absurd are
 rows_are_subs ids (row ∷ rows) (fact ∷ objects) are =
-    let first = sub_of ids fact row are.1 in (
-      subst IsSub first.bytes (fact_is_sub ids fact are.0 (ap not first.none)),
+    let none = no_record_fact ids fact row are.1 in (
+      subst IsSub (sym (row_again ids fact row are.1)) (fact_is_sub ids fact are.0 (ap not none)),
       rows_are_subs ids rows objects are.2,
     )

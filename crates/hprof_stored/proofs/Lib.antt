@@ -4,6 +4,7 @@ mod Ended
 mod Fresh
 mod Read
 mod Answered
+mod Unchanged
 mod Subs
 mod Dumped
 mod Found

@@ -1,90 +1,41 @@
 -- Objects, their rows, and the bytes that spell them.
-use Rattle.std.proofs.Common.{◌≡◌, ◌≤◌, ℕ, suc, true, List, [], ◌∷◌, ◌++◌, length, drop, Some, refl, sym, ap, ◌∙◌, arith}
+use Rattle.std.proofs.Common.{◌≡◌, ℕ, suc, List, [], ◌∷◌, ◌++◌, length, drop, Some, refl, sym, ap, ◌∙◌, arith}
 use Rattle.std.proofs.lemmas.List.{append-nil, drop_all}
 use Rattle.hprof_values.specs.declared.ids.IdSize.{IdSize}
-use Rattle.hprof_items.specs.FactValue.{FactValue, Name, Load, Unload, Frame, Trace, Start, End}
-use Rattle.hprof_items.specs.FactValue.{Rooted, Class, Instance, ObjArray, PrimArray}
-use Rattle.hprof_items.specs.Spelling.{Fits, longest_body}
+use Rattle.hprof_items.specs.FactValue.{FactValue}
+use Rattle.hprof_items.specs.Spelling.{Fits}
 use Rattle.hprof_items.specs.SubRecord.{DumpFits, dump_bytes}
 use Rattle.hprof_items.proofs.Dumps.{dump_once}
 use Rattle.hprof_merge.specs.Rows.{ByteRow}
 use Rattle.hprof_objects.specs.ObjectRows.{object_row}
-use Rattle.hprof_objects.specs.Whole.{AreObjects, is_object}
+use Rattle.hprof_objects.specs.Whole.{AreObjects}
+use Rattle.hprof_objects.proofs.Whole.{has_row, row_again, row_of}
 use Rattle.hprof_stored.specs.RowDecoder.{SpellsObject}
 
--- an object has a spelling as a sub-record
-pub record HasSub (ids : IdSize) (object : FactValue) : Type 0 where
-  pub fits : DumpFits ids object
-  pub short : length (dump_bytes ids object) ≤ longest_body
-  pub some : dump_bytes ids object ≡ [] → ⊥
+-- ---- bytes that spell an object
 
-pub sub_of : (ids : IdSize) (object : FactValue) → is_object object ≡ true → Fits ids object → HasSub ids object
-sub_of ids (Instance id trace class bytes) is fits = record { fits = fits.0; short = fits.1; some = λ e. cc }
-sub_of ids (ObjArray id trace class elements) is fits = record { fits = fits.0; short = fits.1; some = λ e. cc }
-sub_of ids (PrimArray id trace elem bytes) is fits = record { fits = fits.0; short = fits.1; some = λ e. cc }
-sub_of ids (Name id text) is fits = absurd cc
-sub_of ids (Load serial class trace name) is fits = absurd cc
-sub_of ids (Unload serial) is fits = absurd cc
-sub_of ids (Frame id method signature source class_serial line) is fits = absurd cc
-sub_of ids (Trace serial thread frames) is fits = absurd cc
-sub_of ids (Start thread object trace name group parent_group) is fits = absurd cc
-sub_of ids (End thread) is fits = absurd cc
-sub_of ids (Rooted root) is fits = absurd cc
-sub_of ids (Class id trace parent loader signers domain reserved1 reserved2 size constants statics fields) is fits = absurd cc
+module _ (ids : IdSize) (bytes : List ℕ) (object : FactValue) (spells : SpellsObject ids bytes object) where
+  pub sub_fits : DumpFits ids object
+  sub_fits = let row = has_row ids object spells.is in (row_of ids object row.0 row.1).fits spells.fits
+
+  pub as_long : length (dump_bytes ids object) ≡ length bytes
+  as_long = ap length (sym spells.spelled)
+
+  pub all_bytes : bytes ≡ dump_bytes ids object ++ []
+  all_bytes = spells.spelled ∙ sym (append-nil (dump_bytes ids object))
 
 -- the bytes spell one object
 pub one_spelled : (ids : IdSize) (bytes : List ℕ) (one other : FactValue) → SpellsObject ids bytes one → SpellsObject ids bytes other
     → one ≡ other
 one_spelled ids bytes one other spells more =
-    (dump_once ids one other [] [] (sub_of ids one spells.is spells.fits).fits (sub_of ids other more.is more.fits).fits
+    (dump_once ids one other [] [] (sub_fits ids bytes one spells) (sub_fits ids bytes other more)
     (ap (λ (l : List ℕ). l ++ []) (sym spells.spelled ∙ more.spelled))).0
 
 -- the bytes of an object's row spell it
 pub row_spells : (ids : IdSize) (object : FactValue) (row : ByteRow) → Fits ids object → object_row ids object ≡ Some row
     → SpellsObject ids row.1 object
-row_spells ids (Instance id trace class bytes) row fits e =
-    let is : (id, dump_bytes ids (Instance id trace class bytes)) ≡ row = cc in
-    record { fits = fits; is = refl; spelled = sym (ap (λ (r : ByteRow). r.1) is) }
-row_spells ids (ObjArray id trace class elements) row fits e =
-    let is : (id, dump_bytes ids (ObjArray id trace class elements)) ≡ row = cc in
-    record { fits = fits; is = refl; spelled = sym (ap (λ (r : ByteRow). r.1) is) }
-row_spells ids (PrimArray id trace elem bytes) row fits e =
-    let is : (id, dump_bytes ids (PrimArray id trace elem bytes)) ≡ row = cc in
-    record { fits = fits; is = refl; spelled = sym (ap (λ (r : ByteRow). r.1) is) }
-row_spells ids (Name id text) row fits e = absurd cc
-row_spells ids (Load serial class trace name) row fits e = absurd cc
-row_spells ids (Unload serial) row fits e = absurd cc
-row_spells ids (Frame id method signature source class_serial line) row fits e = absurd cc
-row_spells ids (Trace serial thread frames) row fits e = absurd cc
-row_spells ids (Start thread object trace name group parent_group) row fits e = absurd cc
-row_spells ids (End thread) row fits e = absurd cc
-row_spells ids (Rooted root) row fits e = absurd cc
-row_spells ids (Class id trace parent loader signers domain reserved1 reserved2 size constants statics fields) row fits e = absurd cc
-
--- ---- bytes that spell an object
-
-module _ (ids : IdSize) (bytes : List ℕ) (object : FactValue) (spells : SpellsObject ids bytes object) where
-  sub : HasSub ids object
-  sub = sub_of ids object spells.is spells.fits
-
-  pub some_bytes : length bytes ≡ 0 → ⊥
-  some_bytes none = by bytes none spells.spelled
-    where
-      by : (l : List ℕ) → length l ≡ 0 → l ≡ dump_bytes ids object → ⊥
-      by [] e is = sub.some (sym is)
-      by (b ∷ l) e is = absurd (omega (arith, e))
-
-  pub as_long : length (dump_bytes ids object) ≡ length bytes
-  as_long = ap length (sym spells.spelled)
-
-  pub few_bytes : length bytes ≤ longest_body
-  few_bytes = omega (arith, as_long, sub.short)
-
-  pub all_bytes : bytes ≡ dump_bytes ids object ++ []
-  all_bytes = spells.spelled ∙ sym (append-nil (dump_bytes ids object))
-
-  pub sub_fits : DumpFits ids object
-  sub_fits = sub.fits
+row_spells ids object row fits is =
+    record { fits = fits; is = (row_of ids object row is).object; spelled = row_again ids object row is }
 
 -- ---- what was read of some bytes
 

@@ -1,5 +1,5 @@
 -- A merge into a sink of rows, as a pass over objects.
-use Rattle.std.proofs.Common.{◌≡◌, ◌+◌, ℕ, List, [], ◌∷◌, ◌++◌, Option, Result, Ok, Err, refl, sym, ap, subst, ◌∙◌, append_assoc}
+use Rattle.std.proofs.Common.{◌≡◌, ◌+◌, ℕ, List, [], ◌∷◌, ◌++◌, Option, Result, Err, refl, sym, ap, subst, ◌∙◌, append_assoc}
 use Rattle.hprof_values.specs.declared.ids.IdSize.{IdSize}
 use Rattle.hprof_items.specs.FactValue.{FactValue}
 use Rattle.hprof_devices.specs.declared.health.Health.{Health}
@@ -23,6 +23,7 @@ use Rattle.hprof_stored.specs.declared.row_decoder.RowRefusal.{RowRefusal}
 use Rattle.hprof_stored.specs.declared.row_decoder.RowRefusal.TheVariants as refusals
 use Rattle.hprof_stored.specs.InParts.{AreAsRead, MakeUp, TellsPass, limits_under, objects_under, parts_under, pass_stop}
 use Rattle.hprof_stored.specs.RowDecoder.{AreOverSame, GivesNone, GivesObject, SpellsObject, sink_under}
+use Rattle.hprof_stored.proofs.Unchanged as unchanged
 use Rattle.hprof_stored.proofs.ObjectSpelling.{IsObjectAt, object_at, one_spelled, row_spells, split_objects}
 
 module _ {T E : Type 0} (takes : T → IdSize → FactValue → T → Type 0) (refuses : T → IdSize → FactValue → E → T → Type 0) where
@@ -32,18 +33,15 @@ module _ {T E : Type 0} (takes : T → IdSize → FactValue → T → Type 0) (r
   same_then old mid new first second = (second.0 ∙ first.0, second.1 ∙ first.1)
 
   same_run : (old : RowDecoder T) (rows : List ByteRow) (new : RowDecoder T) → Runs (GivesObject takes) old rows new → AreOverSame old new
-  same_run old [] new run = subst (AreOverSame old) run (refl, refl)
-  same_run old (row ∷ rows) new run = same_then old run.0 new run.1.over (same_run run.0 rows new run.2)
+  same_run =
+      unchanged.same_run (GivesObject takes) (GivesNone refuses) AreOverSame (λ it. (refl, refl)) same_then
+      (λ old key bytes new gives. gives.over)
 
   pub same_lists : (lists : List (List ByteRow)) (r : Result (Unit {0}) (ObjectStop (RowRefusal E))) (old new : RowDecoder T)
       → MergesLists (GivesObject takes) (GivesNone refuses) lists r old new → AreOverSame old new
-  same_lists lists (Ok done) old new taken = same_run old taken.all new taken.run
-  same_lists lists (Err stops.OutOfMemory) old new front = same_run old front.1.front new front.1.run
-  same_lists lists (Err (stops.TwoContents id)) old new front = same_run old front.1.front new front.1.run
-  same_lists lists (Err (stops.Scratch fault)) old new front = same_run old front.1.front new front.1.run
-  same_lists lists (Err (stops.Part part fault)) old new front = same_run old front.1.front new front.1.run
-  same_lists lists (Err (stops.Sink refusal)) old new refused =
-      let it = refused.1 in same_then old it.mid new (same_run old it.front it.mid it.run) it.refused.0
+  same_lists =
+      unchanged.same_lists (GivesObject takes) (GivesNone refuses) AreOverSame (λ it. (refl, refl)) same_then
+      (λ old key bytes new gives. gives.over) (λ old key bytes fault new gives. gives.0)
 
   -- ---- the objects of rows
 

@@ -31,6 +31,7 @@ use Rattle.std.specs.List.{AllByRecursion}
 use Rattle.hprof_objects.specs.PartsRead.{PartRead}
 use Rattle.hprof_objects.specs.StoredObjects.{objects_of}
 use Rattle.hprof_stored.specs.Dumping.{AreSubRecords, IsOfDevices, LeavesTarget, TakesSubs, WritesSome, bytes_of}
+use Rattle.hprof_stored.proofs.Unchanged as unchanged
 
 -- a front of some bytes
 pub some_of : (start now : Option (List ℕ)) (sent rest text : List ℕ) → Appends start now sent → text ≡ sent ++ rest
@@ -67,21 +68,12 @@ module _ {W : Type 0} (written : W → Option (List ℕ)) (health : W → Health
   same_then : (old mid new : SegmentSink W) → IsOverSame old mid → IsOverSame mid new → IsOverSame old new
   same_then old mid new first second = (second.0 ∙ first.0, second.1 ∙ first.1)
 
-  same_run : (old : SegmentSink W) (rows : List ByteRow) (new : SegmentSink W) → Runs (TakesIntoSink written) old rows new
-      → IsOverSame old new
-  same_run old [] new run = subst (IsOverSame old) run (refl, refl)
-  same_run old (row ∷ rows) new run = same_then old run.0 new run.1.0 (same_run run.0 rows new run.2)
-
   -- the sink stays one into the same writer and target
   pub same_lists : (lists : List (List ByteRow)) (r : Result (Unit {0}) (ObjectStop SegmentFault)) (old new : SegmentSink W)
       → MergesLists (TakesIntoSink written) (SinkRefuses written health) lists r old new → IsOverSame old new
-  same_lists lists (Ok done) old new taken = same_run old taken.all new taken.run
-  same_lists lists (Err stops.OutOfMemory) old new front = same_run old front.1.front new front.1.run
-  same_lists lists (Err (stops.TwoContents key)) old new front = same_run old front.1.front new front.1.run
-  same_lists lists (Err (stops.Scratch fault)) old new front = same_run old front.1.front new front.1.run
-  same_lists lists (Err (stops.Part part fault)) old new front = same_run old front.1.front new front.1.run
-  same_lists lists (Err (stops.Sink fault)) old new refusal =
-      let it = refusal.1 in same_then old it.mid new (same_run old it.front it.mid it.run) it.refused.0
+  same_lists =
+      unchanged.same_lists (TakesIntoSink written) (SinkRefuses written health) IsOverSame (λ it. (refl, refl)) same_then
+      (λ old key bytes new takes. takes.0) (λ old key bytes fault new refuses. refuses.0)
 
   viewed : (old : SegmentSink W) (rows : List ByteRow) (new : SegmentSink W) → Runs (TakesIntoSink written) old rows new
       → Runs (TakesRow written) (sink_state old) rows (sink_state new)

@@ -32,10 +32,10 @@ impl ObjectSink for Identifiers {
     type Fault = AllocError;
 
     fn take(&mut self, _ids: IdSize, object: &Fact<'_>) -> Result<(), AllocError> {
-        match object_id(object) {
-            Some(id) => self.ids.push(id),
-            None => Ok(()),
+        if let Some(id) = object_id(object) {
+            self.ids.push(id)?;
         }
+        Ok(())
     }
 }
 

@@ -3,7 +3,8 @@ use Rattle.std.specs.Prelude.{is_some}
 use Rattle.hprof_objects.specs.Whole.{is_object}
 use Rattle.hprof_stored.proofs.ObjectSpelling.{all_bytes, as_long, sub_fits}
 use Rattle.hprof_stored.proofs.object_row.object_of_row.Goals as goal
-use Rattle.hprof_stored.proofs.object_row.object_of_row.Goals.{then-end-bytes-via-then-end-bytes, then-end-bytes-via-else-end-bytes+then-is_none}
+use Rattle.hprof_stored.proofs.object_row.object_of_row.Goals.{then-end-bytes-via-then-end-bytes}
+use Rattle.hprof_stored.proofs.object_row.object_of_row.Goals.{then-end-bytes-via-else-end-bytes+then-is_none}
 
 pub returns-then-end-bytes-clause-none : goal.returns-then-end-bytes-clause-none
 returns-then-end-bytes-clause-none c = λ e object spells.
