@@ -107,7 +107,8 @@ module _ {T E : Type 0} (takes : T → IdSize → FactValue → T → Type 0) (r
           refused.refused.1.1 at.object
           (subst (λ (i : IdSize). SpellsObject i row.1 at.object) (sym (size_then row refusals.NoObject refused)) at.spells)
 
-      object_refused : (row : ByteRow) (fault : E) → RefusesRow (GivesObject takes) (GivesNone refuses) lists row (refusals.Sink fault) old new
+      object_refused : (row : ByteRow) (fault : E)
+          → RefusesRow (GivesObject takes) (GivesNone refuses) lists row (refusals.Sink fault) old new
           → RefusesObject takes refuses ids objects fault (sink_under old) (sink_under new)
       object_refused row fault refused =
           let at = refused_at row (refusals.Sink fault) refused in

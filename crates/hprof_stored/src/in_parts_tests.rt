@@ -47,8 +47,8 @@ struct Passed {
     count: Result<u64, PassFault>,
 }
 
-/// Reads the parts, and goes over their objects where these are the parts that can be opened again.
-fn passed(alloc: Global, parts: &[&[u8]], again: &[&[u8]]) -> Result<Passed, Fail> {
+/// Reads the parts, and passes over their objects, where these are the parts that can be opened again.
+fn pass_over(alloc: Global, parts: &[&[u8]], again: &[&[u8]]) -> Result<Passed, Fail> {
     let mut readers = readers_of(alloc, parts)?;
     let limits = Limits::usual();
     let mut kept = ();
@@ -84,13 +84,13 @@ fn passed(alloc: Global, parts: &[&[u8]], again: &[&[u8]]) -> Result<Passed, Fai
 fn each_object_once(rt: HostRuntime) -> Result<(), Fail> {
     // A stretch stays in the part, 8 and 9 go to scratch, and 7 stays in memory.
     let parts: &[&[u8]] = &[UNORDERED];
-    let it = passed(rt.alloc(), parts, parts)?;
+    let it = pass_over(rt.alloc(), parts, parts)?;
     assert!(rt; it.outcome == Ok(()));
     assert_eq!(rt; it.ids.as_slice(), [7, 8, 9, 16, 32].as_slice());
     assert!(rt; it.count == Ok(5));
 
     let parts: &[&[u8]] = &[ORDERED, UNORDERED, ORDERED];
-    let it = passed(rt.alloc(), parts, parts)?;
+    let it = pass_over(rt.alloc(), parts, parts)?;
     assert!(rt; it.outcome == Ok(()));
     assert_eq!(rt; it.ids.as_slice(), [7, 8, 9, 16, 32].as_slice());
     assert!(rt; it.count == Ok(5));
@@ -104,10 +104,10 @@ fn a_part_that_changed(rt: HostRuntime) -> Result<(), Fail> {
         part: 1,
         fault: StretchFault::Changed,
     };
-    let it = passed(rt.alloc(), &[ORDERED, UNORDERED], &[ORDERED, cut])?;
+    let it = pass_over(rt.alloc(), &[ORDERED, UNORDERED], &[ORDERED, cut])?;
     assert!(rt; it.outcome == Err(PassStop::Lost(changed)));
     assert!(rt; it.count == Err(changed));
-    let it = passed(rt.alloc(), &[ORDERED, UNORDERED], &[ORDERED])?;
+    let it = pass_over(rt.alloc(), &[ORDERED, UNORDERED], &[ORDERED])?;
     assert!(rt; it.outcome == Err(PassStop::Lost(changed)));
     assert!(rt; it.ids.is_empty());
     Ok(())
@@ -116,7 +116,7 @@ fn a_part_that_changed(rt: HostRuntime) -> Result<(), Fail> {
 #[test]
 fn two_contents(rt: HostRuntime) -> Result<(), Fail> {
     let parts: &[&[u8]] = &[ORDERED, OTHER_OBJECT, UNORDERED];
-    let it = passed(rt.alloc(), parts, parts)?;
+    let it = pass_over(rt.alloc(), parts, parts)?;
     assert!(rt; it.outcome == Err(PassStop::Lost(PassFault::TwoContents(8))));
     assert_eq!(rt; it.ids.as_slice(), [7].as_slice());
     assert!(rt; it.count == Err(PassFault::TwoContents(8)));
@@ -125,11 +125,11 @@ fn two_contents(rt: HostRuntime) -> Result<(), Fail> {
 
 #[test]
 fn one_stretch_is_counted_unread(rt: HostRuntime) -> Result<(), Fail> {
-    let it = passed(rt.alloc(), &[ORDERED], &[ORDERED])?;
+    let it = pass_over(rt.alloc(), &[ORDERED], &[ORDERED])?;
     assert!(rt; it.outcome == Ok(()));
     assert_eq!(rt; it.ids.as_slice(), [16, 32].as_slice());
     assert!(rt; it.count == Ok(2));
-    let it = passed(rt.alloc(), &[ORDERED], &[])?;
+    let it = pass_over(rt.alloc(), &[ORDERED], &[])?;
     assert!(rt; it.count == Ok(2));
     Ok(())
 }

@@ -4,7 +4,7 @@ use hprof_items::Fact;
 use hprof_passes::ObjectSink;
 use hprof_values::IdSize;
 
-/// One object more is more than a `u64` counts.
+/// The reason why an object is refused: the count is the greatest `u64`.
 #[derive(Clone, Copy, Debug, PartialEq, Eq)]
 pub(crate) struct CountFull;
 
