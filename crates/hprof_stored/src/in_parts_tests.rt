@@ -47,8 +47,8 @@ struct Passed {
     count: Result<u64, PassFault>,
 }
 
-/// Reads the parts, and passes over their objects, where these are the parts that can be opened again.
-fn pass_over(alloc: Global, parts: &[&[u8]], again: &[&[u8]]) -> Result<Passed, Fail> {
+/// Reads the parts, and passes over their objects. The parts are opened again from `again`.
+fn pass_over<'a>(alloc: Global, parts: &[&'a [u8]], again: &[&'a [u8]]) -> Result<Passed, Fail> {
     let mut readers = readers_of(alloc, parts)?;
     let limits = Limits::usual();
     let mut kept = ();
