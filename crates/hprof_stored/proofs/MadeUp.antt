@@ -17,6 +17,7 @@ use Rattle.hprof_merge.specs.Union.{IsUnion}
 use Rattle.hprof_objects.specs.ObjectRows.{object_rows}
 use Rattle.hprof_objects.specs.StoredObjects.{objects_of}
 use Rattle.hprof_objects.specs.Whole.{AreObjects, FitGiven, is_object, rows_given, with_objects, without_objects}
+use Rattle.hprof_objects.proofs.Whole.{others_given}
 use Rattle.hprof_engine.specs.Joining.{Agree, AreGiven, Disagree}
 use Rattle.hprof_engine.specs.Outcome.{ComesTo, OneHeap, Outcome}
 use Rattle.hprof_engine.proofs.Answers.{agree, disagree, given_by_parts}
@@ -28,7 +29,7 @@ use Rattle.hprof_stored.specs.declared.stored_heap.StoredHeap.{StoredHeap}
 use Rattle.hprof_stored.specs.InParts.{AreAsRead, AreStoredOf, HaveUnion, MakeUp, limits_under, objects_under, parts_under}
 use Rattle.hprof_stored.specs.Parts.{AreStored, PartStored, all_read, given_of}
 use Rattle.hprof_stored.proofs.Joined.{ComeLast, StandBehind, TellWhole, by_all, by_parts, fits, rows_same, same_ids, told_again}
-use Rattle.hprof_stored.proofs.ObjectTable.{among_all, no_object_given, other_tables}
+use Rattle.hprof_stored.proofs.ObjectTable.{among_all, other_tables}
 
 -- the objects among facts in canonical order, which are those of parts, are the union of the objects of the parts
 abbrev pub InOrder : Type 0
@@ -90,7 +91,7 @@ module _ {R S P : Type 0} (left : R → Option (List ℕ)) (written : S → Opti
     pub made_up : MakeUp written health bytes it heap.ids heap.facts (heap.facts ++ stored_objects.0)
     made_up =
         let none : (fact : FactValue) → Has heap.facts fact → is_object fact ≡ false =
-        λ fact has. no_object_given given fact ((are.holds.tells.3 fact).0 has) in
+        λ fact has. (others_given given fact ((are.holds.tells.3 fact).0 has)).1 in
         record {
           reads = all_read parts;
           as_read = as_read;

@@ -1,5 +1,5 @@
 -- The tables of facts that are no objects, with objects behind them.
-use Rattle.std.proofs.Common.{◌≡◌, ℕ, Bool, true, false, not, cond, List, [], ◌∷◌, ◌++◌, map, inl, inr, refl, sym, ap, subst}
+use Rattle.std.proofs.Common.{◌≡◌, ℕ, Bool, true, false, cond, List, [], ◌∷◌, ◌++◌, inl, inr, refl, ap}
 use Rattle.std.proofs.Common.{◌∙◌, append-nil}
 use Rattle.std.specs.Prelude.{◌==◌, ◌≢◌, slice_index}
 use Rattle.std.specs.List.{filter}
@@ -14,9 +14,7 @@ use Rattle.hprof_rows.specs.Facts.{Has}
 use Rattle.hprof_rows.specs.Order.{order_of}
 use Rattle.hprof_rows.specs.Tables.{facts_of_table, number_of_table, stands_in}
 use Rattle.hprof_merge.specs.Rows.{ByteRow}
-use Rattle.hprof_heap.specs.Gathering.{Given, all_given}
-use Rattle.hprof_objects.specs.Whole.{AreObjects, is_object, no_objects, without_objects}
-use Rattle.hprof_engine.proofs.PartByPart.{has_of, image_of}
+use Rattle.hprof_objects.specs.Whole.{AreObjects, is_object}
 use Rattle.hprof_passes.specs.Passing.{objects_among}
 use Rattle.hprof_stored.proofs.ObjectSpelling.{row_spells}
 
@@ -98,22 +96,3 @@ module _ (ids : IdSize) (facts objects : List FactValue) (rows : List ByteRow) (
       ∙ ap (λ (l : List FactValue). filter test facts ++ l)
       (none_passes test objects (λ fact has. in_no_other fact (are_objects ids rows objects are fact has) table other))
       ∙ append-nil (filter test facts)
-
--- ---- facts that were given
-
-no_object_among : (facts : List FactValue) (fact : FactValue) → Has (no_objects facts) fact → is_object fact ≡ false
-no_object_among [] fact has = absurd has
-no_object_among (first ∷ facts) fact has = by (is_object first) refl has (no_object_among facts fact)
-  where
-    by : (is : Bool) → is_object first ≡ is → Has (cond (not is) (first ∷ no_objects facts) (no_objects facts)) fact
-        → (Has (no_objects facts) fact → is_object fact ≡ false) → is_object fact ≡ false
-    by true e has next = next has
-    by false e (inl same) next = ap is_object same ∙ e
-    by false e (inr has) next = next has
-
--- without objects, parts were given none
-pub no_object_given : (parts : List Given) (fact : FactValue) → Has (all_given (map without_objects parts)) fact → is_object fact ≡ false
-no_object_given parts fact has =
-    let one = has_of (λ (part : Given). part.facts) (map without_objects parts) fact has in
-    let from = image_of without_objects parts one.0 one.1 in
-    no_object_among from.0.facts fact (subst (λ (part : Given). Has part.facts fact) (sym from.2) one.2)
