@@ -179,8 +179,8 @@ class Blocks(Tested):
         with heap.rows("objects", "byte[]") as rows:
             self.assertEqual(rows.skip(400_000), 400_000)
             self.assertEqual(next(rows), (9, 400_000))
-            self.assertEqual(sum(1 for _ in itertools.islice(rows, 100_000)), 100_000)
-            self.assertEqual(rows.rest(), 499_999)
+            self.assertEqual(sum(1 for _ in itertools.islice(rows, 10_000)), 10_000)
+            self.assertEqual(rows.rest(), 589_999)
         self.assertLess(tracemalloc.get_traced_memory()[1], 8_000_000)
 
     def test_the_program_ends_within_an_answer(self):
