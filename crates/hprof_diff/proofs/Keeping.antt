@@ -10,44 +10,34 @@ use Rattle.hprof_diff.specs.declared.part.Source.{Source}
 use Rattle.hprof_diff.specs.declared.label_counts.LabelCounts.{LabelCounts}
 use Rattle.hprof_meaning.specs.BareLabels.{AreBareLabels}
 use Rattle.hprof_diff.specs.Labels.{kind_label}
-use Rattle.hprof_diff.specs.Sources.{AreSourceLabels, FitsCounted, IsPart, IsSourceLabel, both, counted_of_row, nothing, parts_under}
-use Rattle.hprof_diff.specs.Sources.{rows_under, sum_of, sum_of_parts}
+use Rattle.hprof_diff.specs.Sources.{AreSourceLabels, IsPart, IsSourceLabel, both, counted_of_row, nothing, parts_under, rows_under}
 use Rattle.hprof_diff.specs.Kept.{AreKept, kept_in}
-use Rattle.hprof_diff.proofs.Sums.{both_assoc, both_comm, both_nothing, has_it, has_not, if_has, moved_more, nothing_both, room_alone}
-use Rattle.hprof_diff.proofs.Sums.{under_cons, under_fits}
-use Rattle.hprof_diff.specs.LabelTexts.{label_of_kind, one_source_label, source_labels_exist}
+use Rattle.hprof_diff.proofs.Sums.{both_assoc, both_nothing, has_it, has_not, if_has, moved_more, nothing_both, under_cons}
+use Rattle.hprof_diff.specs.LabelTexts.{label_of_kind, one_source_label}
 
 -- ---- rows that become parts
 
 -- the parts so far, and then the rows that are left, have what all rows have
-pub record ArePartsTo (facts : List FactValue) (all : List Row) (parts : List Part) (left : List Row) : Type 0 where
-  pub labelled : (label : Source → List ℕ) (class_label : ℕ → List ℕ) → AreSourceLabels facts label → AreBareLabels facts class_label
-      → (text : List ℕ) → both (parts_under label text parts) (rows_under class_label text left) ≡ rows_under class_label text all
-  pub sums : both (sum_of_parts parts) (sum_of counted_of_row left) ≡ sum_of counted_of_row all
+abbrev pub ArePartsTo : List FactValue → List Row → List Part → List Row → Type 0
+ArePartsTo facts all parts left = (label : Source → List ℕ) (class_label : ℕ → List ℕ) → AreSourceLabels facts label
+    → AreBareLabels facts class_label → (text : List ℕ)
+    → both (parts_under label text parts) (rows_under class_label text left) ≡ rows_under class_label text all
 
 pub parts_begin : (facts : List FactValue) (rows left : List Row) (parts : List Part) → parts ≡ [] → left ≡ rows
     → ArePartsTo facts rows parts left
-parts_begin facts rows left parts none e = subst (λ (p : List Part). ArePartsTo facts rows p left) (sym none) (record {
-  labelled = λ label class_label are are_too text. nothing_both (rows_under class_label text left) ∙ ap (rows_under class_label text) e;
-  sums = nothing_both (sum_of counted_of_row left) ∙ ap (sum_of counted_of_row) e;
-})
+parts_begin facts rows left parts none e = subst (λ (p : List Part). ArePartsTo facts rows p left) (sym none)
+    (λ label class_label are are_too text. nothing_both (rows_under class_label text left) ∙ ap (rows_under class_label text) e)
 
 pub parts_more : (facts : List FactValue) → IsConsistent facts
     → (all left rest : List Row) (parts after : List Part) (row : Row) (part : Part)
     → IsPart facts row part → left ≡ row ∷ rest → after ≡ parts ++ part ∷ [] → ArePartsTo facts all parts left
     → ArePartsTo facts all after rest
 parts_more facts agree all left rest parts after row part is taken pushed to =
-    subst (λ (p : List Part). ArePartsTo facts all p rest) (sym pushed) (record {
-      labelled = λ label class_label are are_too text.
-          moved_more (λ (p : Part). label p.source) (λ (p : Part). p.counted)
-          (λ (r : Row). kind_label class_label r.kind) counted_of_row text
-          parts part row rest (label_of_kind facts agree label class_label are are_too row.kind part.source is.source) is.counted
-          ∙ ap (λ (l : List Row). both (parts_under label text parts) (rows_under class_label text l)) (sym taken)
-          ∙ to.labelled label class_label are are_too text;
-      sums =
-          moved_more (λ (p : Part). []) (λ (p : Part). p.counted) (λ (r : Row). []) counted_of_row [] parts part row rest refl is.counted
-          ∙ ap (λ (l : List Row). both (sum_of_parts parts) (sum_of counted_of_row l)) (sym taken) ∙ to.sums;
-    })
+    subst (λ (p : List Part). ArePartsTo facts all p rest) (sym pushed) (λ label class_label are are_too text.
+    moved_more (λ (p : Part). label p.source) (λ (p : Part). p.counted) (λ (r : Row). kind_label class_label r.kind) counted_of_row text
+    parts part row rest (label_of_kind facts agree label class_label are are_too row.kind part.source is.source) is.counted
+    ∙ ap (λ (l : List Row). both (parts_under label text parts) (rows_under class_label text l)) (sym taken)
+    ∙ to label class_label are are_too text)
 
 pub parts_end : (facts : List FactValue) (all left : List Row) (parts : List Part) → left ≡ [] → ArePartsTo facts all parts left
     → ArePartsTo facts all parts []
@@ -57,11 +47,7 @@ pub parts_labelled : (facts : List FactValue) (all : List Row) (parts : List Par
     → (label : Source → List ℕ) (class_label : ℕ → List ℕ) → AreSourceLabels facts label → AreBareLabels facts class_label
     → (text : List ℕ) → parts_under label text parts ≡ rows_under class_label text all
 parts_labelled facts all parts to label class_label are are_too text =
-    sym (both_nothing (parts_under label text parts)) ∙ to.labelled label class_label are are_too text
-
-pub parts_sums : (facts : List FactValue) (all : List Row) (parts : List Part) → ArePartsTo facts all parts []
-    → sum_of_parts parts ≡ sum_of counted_of_row all
-parts_sums facts all parts to = sym (both_nothing (sum_of_parts parts)) ∙ to.sums
+    sym (both_nothing (parts_under label text parts)) ∙ to label class_label are are_too text
 
 -- ---- a run of parts of one source
 
@@ -99,32 +85,6 @@ run_more all left rest sum part after taken same is to label text =
     ∙ sym (under_cons by counted text sum left)
     ∙ to label text
 
--- the sums of a run are those of all
-run_sums : (all left : List Part) (sum : Part) → IsRunTo all sum left → sum_of_parts (sum ∷ left) ≡ sum_of_parts all
-run_sums all left sum to = to (λ source. []) []
-
-sums_cons : (part : Part) (parts : List Part) → sum_of_parts (part ∷ parts) ≡ both part.counted (sum_of_parts parts)
-sums_cons part parts =
-    under_cons (λ (p : Part). []) (λ (p : Part). p.counted) [] part parts
-    ∙ ap (λ (c : Counted). both c (sum_of_parts parts)) (has_it part.counted)
-
--- the next one of the run has room
-pub run_room : (all left rest : List Part) (sum part : Part) → FitsCounted (sum_of_parts all) → left ≡ part ∷ rest → IsRunTo all sum left
-    → FitsCounted (both sum.counted part.counted)
-run_room all left rest sum part room taken to =
-    room_alone (both sum.counted part.counted) (sum_of_parts rest) (sum_of_parts all)
-    (both_assoc sum.counted part.counted (sum_of_parts rest)
-    ∙ ap (both sum.counted) (sym (sums_cons part rest) ∙ ap sum_of_parts (sym taken))
-    ∙ sym (sums_cons sum left) ∙ run_sums all left sum to)
-    room
-
--- what is behind a run has room
-pub room_behind : (all left : List Part) (sum : Part) → FitsCounted (sum_of_parts all) → IsRunTo all sum left
-    → FitsCounted (sum_of_parts left)
-room_behind all left sum room to =
-    room_alone (sum_of_parts left) sum.counted (sum_of_parts all)
-    (both_comm (sum_of_parts left) sum.counted ∙ sym (sums_cons sum left) ∙ run_sums all left sum to) room
-
 -- ---- parts that are kept
 
 -- what is kept, and then the parts that are left, is what all parts have
@@ -156,21 +116,7 @@ module _ (facts : List FactValue) (agree : IsConsistent facts) (all left behind 
       (sym (under_cons (λ (p : Part). label p.source) (λ (p : Part). p.counted) t part behind) ∙ run label t)
       ∙ to label are t
 
-  -- what is added has room
-  pub kept_room : bytes_eq text text ≡ true → FitsCounted (sum_of_parts all) → FitsCounted (both (kept_in old text) part.counted)
-  kept_room equal room =
-      let chosen = source_labels_exist facts in
-      let label = chosen.0 in
-      let under = parts_under label text behind in
-      let e : both (kept_in old text) (both part.counted under) ≡ parts_under label text all =
-      ap (λ (c : Counted). both (kept_in old text) (both c under))
-      (sym (ap (λ (b : Bool). if_has b part.counted) equal ∙ has_it part.counted))
-      ∙ taken_from label chosen.1 text in
-      room_alone (both (kept_in old text) part.counted) under (parts_under label text all)
-      (both_assoc (kept_in old text) part.counted under ∙ e)
-      (under_fits (λ (p : Part). label p.source) (λ (p : Part). p.counted) text all room)
-
-  -- and is kept
+  -- what is added is kept
   pub kept_more : (new : LabelCounts) → ((t : List ℕ) → kept_in new t
       ≡ cond (bytes_eq text t) (both (kept_in old t) part.counted) (kept_in old t)) → AreKeptTo facts all new behind
   kept_more new adds label are t = by_test (bytes_eq text t) (adds t) (taken_from label are t) where

@@ -1,5 +1,4 @@
 pub mod NextChange
 pub mod Sums
-pub mod RowSums
 pub mod Keeping
 pub mod OfHeap

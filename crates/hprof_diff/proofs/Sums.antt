@@ -1,12 +1,12 @@
 -- Sums of what has a label, and of all.
-use Rattle.std.proofs.Common.{◌≡◌, ℕ, ◌+◌, ◌≤◌, Bool, true, false, cond, List, [], ◌∷◌, ◌++◌, refl, sym, ap, ◌∙◌, arith}
+use Rattle.std.proofs.Common.{◌≡◌, ℕ, ◌+◌, Bool, true, false, cond, List, [], ◌∷◌, ◌++◌, refl, sym, ap, ◌∙◌, arith}
 use Rattle.std.specs.Prelude.{bytes_eq}
 use Rattle.std.specs.List.{filter, sum_by}
 use Rattle.std.specs.List.Sorted.{IsPermutation}
 use Rattle.std.proofs.lemmas.List.Sorted.{sum_by-IsPermutation}
-use Rattle.std.proofs.lemmas.List.Sums.{sum_by-cons, sum_by_push, sum_by-le-sum_by}
+use Rattle.std.proofs.lemmas.List.Sums.{sum_by-cons, sum_by_push}
 use Rattle.hprof_diff.specs.declared.counted.Counted.{Counted}
-use Rattle.hprof_diff.specs.Sources.{FitsCounted, both, nothing, sum_of, sum_under}
+use Rattle.hprof_diff.specs.Sources.{both, nothing, sum_under}
 
 -- ---- two numbers
 
@@ -22,26 +22,11 @@ nothing_both counted =
     let bytes : 0 + counted.bytes ≡ counted.bytes = omega arith in
     λ i. record { count = count i; bytes = bytes i }
 
-pub both_comm : (these those : Counted) → both these those ≡ both those these
-both_comm these those =
-    let count : these.count + those.count ≡ those.count + these.count = omega arith in
-    let bytes : these.bytes + those.bytes ≡ those.bytes + these.bytes = omega arith in
-    λ i. record { count = count i; bytes = bytes i }
-
 pub both_assoc : (these those more : Counted) → both (both these those) more ≡ both these (both those more)
 both_assoc these those more =
     let count : these.count + those.count + more.count ≡ these.count + (those.count + more.count) = omega arith in
     let bytes : these.bytes + those.bytes + more.bytes ≡ these.bytes + (those.bytes + more.bytes) = omega arith in
     λ i. record { count = count i; bytes = bytes i }
-
--- what has room together has room alone
-pub room_alone : (these those all : Counted) → both these those ≡ all → FitsCounted all → FitsCounted these
-room_alone these those all e room =
-    let count : these.count + those.count ≡ all.count = ap (λ (c : Counted). c.count) e in
-    let bytes : these.bytes + those.bytes ≡ all.bytes = ap (λ (c : Counted). c.bytes) e in
-    let fits = room.count in
-    let fits_too = room.bytes in
-    record { count = omega arith; bytes = omega arith }
 
 -- these, or none
 pub if_has : Bool → Counted → Counted
@@ -64,10 +49,6 @@ bytes_if : (b : Bool) (counted : Counted) → cond b counted.bytes 0 ≡ (if_has
 unfolding if_has
 bytes_if true counted = refl
 bytes_if false counted = refl
-
-at_most : (b : Bool) (n : ℕ) → cond b n 0 ≤ n
-at_most true n = omega arith
-at_most false n = omega arith
 
 -- ---- one more
 
@@ -100,13 +81,6 @@ module _ {X : Type 0} (label : X → List ℕ) (counted : X → Counted) (text :
       let count = sum_by-IsPermutation count_of_one xs ys moved in
       let bytes = sum_by-IsPermutation bytes_of_one xs ys moved in
       λ i. record { count = count i; bytes = bytes i }
-
-  -- what has a label has room where all has room
-  pub under_fits : (xs : List X) → FitsCounted (sum_of counted xs) → FitsCounted (sum_under label counted text xs)
-  under_fits xs room =
-      let count = sum_by-le-sum_by count_of_one (λ x. (counted x).count) xs (λ x. at_most (bytes_eq (label x) text) (counted x).count) in
-      let bytes = sum_by-le-sum_by bytes_of_one (λ x. (counted x).bytes) xs (λ x. at_most (bytes_eq (label x) text) (counted x).bytes) in
-      record { count = omega (arith, count, room.count); bytes = omega (arith, bytes, room.bytes) }
 
 -- one goes from the front of what is left to the end of what is done
 pub moved_more : {X Y : Type 0} (label : X → List ℕ) (counted : X → Counted) (label_too : Y → List ℕ) (counted_too : Y → Counted)

@@ -1,5 +1,5 @@
 -- Rows by the source of their labels, and what objects are counted together.
-use Rattle.std.specs.Prelude.{◌≡◌, ◌+◌, ◌<◌, ◌^◌, ℕ, List, ◌++◌, Option, None, cond, codes, sum_by, bytes_eq}
+use Rattle.std.specs.Prelude.{◌≡◌, ◌+◌, ℕ, List, ◌++◌, Option, None, cond, codes, sum_by, bytes_eq}
 use Rattle.hprof_items.specs.FactValue.{FactValue}
 use Rattle.hprof_heap.specs.ClassName.{NamesClass}
 use Rattle.hprof_histogram.specs.declared.row.Kind.{Kind}
@@ -20,11 +20,6 @@ nothing = record { count = 0; bytes = 0 }
 -- these objects and those
 abbrev pub both : Counted → Counted → Counted
 both these those = record { count = these.count + those.count; bytes = these.bytes + those.bytes }
-
--- numbers that have room where they are kept
-pub record FitsCounted (counted : Counted) : Type 0 where
-  pub count : counted.count < 2 ^ 128
-  pub bytes : counted.bytes < 2 ^ 128
 
 -- the objects of a row
 abbrev pub counted_of_row : Row → Counted
@@ -62,10 +57,6 @@ sum_under label counted text xs = record {
   bytes = sum_by (λ x. cond (bytes_eq (label x) text) (counted x).bytes 0) xs;
 }
 
--- the objects of all
-abbrev pub sum_of : {X : Type 0} → (X → Counted) → List X → Counted
-sum_of counted xs = record { count = sum_by (λ x. (counted x).count) xs; bytes = sum_by (λ x. (counted x).bytes) xs }
-
 -- the objects of the rows with that label
 abbrev pub rows_under : (ℕ → List ℕ) → List ℕ → List Row → Counted
 rows_under label text rows = sum_under (λ row. kind_label label row.kind) counted_of_row text rows
@@ -73,7 +64,3 @@ rows_under label text rows = sum_under (λ row. kind_label label row.kind) count
 -- the objects of the parts with that label
 abbrev pub parts_under : (Source → List ℕ) → List ℕ → List Part → Counted
 parts_under label text parts = sum_under (λ part. label part.source) (λ part. part.counted) text parts
-
--- the objects of all parts
-abbrev pub sum_of_parts : List Part → Counted
-sum_of_parts parts = sum_of (λ part. part.counted) parts

@@ -8,8 +8,8 @@ pub(crate) struct Counted {
 }
 
 impl Counted {
-    ghost use Rattle.std.specs.Prelude.{◌≡◌};
-    ghost use Rattle.hprof_diff.specs.Sources.{FitsCounted, both, nothing};
+    ghost use Rattle.std.specs.Prelude.{◌≡◌, IfSome};
+    ghost use Rattle.hprof_diff.specs.Sources.{both, nothing};
 
     /// Returns the count of no objects.
     pub(crate) fn nothing() -> Counted
@@ -18,14 +18,12 @@ impl Counted {
         Counted { count: 0, bytes: 0 }
     }
 
-    /// Returns the count of these objects and others.
-    pub(crate) fn with(self, others: Counted) -> Counted
-        requires { FitsCounted (both self others) }
-        ensures { result ≡ both self others }
+    /// Returns the count of these objects and others, or `None` if a number has no room for it.
+    pub(crate) fn with(self, others: Counted) -> Option<Counted>
+        ensures { IfSome result (λ counted. counted ≡ both self others) }
     {
-        Counted {
-            count: self.count + others.count,
-            bytes: self.bytes + others.bytes,
-        }
+        let count = self.count.checked_add(others.count)?;
+        let bytes = self.bytes.checked_add(others.bytes)?;
+        Some(Counted { count, bytes })
     }
 }

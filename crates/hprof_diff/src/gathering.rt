@@ -5,7 +5,7 @@ ghost use Rattle.hprof_heap.specs.HeapFacts.{facts_of};
 ghost use Rattle.hprof_naming.specs.ClassNames.{AreClassNames};
 ghost use Rattle.hprof_diff.specs.declared.part.Source.{Source};
 ghost use Rattle.hprof_meaning.specs.BareLabels.{AreBareLabels};
-ghost use Rattle.hprof_diff.specs.Sources.{AreSourceLabels, IsPart, counted_of_row, parts_under, rows_under, sum_of, sum_of_parts};
+ghost use Rattle.hprof_diff.specs.Sources.{AreSourceLabels, IsPart, parts_under, rows_under};
 
 use crate::counted::Counted;
 use crate::part::{Part, Source};
@@ -43,7 +43,6 @@ pub(crate) fn parts_of(
         → AreSourceLabels (facts_of heap.now) label
         → AreBareLabels (facts_of heap.now) class_label → (text : List ℕ)
         → parts_under label text parts.items ≡ rows_under class_label text rows.now) }
-    ensures all { IfOk result (λ parts. sum_of_parts parts.items ≡ sum_of counted_of_row rows.now) }
 {
     holds_of_heap(heap);
     let mut parts = Vec::with_capacity(alloc, rows.len())?;

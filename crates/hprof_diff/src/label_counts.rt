@@ -5,8 +5,9 @@ use crate::gathering::parts_of;
 use crate::labels::source_label;
 use crate::part::{Part, first_run, sort_parts};
 use hprof_heap::{Heap, holds_of_heap};
-use hprof_histogram::histogram;
+use hprof_histogram::{Row, histogram_over};
 use hprof_naming::ClassNames;
+use hprof_passes::{InHeap, Objects, PassStop};
 use std::alloc::{AllocError, Global};
 use std::collections::BTreeMap;
 
@@ -19,9 +20,13 @@ pub struct LabelCounts {
 
 impl LabelCounts {
     ghost use Rattle.std.specs.Prelude.{◌≡◌, ℕ, List, IfOk, OnOk, cond, bytes_eq, string_bytes};
+    ghost use Rattle.hprof_items.specs.FactValue.{FactValue};
     ghost use Rattle.hprof_heap.specs.HeapFacts.{facts_of, size_of};
+    ghost use Rattle.hprof_passes.specs.Finding.{Finds};
+    ghost use Rattle.hprof_passes.specs.Passing.{IsWhole};
+    ghost use Rattle.hprof_histogram.specs.Histogram.{IsHistogram};
     ghost use Rattle.hprof_diff.specs.Counts.{AreTotals};
-    ghost use Rattle.hprof_diff.specs.Sources.{FitsCounted, both, nothing, sum_of_parts};
+    ghost use Rattle.hprof_diff.specs.Sources.{both, nothing};
     ghost use Rattle.hprof_diff.specs.Kept.{AreKept, has_label, kept_in, totals_in};
 
     /// Returns the counts of no objects.
@@ -52,18 +57,18 @@ impl LabelCounts {
 
     /// Adds objects to the count of a label.
     fn add(&mut self, label: String, counted: Counted) -> Result<(), AllocError>
-        requires { FitsCounted (both (kept_in self.old (string_bytes label)) counted) }
         ensures { OnOk result ((text : List ℕ) → kept_in self.new text
             ≡ cond (bytes_eq (string_bytes label) text) (both (kept_in self.old text) counted) (kept_in self.old text)) }
     {
-        let sum = self.counted(label.as_str()).with(counted);
+        let Some(sum) = self.counted(label.as_str()).with(counted) else {
+            return Err(AllocError);
+        };
         self.labels.insert(label, sum)?;
         Ok(())
     }
 
     /// Returns the counts of parts, by label. Consecutive parts with the same source are labelled once.
     fn of_parts(alloc: Global, heap: &Heap, parts: &[Part]) -> Result<LabelCounts, AllocError>
-        requires { FitsCounted (sum_of_parts parts.now) }
         ensures { IfOk result (AreKept (facts_of heap.now) parts.now) }
     {
         holds_of_heap(heap);
@@ -78,18 +83,53 @@ impl LabelCounts {
         Ok(counts)
     }
 
-    /// Returns the counts of a heap's objects, by the labels of their kinds. If memory runs out, the answer is `AllocError`.
+    /// Returns the counts of the rows of a histogram, by the labels of their kinds.
+    fn of_rows(alloc: Global, heap: &Heap, rows: &[Row]) -> Result<LabelCounts, AllocError>
+        ensures { (all : List FactValue) → IsWhole (size_of heap.now) (facts_of heap.now) all → IsHistogram (size_of heap.now) all rows.now
+            → IfOk result (λ counts. AreTotals (size_of heap.now) all (totals_in counts)) }
+    {
+        let names = ClassNames::of(alloc, heap)?;
+        let mut parts = parts_of(alloc, heap, &names, rows)?;
+        sort_parts(&mut parts);
+        LabelCounts::of_parts(alloc, heap, &parts)
+    }
+
+    /// Returns the counts of objects, by the labels of their kinds. The heap has all other facts.
     ///
     /// The label of a class is the printed form of its name, or `\?` if it has no load or the heap does not have its name. Classes with the
     /// same label are counted together, and so are arrays of a type and a class whose label reads the same.
+    ///
+    /// # Errors
+    ///
+    /// - `Sink`: memory ran out, or there are more objects than a number can count.
+    /// - `Lost`: the objects cannot be gone through.
+    pub fn over<O: Objects>(
+        alloc: Global,
+        heap: &Heap,
+        objects: &O,
+    ) -> Result<LabelCounts, PassStop<AllocError, O::Fault>>
+        ensures { Finds (O.make_up objects.now (size_of heap.now) (facts_of heap.now))
+            (O.agree objects.now (size_of heap.now) (facts_of heap.now)) (O.tells objects.now (size_of heap.now) (facts_of heap.now))
+            (λ all counts. AreTotals (size_of heap.now) all (totals_in counts)) result }
+    {
+        let rows = match histogram_over(alloc, heap, objects) {
+            Ok(rows) => rows,
+            Err(stop) => return Err(stop),
+        };
+        match LabelCounts::of_rows(alloc, heap, &rows) {
+            Ok(counts) => Ok(counts),
+            Err(fault) => Err(PassStop::Sink(fault)),
+        }
+    }
+
+    /// Returns the counts of a heap with its objects in memory, as `over` does. If memory runs out, the answer is `AllocError`.
     pub fn of(alloc: Global, heap: &Heap) -> Result<LabelCounts, AllocError>
         ensures { IfOk result (λ counts. AreTotals (size_of heap.now) (facts_of heap.now) (totals_in counts)) }
     {
         holds_of_heap(heap);
-        let rows = histogram(alloc, heap)?;
-        let names = ClassNames::of(alloc, heap)?;
-        let mut parts = parts_of(alloc, heap, &names, &rows)?;
-        sort_parts(&mut parts);
-        LabelCounts::of_parts(alloc, heap, &parts)
+        match LabelCounts::over(alloc, heap, &InHeap) {
+            Ok(counts) => Ok(counts),
+            Err(stop) => Err(stop.of_sink()),
+        }
     }
 }

@@ -47,7 +47,7 @@ pub(crate) struct Part {
 ghost use Rattle.std.specs.Prelude.{◌≡◌, ◌≤◌, ℕ, List, ◌∷◌, length};
 ghost use Rattle.std.specs.List.Sorted.{IsPermutation};
 ghost use Rattle.hprof_diff.specs.declared.part.Source.{Source};
-ghost use Rattle.hprof_diff.specs.Sources.{FitsCounted, parts_under, sum_of_parts};
+ghost use Rattle.hprof_diff.specs.Sources.{parts_under};
 
 /// Sorts parts so that those with the same name are consecutive. Allocates nothing.
 pub(crate) fn sort_parts(parts: &mut Vec<Part>)
@@ -56,9 +56,8 @@ pub(crate) fn sort_parts(parts: &mut Vec<Part>)
     parts.sort_unstable_by_key(|part| part.source.name());
 }
 
-/// Returns the sum of a part and the parts after it with the same source, and the parts that are left.
+/// Returns the sum of a part and of parts after it with the same source, as many as a number can count, and the parts that are left.
 pub(crate) fn first_run<'a>(first: Part, parts: &'a [Part]) -> (Part, &'a [Part])
-    requires { FitsCounted (sum_of_parts (first ∷ parts.now)) }
     ensures same { (label : Source → List ℕ) (text : List ℕ)
         → parts_under label text (result.0 ∷ result.1.now) ≡ parts_under label text (first ∷ parts.now) }
     ensures shorter { length result.1.now ≤ length parts.now }
@@ -69,7 +68,10 @@ pub(crate) fn first_run<'a>(first: Part, parts: &'a [Part]) -> (Part, &'a [Part]
         if !part.source.is_same(sum.source) {
             return (sum, rest);
         }
-        sum.counted = sum.counted.with(part.counted);
+        let Some(counted) = sum.counted.with(part.counted) else {
+            return (sum, rest);
+        };
+        sum.counted = counted;
         rest = after;
     }
     (sum, rest)

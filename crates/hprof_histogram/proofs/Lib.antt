@@ -9,5 +9,7 @@ pub mod CandidateRows
 pub mod HistogramRows
 pub mod SomeHistogram
 pub mod KindObjects
+pub mod ChosenObjects
+pub mod Halves
 pub mod ObjectOrder
 pub mod Ordered

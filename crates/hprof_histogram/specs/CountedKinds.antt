@@ -1,5 +1,5 @@
 -- What was counted.
-use Rattle.std.specs.Prelude.{◌<◌, ◌+◌, ◌^◌, ◌≡◌, ℕ, List, [], ◌∷◌, Bool, nat_lt, length, sum_by, unwrap_or, map, slice_index_or}
+use Rattle.std.specs.Prelude.{◌+◌, ◌≡◌, ℕ, List, [], ◌∷◌, Bool, cond, nat_lt, length, sum_by, unwrap_or, map, slice_index_or}
 use Rattle.hprof_tables.specs.declared.hinted_map.HintedMap.{HintedMap}
 use Rattle.hprof_tables.specs.HintedMap.{value_in}
 use Rattle.hprof_values.specs.declared.ids.IdSize.{IdSize}
@@ -12,7 +12,7 @@ use Rattle.hprof_histogram.specs.declared.row.Kind.TheVariants.{Class, Prim}
 use Rattle.hprof_histogram.specs.declared.row.Row.{Row}
 use Rattle.hprof_histogram.specs.declared.counted.Counted.{Counted}
 use Rattle.hprof_histogram.specs.declared.counted_kinds.CountedKinds.{CountedKinds}
-use Rattle.hprof_histogram.specs.Histogram.{of_kind, size_of_object}
+use Rattle.hprof_histogram.specs.Histogram.{is_kind, object_kind, of_kind, size_of_object}
 
 -- no objects
 abbrev pub nothing : Counted
@@ -25,11 +25,6 @@ both these those = record { count = these.count + those.count; bytes = these.byt
 -- one object of that size
 abbrev pub one_of : ℕ → Counted
 one_of size = record { count = 1; bytes = size }
-
--- numbers that have room where they are kept
-pub record FitsCounts (counted : Counted) : Type 0 where
-  pub count : counted.count < 2 ^ 64
-  pub bytes : counted.bytes < 2 ^ 128
 
 -- the objects of a kind among facts
 abbrev pub counted_of : IdSize → Kind → List FactValue → Counted
@@ -48,6 +43,11 @@ type_of types elem = slice_index_or types (code_of_basic elem) nothing
 abbrev pub counted_in : CountedKinds → Kind → Counted
 counted_in tally (Class class) = kept_of tally.classes class
 counted_in tally (Prim elem) = type_of tally.types elem
+
+-- an object is counted among those of its kind
+abbrev pub CountsObject : CountedKinds → IdSize → FactValue → CountedKinds → Type 0
+CountsObject old ids object new = (kind : Kind) → counted_in new kind
+    ≡ cond (is_kind kind (object_kind object)) (both (counted_in old kind) (one_of (size_of_object ids object))) (counted_in old kind)
 
 -- the tally has the objects among these facts, of each kind
 abbrev pub IsTally : IdSize → List FactValue → CountedKinds → Type 0

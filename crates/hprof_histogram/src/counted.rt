@@ -10,8 +10,8 @@ pub struct Counted {
 }
 
 impl Counted {
-    ghost use Rattle.std.specs.Prelude.{◌≡◌};
-    ghost use Rattle.hprof_histogram.specs.CountedKinds.{FitsCounts, both, nothing, one_of};
+    ghost use Rattle.std.specs.Prelude.{◌≡◌, IfSome};
+    ghost use Rattle.hprof_histogram.specs.CountedKinds.{both, nothing, one_of};
 
     /// Returns the count of no objects.
     pub(crate) fn nothing() -> Counted
@@ -20,15 +20,13 @@ impl Counted {
         Counted { count: 0, bytes: 0 }
     }
 
-    /// Returns the count with one more object of this size.
+    /// Returns the count with one more object of this size, or `None` if a number has no room for it.
     #[inline(always)]
-    pub(crate) fn with(self, size: u128) -> Counted
-        requires { FitsCounts (both self (one_of size)) }
-        ensures { result ≡ both self (one_of size) }
+    pub(crate) fn with(self, size: u128) -> Option<Counted>
+        ensures { IfSome result (λ counted. counted ≡ both self (one_of size)) }
     {
-        Counted {
-            count: self.count + 1,
-            bytes: self.bytes + size,
-        }
+        let count = self.count.checked_add(1)?;
+        let bytes = self.bytes.checked_add(size)?;
+        Some(Counted { count, bytes })
     }
 }

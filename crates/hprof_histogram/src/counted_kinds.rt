@@ -1,9 +1,12 @@
 //! The counts of the objects so far, by kind.
 
 use crate::counted::Counted;
+use crate::measured::measure;
 use crate::row::Kind;
+use hprof_items::Fact;
+use hprof_passes::ObjectSink;
 use hprof_tables::HintedMap;
-use hprof_values::Basic;
+use hprof_values::{Basic, IdSize};
 use std::alloc::{AllocError, Global};
 
 /// The number of type codes, including those without a type.
@@ -23,7 +26,7 @@ impl CountedKinds {
     ghost use Rattle.hprof_histogram.specs.declared.row.Kind.{Kind};
     ghost use Rattle.hprof_histogram.specs.declared.row.Kind.TheVariants as kinds;
     ghost use Rattle.hprof_histogram.specs.Histogram.{same_kind};
-    ghost use Rattle.hprof_histogram.specs.CountedKinds.{FitsCounts, both, counted_in, nothing, one_of};
+    ghost use Rattle.hprof_histogram.specs.CountedKinds.{both, counted_in, nothing, one_of};
 
     /// Returns the counts of no objects.
     pub(crate) fn new(alloc: Global) -> CountedKinds
@@ -50,39 +53,59 @@ impl CountedKinds {
     /// Counts an object of a class.
     #[inline(always)]
     fn count_class(&mut self, class: u64, size: u128) -> Result<(), AllocError>
-        requires { FitsCounts (both (counted_in self.old (kinds.Class class)) (one_of size)) }
         ensures { OnOk result ((kind : Kind) → counted_in self.new kind
             ≡ cond (same_kind kind (kinds.Class class)) (both (counted_in self.old kind) (one_of size)) (counted_in self.old kind)) }
     {
-        let counted = self.of_class(class).with(size);
+        let Some(counted) = self.of_class(class).with(size) else {
+            return Err(AllocError);
+        };
         self.classes.insert(class, counted)?;
         Ok(())
     }
 
     /// Counts a primitive array of a type.
     #[inline(always)]
-    fn count_type(&mut self, elem: Basic, size: u128)
-        requires { FitsCounts (both (counted_in self.old (kinds.Prim elem)) (one_of size)) }
-        ensures { (kind : Kind) → counted_in self.new kind
-            ≡ cond (same_kind kind (kinds.Prim elem)) (both (counted_in self.old kind) (one_of size)) (counted_in self.old kind) }
+    fn count_type(&mut self, elem: Basic, size: u128) -> Result<(), AllocError>
+        ensures { OnOk result ((kind : Kind) → counted_in self.new kind
+            ≡ cond (same_kind kind (kinds.Prim elem)) (both (counted_in self.old kind) (one_of size)) (counted_in self.old kind)) }
     {
         let code = elem.code() as usize;
-        self.types[code] = self.types[code].with(size);
+        let Some(counted) = self.types[code].with(size) else {
+            return Err(AllocError);
+        };
+        self.types[code] = counted;
+        Ok(())
     }
 
     /// Counts an object.
     #[inline(always)]
     pub(crate) fn count(&mut self, kind: Kind, size: u128) -> Result<(), AllocError>
-        requires { FitsCounts (both (counted_in self.old kind) (one_of size)) }
         ensures { OnOk result ((other : Kind) → counted_in self.new other
             ≡ cond (same_kind other kind) (both (counted_in self.old other) (one_of size)) (counted_in self.old other)) }
     {
         match kind {
             Kind::Class(class) => self.count_class(class, size),
-            Kind::Prim(elem) => {
-                self.count_type(elem, size);
-                Ok(())
-            }
+            Kind::Prim(elem) => self.count_type(elem, size),
+        }
+    }
+}
+
+/// Counts each object. The fault is want of memory, or that there are more objects, or more bytes, than a number can count.
+impl ObjectSink for CountedKinds {
+    ghost use Rattle.std.specs.Prelude.{⊤};
+    ghost use Rattle.hprof_histogram.specs.CountedKinds.{CountsObject};
+
+    ghost takes = { CountsObject };
+
+    ghost refuses = { λ old ids object fault new. ⊤ };
+
+    type Fault = AllocError;
+
+    #[inline(always)]
+    fn take(&mut self, ids: IdSize, object: &Fact<'_>) -> Result<(), AllocError> {
+        match measure(object, ids) {
+            Some(object) => self.count(object.kind, object.size),
+            None => Ok(()),
         }
     }
 }

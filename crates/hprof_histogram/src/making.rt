@@ -1,29 +1,71 @@
 //! Making the class histogram of a heap.
 
-ghost use Rattle.std.specs.Prelude.{IfOk};
+ghost use Rattle.std.specs.Prelude.{IfOk, List};
+ghost use Rattle.hprof_values.specs.declared.ids.IdSize.{IdSize};
+ghost use Rattle.hprof_items.specs.FactValue.{FactValue};
+ghost use Rattle.hprof_rows.specs.Facts.{AllFit};
 ghost use Rattle.hprof_heap.specs.HeapFacts.{facts_of, size_of};
+ghost use Rattle.hprof_passes.specs.Finding.{Finds};
+ghost use Rattle.hprof_histogram.specs.CountedKinds.{IsTally};
 ghost use Rattle.hprof_histogram.specs.Histogram.{IsHistogram};
 
+use crate::counted_kinds::CountedKinds;
 use crate::counting::count_objects;
 use crate::gathering::rows_of;
 use crate::row::Row;
 use crate::sorting::sort_rows;
 use hprof_heap::{Heap, holds_of_heap};
+use hprof_passes::{InHeap, Objects, PassStop};
 use std::alloc::{AllocError, Global};
 
-/// Returns the class histogram of a heap: the number of objects of each kind, and the number of their bytes.
+/// Returns the rows of counts, in order. If memory runs out, the answer is `AllocError`.
+fn rows_in_order(alloc: Global, tally: &CountedKinds) -> Result<Vec<Row>, AllocError>
+    ensures { (ids : IdSize) (facts : List FactValue) → AllFit ids facts → IsTally ids facts tally.now
+        → IfOk result (λ rows. IsHistogram ids facts rows.items) }
+{
+    let mut rows = rows_of(alloc, tally)?;
+    sort_rows(&mut rows);
+    Ok(rows)
+}
+
+/// Returns the class histogram of objects: the number of objects of each kind, and the number of their bytes. The heap has all other facts.
 ///
 /// Instances and object arrays are counted by class, primitive arrays by type. Class dumps are not counted. The bytes are those of the
 /// fields of an instance, and of the elements of an array.
 ///
-/// Rows are ordered by bytes, then by number of objects, both from the most down; then classes by identifier; then types by code. If memory
-/// runs out, the answer is `AllocError`.
+/// Rows are ordered by bytes, then by number of objects, both from the most down; then classes by identifier; then types by code.
+///
+/// # Errors
+///
+/// - `Sink`: memory ran out, or there are more objects than a number can count.
+/// - `Lost`: the objects cannot be gone through.
+pub fn histogram_over<O: Objects>(
+    alloc: Global,
+    heap: &Heap,
+    objects: &O,
+) -> Result<Vec<Row>, PassStop<AllocError, O::Fault>>
+    ensures { Finds (O.make_up objects.now (size_of heap.now) (facts_of heap.now))
+        (O.agree objects.now (size_of heap.now) (facts_of heap.now))
+        (O.tells objects.now (size_of heap.now) (facts_of heap.now)) (λ all rows. IsHistogram (size_of heap.now) all rows.items) result }
+{
+    let tally = match count_objects(alloc, heap, objects) {
+        Ok(tally) => tally,
+        Err(stop) => return Err(stop),
+    };
+    match rows_in_order(alloc, &tally) {
+        Ok(rows) => Ok(rows),
+        Err(fault) => Err(PassStop::Sink(fault)),
+    }
+}
+
+/// Returns the class histogram of a heap with its objects in memory, as [`histogram_over`] does. If memory runs out, the answer is
+/// `AllocError`.
 pub fn histogram(alloc: Global, heap: &Heap) -> Result<Vec<Row>, AllocError>
     ensures { IfOk result (λ rows. IsHistogram (size_of heap.now) (facts_of heap.now) rows.items) }
 {
     holds_of_heap(heap);
-    let tally = count_objects(alloc, heap)?;
-    let mut rows = rows_of(alloc, &tally)?;
-    sort_rows(&mut rows);
-    Ok(rows)
+    match histogram_over(alloc, heap, &InHeap) {
+        Ok(rows) => Ok(rows),
+        Err(stop) => Err(stop.of_sink()),
+    }
 }

@@ -1,16 +1,15 @@
 //! The objects of a kind.
 
-ghost use Rattle.std.specs.Prelude.{◌≡◌, ◌<◌, ◌^◌, false, true, IfOk, MatchOption, map};
+ghost use Rattle.std.specs.Prelude.{◌≡◌};
 ghost use Rattle.std.specs.List.Sorted.{IsPermutation, IsSorted};
-ghost use Rattle.hprof_items.specs.FactValue.{value_of};
 ghost use Rattle.hprof_heap.specs.HeapFacts.{facts_of, size_of};
-ghost use Rattle.hprof_histogram.specs.Histogram.{is_kind, object_kind, of_kind, size_of_object};
-ghost use Rattle.hprof_histogram.specs.Objects.{AreObjects, object_cmp, sized_of};
+ghost use Rattle.hprof_passes.specs.Finding.{Finds};
+ghost use Rattle.hprof_histogram.specs.Objects.{AreObjects, object_cmp};
 
+use crate::chosen::{Chosen, chosen_objects};
 use crate::row::Kind;
-use hprof_heap::{Heap, Table, holds_of_heap, id_size, table_facts};
-use hprof_items::Fact;
-use hprof_values::IdSize;
+use hprof_heap::Heap;
+use hprof_passes::{Objects, PassStop};
 use std::alloc::{AllocError, Global};
 use std::cmp::Ordering;
 
@@ -23,61 +22,6 @@ pub struct SizedObject {
     pub id: u64,
 }
 
-/// Returns the object of a fact, if it is of this kind.
-#[inline(always)]
-fn object_of_kind(fact: &Fact<'_>, ids: IdSize, kind: Kind) -> Option<SizedObject>
-    requires { size_of_object ids (value_of fact.now) < 2 ^ 64 }
-    ensures { MatchOption result (is_kind kind (object_kind (value_of fact.now)) ≡ false)
-        (λ object. (is_kind kind (object_kind (value_of fact.now)) ≡ true) × (object ≡ sized_of ids (value_of fact.now))) }
-{
-    match *fact {
-        Fact::Instance {
-            id,
-            class,
-            bytes,
-            ..
-        } if kind == Kind::Class(class) => {
-            let bytes = bytes.len() as u64;
-            Some(SizedObject { bytes, id })
-        }
-        Fact::ObjArray {
-            id,
-            class,
-            elements,
-            ..
-        } if kind == Kind::Class(class) => {
-            let bytes = elements.len() as u64 * ids.width() as u64;
-            Some(SizedObject { bytes, id })
-        }
-        Fact::PrimArray {
-            id,
-            elem,
-            bytes,
-            ..
-        } if kind == Kind::Prim(elem) => {
-            let bytes = bytes.len() as u64;
-            Some(SizedObject { bytes, id })
-        }
-        _ => None,
-    }
-}
-
-/// Returns the objects of a kind, in the order of the heap.
-fn collect_objects(alloc: Global, heap: &Heap, kind: Kind) -> Result<Vec<SizedObject>, AllocError>
-    ensures { IfOk result (λ objects. objects.items ≡ map (sized_of (size_of heap.now)) (of_kind kind (facts_of heap.now))) }
-{
-    let ids = id_size(heap);
-    let mut objects = Vec::new(alloc);
-    let mut facts = table_facts(heap, Table::Objects);
-    let mut fact = Fact::End { thread: 0 };
-    while facts.next_into(&mut fact) {
-        if let Some(object) = object_of_kind(&fact, ids, kind) {
-            objects.push(object)?;
-        }
-    }
-    Ok(objects)
-}
-
 /// Compares objects: the most bytes first, then by identifier.
 fn compare_objects(object: &SizedObject, other: &SizedObject) -> Ordering
     ensures { result ≡ object_cmp object.now other.now }
@@ -87,21 +31,35 @@ fn compare_objects(object: &SizedObject, other: &SizedObject) -> Ordering
 }
 
 /// Sorts objects. Allocates nothing.
-fn sort_objects(objects: &mut Vec<SizedObject>)
+pub(crate) fn sort_objects(objects: &mut Vec<SizedObject>)
     ensures sorted { IsSorted object_cmp objects.new.items }
     ensures same { IsPermutation objects.old.items objects.new.items }
 {
     objects.sort_unstable_by(|object, other| compare_objects(object, other));
 }
 
-/// Returns the objects of a kind, which the histogram counts in one row, each with the number of its bytes.
+/// Returns those of the objects that are of a kind, which the histogram counts in one row, each with the number of its bytes. The heap has
+/// all other facts.
 ///
-/// They are ordered by bytes, from the most down, and then by identifier. If memory runs out, the answer is `AllocError`.
-pub fn objects_of(alloc: Global, heap: &Heap, kind: Kind) -> Result<Vec<SizedObject>, AllocError>
-    ensures { IfOk result (λ objects. AreObjects (size_of heap.now) (facts_of heap.now) kind objects.items) }
+/// They are ordered by bytes, from the most down, and then by identifier.
+///
+/// # Errors
+///
+/// - `Sink`: memory ran out.
+/// - `Lost`: the objects cannot be gone through.
+pub fn objects_of<O: Objects>(
+    alloc: Global,
+    heap: &Heap,
+    objects: &O,
+    kind: Kind,
+) -> Result<Vec<SizedObject>, PassStop<AllocError, O::Fault>>
+    ensures { Finds (O.make_up objects.now (size_of heap.now) (facts_of heap.now))
+        (O.agree objects.now (size_of heap.now) (facts_of heap.now))
+        (O.tells objects.now (size_of heap.now) (facts_of heap.now)) (λ all found. AreObjects (size_of heap.now) all kind found.items)
+            result }
 {
-    holds_of_heap(heap);
-    let mut objects = collect_objects(alloc, heap, kind)?;
-    sort_objects(&mut objects);
-    Ok(objects)
+    match chosen_objects(alloc, heap, objects, Chosen::Kind(kind)) {
+        Ok(found) => Ok(found),
+        Err(stop) => Err(stop),
+    }
 }

@@ -3,7 +3,7 @@ use Rattle.std.specs.Prelude.{map}
 use Rattle.std.proofs.Common.{◌≡◌, ◌↔◌, ℕ, ◌+◌, Bool, true, false, cond, List, [], ◌∷◌, Option, Some, None, get_or, refl, sym, ap, subst}
 use Rattle.std.proofs.Common.{◌∙◌, inl, inr, arith, ◌==◌}
 use Rattle.std.specs.Prelude.{Contains}
-use Rattle.std.specs.List.{AllByRecursion, IsDistinct}
+use Rattle.std.specs.List.{AllByRecursion, IsDistinct, filter}
 use Rattle.std.specs.List.Sorted.{IsPermutation, IsSorted, IsStrictlySortedBy}
 use Rattle.std.specs.Ordering.{is_lt, nat_cmp, ordering_reverse}
 use Rattle.std.specs.declared.cmp.Ordering.{Ordering}
@@ -30,7 +30,9 @@ use Rattle.hprof_histogram.proofs.Joining.{join_one}
 use Rattle.hprof_histogram.proofs.Members.{IsIn, Contains-from_in, in_from_Contains, one_sorted}
 use Rattle.hprof_histogram.proofs.RowOrder.{then_tied, tied_numbers}
 use Rattle.hprof_histogram.proofs.SomeHistogram.{first_tied}
-use Rattle.hprof_meaning.specs.ObjectsOf.{AreObjectsOf, IsObjectOf, is_among, is_kind_of, of_classes}
+use Rattle.hprof_histogram.specs.declared.chosen.Chosen.{Chosen}
+use Rattle.hprof_histogram.specs.Chosen.{AreChosen, chooses, chosen_among, is_among, is_chosen, is_of_classes}
+use Rattle.hprof_meaning.specs.ObjectsOf.{AreObjectsOf, IsObjectOf, is_kind_of, of_classes}
 use Rattle.hprof_meaning.proofs.ClassLists.{is_there, one_there}
 use Rattle.hprof_meaning.proofs.ObjectLists.{kept_first, left_out, of_these}
 
@@ -210,8 +212,17 @@ objects_ascend (first ∷ objects) sorted apart =
 
 -- ---- the whole
 
+-- what is chosen by the classes
+chosen_by_classes : (chosen : Chosen) (classes : List ℕ) → ((kind : Kind) → chooses chosen kind ≡ is_of_classes classes kind)
+    → (facts : List FactValue) → chosen_among chosen facts ≡ of_classes classes facts
+chosen_by_classes chosen classes same facts =
+    ap (λ (test : FactValue → Bool). filter test facts) (λ i fact. of_kind (object_kind fact) i) where
+      of_kind : (found : Option Kind) → is_chosen chosen found ≡ is_kind_of classes found
+      of_kind None = refl
+      of_kind (Some kind) = same kind
+
 -- those of the facts, sorted, are the objects of the classes
-pub sorted_are_objects : (ids : IdSize) (facts : List FactValue) (classes : List ℕ) (objects : List SizedObject) → IsCanonicalOrder facts
+sorted_are_objects : (ids : IdSize) (facts : List FactValue) (classes : List ℕ) (objects : List SizedObject) → IsCanonicalOrder facts
     → IsSorted object_cmp objects → IsPermutation (of_these ids classes facts) objects → AreObjectsOf ids facts classes objects
 sorted_are_objects ids facts classes objects ordered sorted same = record {
   ascend = objects_ascend objects sorted
@@ -225,6 +236,14 @@ sorted_are_objects ids facts classes objects ordered sorted same = record {
         (Contains-from_in (of_these ids classes facts) object ((exact_objects ids classes facts object).1 is)),
   );
 }
+
+-- those that are chosen by the classes are their objects
+pub chosen_are_objects : (ids : IdSize) (facts : List FactValue) (chosen : Chosen) (classes : List ℕ)
+    → ((kind : Kind) → chooses chosen kind ≡ is_of_classes classes kind) → IsCanonicalOrder facts → (objects : List SizedObject)
+    → AreChosen ids facts chosen objects → AreObjectsOf ids facts classes objects
+chosen_are_objects ids facts chosen classes same ordered objects are =
+    sorted_are_objects ids facts classes objects ordered are.sorted
+    (subst (λ (l : List FactValue). IsPermutation (map (sized_of ids) l) objects) (chosen_by_classes chosen classes same facts) are.same)
 
 -- ---- laws
 

@@ -1,13 +1,14 @@
 -- The objects of several classes, each with its bytes, the largest first. The order is this project's own.
-use Rattle.std.specs.Prelude.{◌≡◌, ◌↔◌, ◌==◌, ℕ, Bool, false, List, Option, Some, None, Contains}
-use Rattle.std.specs.List.{filter, list_any}
+use Rattle.std.specs.Prelude.{◌≡◌, ◌↔◌, ℕ, Bool, false, List, Option, Some, None, Contains}
+use Rattle.std.specs.List.{filter}
 use Rattle.std.specs.List.Sorted.{IsStrictlySortedBy}
 use Rattle.hprof_values.specs.declared.ids.IdSize.{IdSize}
 use Rattle.hprof_items.specs.FactValue.{FactValue}
 use Rattle.hprof_rows.specs.Facts.{Has}
 use Rattle.hprof_histogram.specs.declared.objects.SizedObject.{SizedObject}
 use Rattle.hprof_histogram.specs.declared.row.Kind.{Kind}
-use Rattle.hprof_histogram.specs.declared.row.Kind.TheVariants.{Class, Prim}
+use Rattle.hprof_histogram.specs.declared.row.Kind.TheVariants.{Class}
+use Rattle.hprof_histogram.specs.Chosen.{is_of_classes}
 use Rattle.hprof_histogram.specs.Histogram.{object_kind}
 use Rattle.hprof_histogram.specs.Objects.{object_cmp, sized_of}
 
@@ -27,15 +28,10 @@ pub record AreObjectsOf (ids : IdSize) (facts : List FactValue) (classes : List 
 
 -- ---- one by one
 
--- whether the class is one of these
-abbrev pub is_among : List ℕ → ℕ → Bool
-is_among classes class = list_any (λ other. other == class) classes
-
 -- whether the kind is that of one of the classes
 abbrev pub is_kind_of : List ℕ → Option Kind → Bool
-is_kind_of classes (Some (Class class)) = is_among classes class
-is_kind_of classes (Some (Prim elem)) = false
 is_kind_of classes None = false
+is_kind_of classes (Some kind) = is_of_classes classes kind
 
 -- the facts that are such objects
 abbrev pub of_classes : List ℕ → List FactValue → List FactValue

@@ -1,17 +1,21 @@
 //! The classes of a heap.
 
-ghost use Rattle.std.specs.Prelude.{◌≡◌, ◌++◌, ◌↔◌, Contains, ℕ, IfOk, OnOk, flat_map};
+ghost use Rattle.std.specs.Prelude.{◌≡◌, ◌++◌, ◌↔◌, Contains, ℕ, List, IfOk, OnOk, flat_map};
 ghost use Rattle.std.specs.List.Sorted.{IsStrictlyIncreasing};
-ghost use Rattle.hprof_items.specs.FactValue.{value_of};
+ghost use Rattle.hprof_items.specs.FactValue.{FactValue, value_of};
 ghost use Rattle.hprof_rows.specs.declared.table.Table.TheVariants as tables;
 ghost use Rattle.hprof_rows.specs.Tables.{facts_of_table};
-ghost use Rattle.hprof_heap.specs.HeapFacts.{facts_of};
+ghost use Rattle.hprof_heap.specs.HeapFacts.{facts_of, size_of};
+ghost use Rattle.hprof_passes.specs.Finding.{Finds};
+ghost use Rattle.hprof_passes.specs.Passing.{IsWhole};
+ghost use Rattle.hprof_histogram.specs.Histogram.{IsHistogram};
 ghost use Rattle.hprof_meaning.specs.MeantClasses.{AreAll, IsClass, IsDumped};
 ghost use Rattle.hprof_meaning.specs.Stated.{class_dumped, class_loaded, class_of_row};
 
 use hprof_heap::{Heap, Table, table_facts};
-use hprof_histogram::{Kind, Row, histogram};
+use hprof_histogram::{Kind, Row, histogram_over};
 use hprof_items::Fact;
+use hprof_passes::{Objects, PassStop};
 use std::alloc::{AllocError, Global};
 
 /// Appends the class whose objects a row counts, if they are of a class.
@@ -87,18 +91,38 @@ fn sort_classes(classes: &mut Vec<u64>)
     classes.dedup();
 }
 
-/// Returns the identifiers of all classes, ascending, each once: those of class dumps, of loads, and of instances and arrays of objects. If
-/// memory runs out, the answer is `AllocError`.
-pub(crate) fn all_classes(alloc: Global, heap: &Heap) -> Result<Vec<u64>, AllocError>
-    ensures { IfOk result (λ classes. AreAll (IsClass (facts_of heap.now)) classes.items) }
+/// Returns the identifiers of all classes, ascending, each once: those of class dumps, of loads, and of the kinds that rows count.
+fn classes_of(alloc: Global, heap: &Heap, rows: &[Row]) -> Result<Vec<u64>, AllocError>
+    ensures { (all : List FactValue) → IsWhole (size_of heap.now) (facts_of heap.now) all → IsHistogram (size_of heap.now) all rows.now
+        → IfOk result (λ classes. AreAll (IsClass all) classes.items) }
 {
-    let rows = histogram(alloc, heap)?;
     let mut classes = Vec::new(alloc);
-    push_of_rows(&mut classes, &rows)?;
+    push_of_rows(&mut classes, rows)?;
     push_loads(&mut classes, heap)?;
     push_dumps(&mut classes, heap)?;
     sort_classes(&mut classes);
     Ok(classes)
+}
+
+/// Returns the identifiers of all classes, ascending, each once: those of class dumps, of loads, and of instances and arrays of objects.
+/// The heap has all facts but the objects.
+pub(crate) fn all_classes<O: Objects>(
+    alloc: Global,
+    heap: &Heap,
+    objects: &O,
+) -> Result<Vec<u64>, PassStop<AllocError, O::Fault>>
+    ensures { Finds (O.make_up objects.now (size_of heap.now) (facts_of heap.now))
+        (O.agree objects.now (size_of heap.now) (facts_of heap.now))
+        (O.tells objects.now (size_of heap.now) (facts_of heap.now)) (λ all classes. AreAll (IsClass all) classes.items) result }
+{
+    let rows = match histogram_over(alloc, heap, objects) {
+        Ok(rows) => rows,
+        Err(stop) => return Err(stop),
+    };
+    match classes_of(alloc, heap, &rows) {
+        Ok(classes) => Ok(classes),
+        Err(fault) => Err(PassStop::Sink(fault)),
+    }
 }
 
 /// Returns the identifiers of all class dumps, ascending, each once. If memory runs out, the answer is `AllocError`.

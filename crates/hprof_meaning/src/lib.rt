@@ -10,6 +10,6 @@ mod named;
 mod objects;
 
 pub use labels::{array_label, bare_label};
-pub use meant::{class_dumps_meant, classes_meant};
+pub use meant::{class_dumps_meant, classes_meant, classes_meant_over};
 pub use named::write_classes_of_name;
-pub use objects::write_objects_of_classes;
+pub use objects::{write_objects_of_classes, write_objects_of_classes_over};

@@ -48,7 +48,8 @@ module _ {T : Type 0} (takes : T → IdSize → FactValue → T → Type 0) (ids
     pub are : objects ≡ front ++ behind
     pub took : TakesObjects old front new
 
-module _ {T E : Type 0} (takes : T → IdSize → FactValue → T → Type 0) (refuses : T → IdSize → FactValue → E → T → Type 0) (ids : IdSize) where
+module _ {T E : Type 0} (takes : T → IdSize → FactValue → T → Type 0) (refuses : T → IdSize → FactValue → E → T → Type 0) (ids : IdSize)
+    where
   -- it took the objects before this one, which it refused
   pub record RefusesObject (objects : List FactValue) (fault : E) (old new : T) : Type 0 where
     pub front : List FactValue

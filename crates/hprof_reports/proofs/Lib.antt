@@ -10,3 +10,5 @@ pub mod KnownChains
 pub mod Places
 pub mod Finding
 pub mod SomeRoots
+pub mod WholeNames
+pub mod PassedEnds

@@ -4,6 +4,7 @@ pub mod Check
 pub mod OneCheck
 pub mod Shown
 pub mod Stopping
+pub mod Passed
 pub mod ObjectText
 pub mod OneObject
 pub mod HistogramText

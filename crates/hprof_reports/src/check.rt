@@ -1,20 +1,26 @@
 //! The report `check`: a summary of each part, and the number of facts in each table of their heap.
 
-ghost use Rattle.std.specs.Prelude.{◌≡◌, ◌↔◌, List, ℕ, flat_map, IsTrue};
+ghost use Rattle.std.specs.Prelude.{◌≡◌, ◌↔◌, List, ℕ, flat_map, length, IsTrue};
 ghost use Rattle.hprof_devices.specs.declared.health.Health.TheVariants.{Well};
 ghost use Rattle.hprof_devices.specs.Device.{Writes, LeavesHealth};
-ghost use Rattle.hprof_items.specs.FactValue.{value_of};
+ghost use Rattle.hprof_items.specs.FactValue.{FactValue, value_of};
+ghost use Rattle.hprof_rows.specs.Tables.{facts_of_table};
 ghost use Rattle.hprof_heap.specs.Heap.{heap_of};
+ghost use Rattle.hprof_heap.specs.HeapFacts.{facts_of, size_of};
+ghost use Rattle.hprof_passes.specs.Passing.{IsWhole, objects_among};
 ghost use Rattle.hprof_reports.specs.Check.{version_text, yes_or_no, part_line, part_lines, table_word, table_line, all_tables, IsBadName};
 ghost use Rattle.hprof_reports.specs.Check.{AreBadNames, IsCheck};
+ghost use Rattle.hprof_reports.specs.Passed.{EndsChecked};
 
 use crate::line::{write_count, write_pieces};
 use hprof_devices::{Target, WriteFault};
-use hprof_heap::{Heap, Table};
+use hprof_heap::{Heap, Table, holds_of_heap, table_facts, table_len};
 use hprof_items::{Fact, Version};
+use hprof_passes::{Objects, PassStop};
 use hprof_stream::PartSummary;
 use hprof_text::is_modified;
 use itoa::Buffer;
+use std::alloc::Global;
 
 /// The tables in their order.
 const TABLES: [Table; 10] = [
@@ -112,15 +118,26 @@ fn write_parts<W: Target>(parts: &[PartSummary], target: &mut W) -> Result<(), W
     Ok(())
 }
 
-/// Writes a line for each table. At a fault some of them were written, from the front.
-fn write_tables<W: Target>(heap: &Heap, target: &mut W) -> Result<(), WriteFault>
+/// Returns the number of facts in a table, with so many objects.
+fn count_of(heap: &Heap, objects: u64, table: Table) -> u64
+    ensures { (all : List FactValue) → IsWhole (size_of heap.now) (facts_of heap.now) all → objects ≡ length (objects_among all)
+        → result ≡ length (facts_of_table table all) }
+{
+    match table {
+        Table::Objects => objects,
+        table => table_len(heap, table) as u64,
+    }
+}
+
+/// Writes a line for each table, with so many objects. At a fault some of them were written, from the front.
+fn write_tables<W: Target>(heap: &Heap, objects: u64, target: &mut W) -> Result<(), WriteFault>
     requires { W.health target.old ≡ Well }
-    ensures bytes { Writes (W.written target.old) (W.written target.new) result
-        (flat_map (table_line (heap_of heap.now).facts) all_tables) }
+    ensures bytes { (all : List FactValue) → IsWhole (size_of heap.now) (facts_of heap.now) all → objects ≡ length (objects_among all)
+        → Writes (W.written target.old) (W.written target.new) result (flat_map (table_line all) all_tables) }
     ensures health { LeavesHealth result (W.health target.new) }
 {
     for table in &TABLES {
-        write_count(table_word(*table), heap.len(*table) as u64, target)?;
+        write_count(table_word(*table), count_of(heap, objects, *table), target)?;
     }
     Ok(())
 }
@@ -137,11 +154,11 @@ fn is_bad_name(fact: &Fact<'_>) -> bool
 
 /// Returns the number of names that are not modified UTF-8.
 fn count_bad_names(heap: &Heap) -> usize
-    ensures { AreBadNames (heap_of heap.now).facts result }
+    ensures { AreBadNames (facts_of heap.now) result }
 {
-    let names = heap.len(Table::Names);
+    let names = table_len(heap, Table::Names);
     let mut bad = 0;
-    for fact in heap.rows(Table::Names) {
+    for fact in table_facts(heap, Table::Names) {
         if is_bad_name(&fact) {
             prove!(bad < names);
             bad += 1;
@@ -150,9 +167,55 @@ fn count_bad_names(heap: &Heap) -> usize
     bad
 }
 
+/// Writes the report `check` with so many objects.
+fn write_counts<W: Target>(
+    summaries: &[PartSummary],
+    heap: &Heap,
+    objects: u64,
+    target: &mut W,
+) -> Result<(), WriteFault>
+    requires { W.health target.old ≡ Well }
+    ensures bytes { (all : List FactValue) → IsWhole (size_of heap.now) (facts_of heap.now) all → objects ≡ length (objects_among all)
+        → (text : List ℕ) × IsCheck summaries.now all text × Writes (W.written target.old) (W.written target.new) result text }
+    ensures health { LeavesHealth result (W.health target.new) }
+{
+    let bad = count_bad_names(heap);
+    write_parts(summaries, target)?;
+    write_tables(heap, objects, target)?;
+    write_count(b"bad names", bad as u64, target)
+}
+
 /// Writes the report `check`: a line for each part, in order, a line for each table of the heap with the number of its facts,
-/// and the number of names that are not modified UTF-8. It allocates and flushes nothing. If the writer fails, the bytes written
-/// are the beginning of the report.
+/// and the number of names that are not modified UTF-8. The heap has all facts but the objects.
+///
+/// # Errors
+///
+/// - `Sink`: the writer failed. The bytes written are the beginning of the report.
+/// - `Lost`: the objects cannot be gone through. Nothing was written.
+pub fn write_check_over<O: Objects, W: Target>(
+    alloc: Global,
+    summaries: &[PartSummary],
+    heap: &Heap,
+    objects: &O,
+    target: &mut W,
+) -> Result<(), PassStop<WriteFault, O::Fault>>
+    requires { W.health target.old ≡ Well }
+    ensures { EndsChecked (O.make_up objects.now (size_of heap.now) (facts_of heap.now))
+        (O.agree objects.now (size_of heap.now) (facts_of heap.now)) (O.tells objects.now (size_of heap.now) (facts_of heap.now))
+        (IsCheck summaries.now) W.written W.health target.old target.new result }
+{
+    let count = match objects.count(alloc, heap) {
+        Ok(count) => count,
+        Err(fault) => return Err(PassStop::Lost(fault)),
+    };
+    match write_counts(summaries, heap, count, target) {
+        Ok(()) => Ok(()),
+        Err(fault) => Err(PassStop::Sink(fault)),
+    }
+}
+
+/// Writes the report `check` on a heap with its objects in memory, as [`write_check_over`] does. It allocates and flushes nothing. If the
+/// writer fails, the bytes written are the beginning of the report.
 pub fn write_check<W: Target>(
     summaries: &[PartSummary],
     heap: &Heap,
@@ -163,8 +226,6 @@ pub fn write_check<W: Target>(
         × Writes (W.written target.old) (W.written target.new) result text }
     ensures health { LeavesHealth result (W.health target.new) }
 {
-    let bad = count_bad_names(heap);
-    write_parts(summaries, target)?;
-    write_tables(heap, target)?;
-    write_count(b"bad names", bad as u64, target)
+    holds_of_heap(heap);
+    write_counts(summaries, heap, table_len(heap, Table::Objects) as u64, target)
 }

@@ -2,21 +2,26 @@
 
 ghost use Rattle.std.specs.Prelude.{◌≡◌, ℕ, List, IfOk, string_bytes};
 ghost use Rattle.hprof_devices.specs.declared.health.Health.TheVariants.{Well};
+ghost use Rattle.hprof_items.specs.FactValue.{FactValue};
 ghost use Rattle.hprof_heap.specs.ClassDump.{class_value};
 ghost use Rattle.hprof_heap.specs.HeapFacts.{facts_of, size_of};
+ghost use Rattle.hprof_passes.specs.Passing.{IsWhole};
 ghost use Rattle.hprof_histogram.specs.CountedKinds.{IsTally};
 ghost use Rattle.hprof_naming.specs.ClassNames.{AreClassNames};
 ghost use Rattle.hprof_naming.specs.Naming.{IsNaming, Naming};
+ghost use Rattle.hprof_reports.specs.Passed.{EndsPassed};
 ghost use Rattle.hprof_reports.specs.Stopping.{LeavesTarget, WritesText};
 ghost use Rattle.hprof_reports.specs.ClassDumps.{dumps_in};
 ghost use Rattle.hprof_reports.specs.ClassesText.{IsClassesText, class_end, class_line, classes_text, counted_line};
 
 use crate::lines::write_line;
+use crate::passed::stop_of_pass;
 use hprof_devices::Target;
 use hprof_engine::WriteStop;
 use hprof_heap::{ClassDump, Heap, Table, holds_of_heap, table_facts, to_class_dump};
 use hprof_histogram::{Counted, CountedKinds, count_objects};
 use hprof_naming::{ClassNames, label_of};
+use hprof_passes::{InHeap, Objects, PassStop};
 use std::alloc::{AllocError, Global};
 
 /// Returns the end of a class's line: its objects, and its label.
@@ -49,9 +54,8 @@ fn class_line(
     dump: &ClassDump<'_>,
 ) -> Result<String, AllocError>
     requires named { AreClassNames (facts_of heap.now) names.now }
-    requires counted { IsTally (size_of heap.now) (facts_of heap.now) counts.now }
-    ensures { (naming : Naming) → IsNaming (facts_of heap.now) naming
-        → IfOk result (λ line. string_bytes line ≡ class_line naming (size_of heap.now) (facts_of heap.now) (class_value dump.now)) }
+    ensures { (naming : Naming) (all : List FactValue) → IsNaming (facts_of heap.now) naming → IsTally (size_of heap.now) all counts.now
+        → IfOk result (λ line. string_bytes line ≡ class_line naming (size_of heap.now) all (class_value dump.now)) }
 {
     holds_of_heap(heap);
     let ClassDump { id, parent, .. } = *dump;
@@ -68,11 +72,11 @@ fn write_dumps<W: Target>(
     target: &mut W,
 ) -> Result<(), WriteStop>
     requires named { AreClassNames (facts_of heap.now) names.now }
-    requires counted { IsTally (size_of heap.now) (facts_of heap.now) counts.now }
     requires well { W.health target.old ≡ Well }
-    ensures bytes { (naming : Naming) → IsNaming (facts_of heap.now) naming
+    ensures bytes { (naming : Naming) (all : List FactValue) → IsNaming (facts_of heap.now) naming
+        → IsTally (size_of heap.now) all counts.now
         → WritesText (W.written target.old) (W.written target.new) result
-        (classes_text naming (size_of heap.now) (facts_of heap.now) (dumps_in (facts_of heap.now))) }
+        (classes_text naming (size_of heap.now) all (dumps_in (facts_of heap.now))) }
     ensures health { LeavesTarget result (W.health target.new) }
 {
     for fact in table_facts(heap, Table::Classes) {
@@ -83,8 +87,54 @@ fn write_dumps<W: Target>(
     Ok(())
 }
 
-/// Writes the report `classes`: a line for each class dump, in order of identifier, with its superclass and the objects of the class. If
-/// the writer fails or memory runs out, the bytes written are the beginning of the report.
+/// Writes a line for each class dump, of whose objects these are the counts. If the writer fails or memory runs out, the bytes written are
+/// the beginning of them.
+fn write_counted<W: Target>(
+    alloc: Global,
+    heap: &Heap,
+    counts: &CountedKinds,
+    target: &mut W,
+) -> Result<(), WriteStop>
+    requires { W.health target.old ≡ Well }
+    ensures bytes { (all : List FactValue) → IsWhole (size_of heap.now) (facts_of heap.now) all
+        → IsTally (size_of heap.now) all counts.now → (text : List ℕ) × IsClassesText (size_of heap.now) all text
+        × WritesText (W.written target.old) (W.written target.new) result text }
+    ensures health { LeavesTarget result (W.health target.new) }
+{
+    let names = ClassNames::of(alloc, heap)?;
+    write_dumps(alloc, heap, &names, counts, target)
+}
+
+/// Writes the report `classes`: a line for each class dump, in order of identifier, with its superclass and the objects of the class. The
+/// heap has all facts but the objects.
+///
+/// # Errors
+///
+/// - `Sink`: the writer failed or memory ran out. The bytes written are the beginning of the report.
+/// - `Lost`: the objects cannot be gone through. Nothing was written.
+pub fn write_classes_over<O: Objects, W: Target>(
+    alloc: Global,
+    heap: &Heap,
+    objects: &O,
+    target: &mut W,
+) -> Result<(), PassStop<WriteStop, O::Fault>>
+    requires { W.health target.old ≡ Well }
+    ensures { EndsPassed (O.make_up objects.now (size_of heap.now) (facts_of heap.now))
+        (O.agree objects.now (size_of heap.now) (facts_of heap.now)) (O.tells objects.now (size_of heap.now) (facts_of heap.now))
+        (IsClassesText (size_of heap.now)) W.written W.health target.old target.new result }
+{
+    let counts = match count_objects(alloc, heap, objects) {
+        Ok(counts) => counts,
+        Err(stop) => return Err(stop_of_pass(stop)),
+    };
+    match write_counted(alloc, heap, &counts, target) {
+        Ok(()) => Ok(()),
+        Err(stop) => Err(PassStop::Sink(stop)),
+    }
+}
+
+/// Writes the report `classes` on a heap with its objects in memory, as [`write_classes_over`] does. If the writer fails or memory runs
+/// out, the bytes written are the beginning of the report.
 pub fn write_classes<W: Target>(alloc: Global, heap: &Heap, target: &mut W) -> Result<(), WriteStop>
     requires { W.health target.old ≡ Well }
     ensures bytes { (text : List ℕ) × IsClassesText (size_of heap.now) (facts_of heap.now) text
@@ -92,7 +142,8 @@ pub fn write_classes<W: Target>(alloc: Global, heap: &Heap, target: &mut W) -> R
     ensures health { LeavesTarget result (W.health target.new) }
 {
     holds_of_heap(heap);
-    let counts = count_objects(alloc, heap)?;
-    let names = ClassNames::of(alloc, heap)?;
-    write_dumps(alloc, heap, &names, &counts, target)
+    match write_classes_over(alloc, heap, &InHeap, target) {
+        Ok(()) => Ok(()),
+        Err(stop) => Err(stop.of_sink()),
+    }
 }

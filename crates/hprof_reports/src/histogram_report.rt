@@ -2,18 +2,24 @@
 
 ghost use Rattle.std.specs.Prelude.{◌≡◌, ℕ, List, IfOk, string_bytes};
 ghost use Rattle.hprof_devices.specs.declared.health.Health.TheVariants.{Well};
+ghost use Rattle.hprof_items.specs.FactValue.{FactValue};
 ghost use Rattle.hprof_heap.specs.HeapFacts.{facts_of, size_of};
+ghost use Rattle.hprof_passes.specs.Passing.{IsWhole};
+ghost use Rattle.hprof_histogram.specs.Histogram.{IsHistogram};
 ghost use Rattle.hprof_naming.specs.ClassNames.{AreClassNames};
 ghost use Rattle.hprof_naming.specs.Naming.{IsNaming, Naming};
 ghost use Rattle.hprof_reports.specs.HistogramText.{IsHistogramText, array_row_line, class_row_line, row_line, rows_text};
+ghost use Rattle.hprof_reports.specs.Passed.{EndsPassed};
 ghost use Rattle.hprof_reports.specs.Stopping.{LeavesTarget, WritesText};
 
 use crate::lines::write_line;
+use crate::passed::stop_of_pass;
 use hprof_devices::Target;
 use hprof_engine::WriteStop;
 use hprof_heap::{Heap, holds_of_heap};
-use hprof_histogram::{Kind, Row, histogram};
+use hprof_histogram::{Kind, Row, histogram_over};
 use hprof_naming::{ClassNames, label_of, type_word};
+use hprof_passes::{InHeap, Objects, PassStop};
 use hprof_values::Basic;
 use std::alloc::{AllocError, Global};
 
@@ -77,8 +83,53 @@ fn write_rows<W: Target>(
     Ok(())
 }
 
-/// Writes the report `histo`: a line for each class and each array type that has objects, those with the most bytes first. If
-/// the writer fails or memory runs out, the bytes written are the beginning of the report.
+/// Writes a line for each row of a histogram. If the writer fails or memory runs out, the bytes written are the beginning of them.
+fn write_histogram_rows<W: Target>(
+    alloc: Global,
+    heap: &Heap,
+    rows: &[Row],
+    target: &mut W,
+) -> Result<(), WriteStop>
+    requires { W.health target.old ≡ Well }
+    ensures bytes { (all : List FactValue) → IsWhole (size_of heap.now) (facts_of heap.now) all
+        → IsHistogram (size_of heap.now) all rows.now → (text : List ℕ) × IsHistogramText (size_of heap.now) all text
+        × WritesText (W.written target.old) (W.written target.new) result text }
+    ensures health { LeavesTarget result (W.health target.new) }
+{
+    let names = ClassNames::of(alloc, heap)?;
+    write_rows(alloc, heap, &names, rows, target)
+}
+
+/// Writes the report `histo`: a line for each class and each array type that has objects, those with the most bytes first. The heap has all
+/// facts but the objects.
+///
+/// # Errors
+///
+/// - `Sink`: the writer failed or memory ran out. The bytes written are the beginning of the report.
+/// - `Lost`: the objects cannot be gone through. Nothing was written.
+pub fn write_histogram_over<O: Objects, W: Target>(
+    alloc: Global,
+    heap: &Heap,
+    objects: &O,
+    target: &mut W,
+) -> Result<(), PassStop<WriteStop, O::Fault>>
+    requires { W.health target.old ≡ Well }
+    ensures { EndsPassed (O.make_up objects.now (size_of heap.now) (facts_of heap.now))
+        (O.agree objects.now (size_of heap.now) (facts_of heap.now)) (O.tells objects.now (size_of heap.now) (facts_of heap.now))
+        (IsHistogramText (size_of heap.now)) W.written W.health target.old target.new result }
+{
+    let rows = match histogram_over(alloc, heap, objects) {
+        Ok(rows) => rows,
+        Err(stop) => return Err(stop_of_pass(stop)),
+    };
+    match write_histogram_rows(alloc, heap, &rows, target) {
+        Ok(()) => Ok(()),
+        Err(stop) => Err(PassStop::Sink(stop)),
+    }
+}
+
+/// Writes the report `histo` on a heap with its objects in memory, as [`write_histogram_over`] does. If the writer fails or memory runs
+/// out, the bytes written are the beginning of the report.
 pub fn write_histogram<W: Target>(
     alloc: Global,
     heap: &Heap,
@@ -90,7 +141,8 @@ pub fn write_histogram<W: Target>(
     ensures health { LeavesTarget result (W.health target.new) }
 {
     holds_of_heap(heap);
-    let rows = histogram(alloc, heap)?;
-    let names = ClassNames::of(alloc, heap)?;
-    write_rows(alloc, heap, &names, &rows, target)
+    match write_histogram_over(alloc, heap, &InHeap, target) {
+        Ok(()) => Ok(()),
+        Err(stop) => Err(stop.of_sink()),
+    }
 }

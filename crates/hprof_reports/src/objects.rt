@@ -3,14 +3,17 @@
 ghost use Rattle.std.specs.Prelude.{◌≡◌, ◌++◌, ℕ, List, IfOk, OnOk, string_bytes};
 ghost use Rattle.hprof_devices.specs.declared.health.Health.TheVariants.{Well};
 ghost use Rattle.hprof_heap.specs.HeapFacts.{facts_of, size_of};
+ghost use Rattle.hprof_reports.specs.Passed.{EndsPassed};
 ghost use Rattle.hprof_reports.specs.Stopping.{LeavesTarget, WritesText};
 ghost use Rattle.hprof_reports.specs.ObjectsText.{IsObjectsText, object_line, objects_text};
 
 use crate::lines::write_str;
+use crate::passed::stop_of_pass;
 use hprof_devices::Target;
 use hprof_engine::WriteStop;
-use hprof_heap::Heap;
+use hprof_heap::{Heap, holds_of_heap};
 use hprof_histogram::{Kind, SizedObject, objects_of};
+use hprof_passes::{InHeap, Objects, PassStop};
 use hprof_text::push_id;
 use itoa::Buffer;
 use std::alloc::{AllocError, Global};
@@ -28,7 +31,7 @@ fn set_line(line: &mut String, object: SizedObject) -> Result<(), AllocError>
 }
 
 /// Writes a line for each object. If it stops, some of them were written, from the front.
-fn write_all<W: Target>(
+pub fn write_object_lines<W: Target>(
     alloc: Global,
     objects: &[SizedObject],
     target: &mut W,
@@ -48,7 +51,36 @@ fn write_all<W: Target>(
 }
 
 /// Writes the report `objects` on a class or a type: a line for each of its objects, with the bytes of the object, the largest first, and
-/// nothing if there is none. If the writer fails or memory runs out, the bytes written are the beginning of the report.
+/// nothing if there is none. The heap has all facts but the objects.
+///
+/// # Errors
+///
+/// - `Sink`: the writer failed or memory ran out. The bytes written are the beginning of the report.
+/// - `Lost`: the objects cannot be gone through. Nothing was written.
+pub fn write_objects_over<O: Objects, W: Target>(
+    alloc: Global,
+    heap: &Heap,
+    objects: &O,
+    kind: Kind,
+    target: &mut W,
+) -> Result<(), PassStop<WriteStop, O::Fault>>
+    requires { W.health target.old ≡ Well }
+    ensures { EndsPassed (O.make_up objects.now (size_of heap.now) (facts_of heap.now))
+        (O.agree objects.now (size_of heap.now) (facts_of heap.now)) (O.tells objects.now (size_of heap.now) (facts_of heap.now))
+        (λ all. IsObjectsText (size_of heap.now) all kind) W.written W.health target.old target.new result }
+{
+    let found = match objects_of(alloc, heap, objects, kind) {
+        Ok(found) => found,
+        Err(stop) => return Err(stop_of_pass(stop)),
+    };
+    match write_object_lines(alloc, &found, target) {
+        Ok(()) => Ok(()),
+        Err(stop) => Err(PassStop::Sink(stop)),
+    }
+}
+
+/// Writes the report `objects` on a class or a type of a heap with its objects in memory, as [`write_objects_over`] does. If the writer
+/// fails or memory runs out, the bytes written are the beginning of the report.
 pub fn write_objects<W: Target>(
     alloc: Global,
     heap: &Heap,
@@ -60,6 +92,9 @@ pub fn write_objects<W: Target>(
         × WritesText (W.written target.old) (W.written target.new) result text }
     ensures health { LeavesTarget result (W.health target.new) }
 {
-    let objects = objects_of(alloc, heap, kind)?;
-    write_all(alloc, &objects, target)
+    holds_of_heap(heap);
+    match write_objects_over(alloc, heap, &InHeap, kind, target) {
+        Ok(()) => Ok(()),
+        Err(stop) => Err(stop.of_sink()),
+    }
 }

@@ -1,7 +1,7 @@
 use Rattle.std.proofs.Common.{refl}
 use Rattle.std.proofs.lemmas.List.{nil_from_length}
 use Rattle.hprof_heap.specs.HeapFacts.{facts_of}
-use Rattle.hprof_diff.proofs.Keeping.{parts_begin, parts_end, parts_labelled, parts_more, parts_sums}
+use Rattle.hprof_diff.proofs.Keeping.{parts_begin, parts_end, parts_labelled, parts_more}
 use Rattle.hprof_diff.proofs.gathering.parts_of.Goals as goal
 
 pub loop-row-init : goal.loop-row-init
@@ -15,16 +15,9 @@ loop-row-preserved c =
     c.push.new.self.items c.in-Some.row.now c.part_of.result c.part_of.ensures c.in-Some.ensures.cases.0 c.in_ok-push.ensures.items
     c.loop-row.invariant
 
-pub returns-clause-labelled : goal.returns-clause-labelled
-returns-clause-labelled c =
+pub returns : goal.returns
+returns c =
     let facts = facts_of c.args.heap.now in
     parts_labelled facts c.args.rows.now c.loop-row.parts.items
-    (parts_end facts c.args.rows.now c.loop-row.rest.now c.loop-row.parts.items
-    (nil_from_length c.loop-row.rest.now c.in_default.ensures.cases) c.loop-row.invariant)
-
-pub returns-clause-all : goal.returns-clause-all
-returns-clause-all c =
-    let facts = facts_of c.args.heap.now in
-    parts_sums facts c.args.rows.now c.loop-row.parts.items
     (parts_end facts c.args.rows.now c.loop-row.rest.now c.loop-row.parts.items
     (nil_from_length c.loop-row.rest.now c.in_default.ensures.cases) c.loop-row.invariant)

@@ -1,11 +1,13 @@
-use Rattle.std.proofs.Common.{subst}
-use Rattle.std.specs.List.Sorted.{IsPermutation}
 use Rattle.hprof_heap.specs.HeapFacts.{facts_of, size_of}
 use Rattle.hprof_histogram.proofs.ObjectOrder.{sorted_are_objects}
 use Rattle.hprof_histogram.proofs.objects.objects_of.Goals as goal
 
-pub returns : goal.returns
-returns c =
-    let after = c.sort_objects.new.objects.items in
-    sorted_are_objects (size_of c.args.heap.now) (facts_of c.args.heap.now) c.args.kind after c.holds_of_heap.ensures.ordered
-    c.sort_objects.ensures.sorted (subst (λ before. IsPermutation before after) c.in_ok-objects.ensures c.sort_objects.ensures.same)
+pub returns-in-Ok : goal.returns-in-Ok
+returns-in-Ok g c =
+    let ids = size_of c.args.heap.now in (
+      c.in-Ok.ensures.0,
+      λ all make.
+          let chosen = c.in-Ok.ensures.1 all make in
+          sorted_are_objects ids all c.args.kind c.in-Ok.found.items
+          (g.met.O.Objects.whole c.args.objects.now ids (facts_of c.args.heap.now) all make).ordered chosen.sorted chosen.same,
+    )

@@ -3,44 +3,44 @@ use Rattle.std.specs.Io.KnownBytes.{Appends}
 use Rattle.std.proofs.lemmas.Result.{err_from_is_err_and}
 use Rattle.hprof_devices.proofs.Writes.{WritesFront}
 use Rattle.hprof_rows.specs.declared.table.Table.TheVariants.{Names}
-use Rattle.hprof_heap.specs.Heap.{heap_of}
 use Rattle.hprof_reports.specs.Check.{all_tables, table_line}
 use Rattle.hprof_reports.proofs.CheckLines.{table_line_of}
 use Rattle.hprof_reports.proofs.Slices.{slice_more, slice_stops, slice_all}
 use Rattle.hprof_reports.proofs.check.write_tables.Goals as goal
 
 pub returns-in_err-write_count-clause-bytes : goal.returns-in_err-write_count-clause-bytes
-returns-in_err-write_count-clause-bytes g c =
-    let facts = (heap_of c.args.heap.now).facts in
+returns-in_err-write_count-clause-bytes g c = λ all whole counted.
     let place = c.loop-table.table-index in
     let mid = g.W.Target.written c.loop-table.target in
     let new = g.W.Target.written c.write_count.new.target in
     let p = err_from_is_err_and c.from_residual.result c.from_residual.ensures.1 in
-    slice_stops (table_line facts) (g.W.Target.written c.args.target.now) mid new all_tables place c.from_residual.result p.0 Names
-    c.loop-table-test.true p.1 c.loop-table.invariant.wrote
+    slice_stops (table_line all) (g.W.Target.written c.args.target.now) mid new all_tables place c.from_residual.result p.0 Names
+    c.loop-table-test.true p.1 (c.loop-table.invariant.wrote all whole counted)
     (subst (WritesFront mid new)
-    (table_line_of facts (get_or all_tables place Names) c.table_word.result.now c.len.result c.table_word.ensures c.len.ensures)
+    (table_line_of all (get_or all_tables place Names) c.table_word.result.now c.count_of.result c.table_word.ensures
+    (c.count_of.ensures all whole counted))
     c.in_err-write_count.ensures.bytes)
 
 pub loop-table-preserved : goal.loop-table-preserved
 loop-table-preserved g c =
-    let facts = (heap_of c.args.heap.now).facts in
     let place = c.loop-table.table-index in
     let mid = g.W.Target.written c.loop-table.target in
     let new = g.W.Target.written c.write_count.new.target in
     record {
-      wrote = slice_more (table_line facts) (g.W.Target.written c.args.target.now) mid new all_tables place Names
-          c.loop-table-test.true c.loop-table.invariant.wrote
+      wrote = λ all whole counted.
+          slice_more (table_line all) (g.W.Target.written c.args.target.now) mid new all_tables place Names
+          c.loop-table-test.true (c.loop-table.invariant.wrote all whole counted)
           (subst (Appends mid new)
-          (table_line_of facts (get_or all_tables place Names) c.table_word.result.now c.len.result c.table_word.ensures c.len.ensures)
+          (table_line_of all (get_or all_tables place Names) c.table_word.result.now c.count_of.result c.table_word.ensures
+          (c.count_of.ensures all whole counted))
           c.in_ok-write_count.ensures.bytes);
       well = c.in_ok-write_count.ensures.health;
     }
 
 pub returns-clause-bytes : goal.returns-clause-bytes
-returns-clause-bytes g c =
-    slice_all (table_line (heap_of c.args.heap.now).facts) (g.W.Target.written c.args.target.now) (g.W.Target.written c.loop-table.target)
-    all_tables c.loop-table.table-index c.loop-table-test.false c.loop-table.invariant.wrote
+returns-clause-bytes g c = λ all whole counted.
+    slice_all (table_line all) (g.W.Target.written c.args.target.now) (g.W.Target.written c.loop-table.target)
+    all_tables c.loop-table.table-index c.loop-table-test.false (c.loop-table.invariant.wrote all whole counted)
 
 pub returns-clause-health : goal.returns-clause-health
 returns-clause-health g c = search rules
