@@ -59,8 +59,7 @@ impl OfHeap for Reach {
 }
 
 /// Returns what each node retains, if it is kept, or makes it. `weak` are the weak fields of the heap's classes. The error is that memory
-/// ran
-/// out.
+/// ran out.
 pub(crate) fn retained_or_made(
     alloc: Global,
     heap: &Heap,

@@ -27,7 +27,7 @@ use hprof_naming::MeantLabel;
 use std::alloc::{AllocError, Global};
 
 /// Returns whether a name is that of the class of all classes, which every heap has.
-fn names_classes(name: &[u8]) -> bool
+pub fn names_classes(name: &[u8]) -> bool
     ensures { IsTrue result ↔ NamesClasses name.now }
 {
     MeantLabel::of(name).matches(b"java/lang/Class")

@@ -40,22 +40,22 @@ pub at_parts : (line want : List ℕ) → line ≡ want → codes "  at " ++ (li
 at_parts line want is = ap (λ (l : List ℕ). codes "  at " ++ (l ++ codes "\n")) is ∙ sym (append_assoc (codes "  at ") want (codes "\n"))
 
 module _ (found : Findings) (threads : ThreadFindings) (rows : List Held) where
-  pub stack_more : (number frame : ℕ) (frames : List ℕ) → stack_text found threads rows number (frame ∷ frames)
-      ≡ frame_text found threads rows number frame ++ stack_text found threads rows (number + 1) frames
+  pub stack_more : (number frame : ℕ) (frames : List ℕ) → stack_text found threads number rows (frame ∷ frames)
+      ≡ frame_text found threads rows number frame ++ stack_text found threads (number + 1) rows frames
   unfolding stack_text
   stack_more number frame frames = refl
 
-  pub no_stack : (number : ℕ) → stack_text found threads rows number [] ≡ []
+  pub no_stack : (number : ℕ) → stack_text found threads number rows [] ≡ []
   unfolding stack_text
   no_stack number = refl
 
-  pub stack_done : (number : ℕ) (frames : List ℕ) → frames ≡ [] → length (stack_text found threads rows number frames) ≡ 0
+  pub stack_done : (number : ℕ) (frames : List ℕ) → frames ≡ [] → length (stack_text found threads number rows frames) ≡ 0
   stack_done number frames none =
-      ap (λ (l : List ℕ). length (stack_text found threads rows number l)) none ∙ ap (λ (l : List ℕ). length l) (no_stack number)
+      ap (λ (l : List ℕ). length (stack_text found threads number rows l)) none ∙ ap (λ (l : List ℕ). length l) (no_stack number)
 
   -- the stack, and what is held elsewhere
   abbrev pub places_text : List ℕ → List ℕ
-  places_text frames = stack_text found threads rows 0 frames ++ elsewhere_text found (filter (is_elsewhere (length frames)) rows)
+  places_text frames = stack_text found threads 0 rows frames ++ elsewhere_text found (filter (is_elsewhere (length frames)) rows)
 
   -- without a stack all is held elsewhere
   pub no_places : elsewhere_text found (filter (is_elsewhere 0) rows) ≡ places_text []
@@ -65,5 +65,5 @@ module _ (found : Findings) (threads : ThreadFindings) (rows : List Held) where
       ≡ head_line found threads serial ++ places_text (frames_of threads serial)
   unfolding thread_text
   thread_parts serial =
-      append_assoc (head_line found threads serial) (stack_text found threads rows 0 (frames_of threads serial))
+      append_assoc (head_line found threads serial) (stack_text found threads 0 rows (frames_of threads serial))
       (elsewhere_text found (filter (is_elsewhere (length (frames_of threads serial))) rows))

@@ -36,10 +36,10 @@ frame_text found threads rows number frame = codes "  at " ++ threads.frame_line
     ++ flat_map (held_line found) (filter (is_in_frame number) rows)
 
 -- the frames from that number on
-unfoldable pub stack_text : Findings → ThreadFindings → List Held → (number : ℕ) → (frames : List ℕ) → List ℕ
-stack_text found threads rows number [] = []
-stack_text found threads rows number (frame ∷ frames) =
-    frame_text found threads rows number frame ++ stack_text found threads rows (number + 1) frames
+unfoldable pub stack_text : Findings → ThreadFindings → (number : ℕ) → List Held → (frames : List ℕ) → List ℕ
+stack_text found threads number rows [] = []
+stack_text found threads number rows (frame ∷ frames) =
+    frame_text found threads rows number frame ++ stack_text found threads (number + 1) rows frames
 
 -- ---- elsewhere
 
@@ -85,7 +85,7 @@ head_line found threads serial = codes "thread " ++ decimal serial
 
 -- a thread that holds this
 unfoldable pub thread_text : Findings → ThreadFindings → ℕ → List Held → List ℕ
-thread_text found threads serial rows = head_line found threads serial ++ stack_text found threads rows 0 (frames_of threads serial)
+thread_text found threads serial rows = head_line found threads serial ++ stack_text found threads 0 rows (frames_of threads serial)
     ++ elsewhere_text found (filter (is_elsewhere (length (frames_of threads serial))) rows)
 
 -- the text is the report of these facts, which agree

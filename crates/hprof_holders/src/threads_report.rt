@@ -113,7 +113,7 @@ fn write_stack<W: Target>(
     ensures bytes { (found : Findings) (threads : ThreadFindings) (serial : ℕ) → AreFindings (size_of heap.now) (facts_of heap.now) found
         → AreThreadFindings (facts_of heap.now) found.naming threads → AreHeldBy (facts_of heap.now) serial rows.now
         → WritesText (W.written target.old) (W.written target.new) result
-        (stack_text found threads rows.now 0 (identifiers_of frames.entry)) }
+        (stack_text found threads 0 rows.now (identifiers_of frames.entry)) }
     ensures health { LeavesTarget result (W.health target.new) }
 {
     let mut number: u64 = 0;
@@ -138,7 +138,7 @@ fn write_framed<W: Target>(
     ensures bytes { (found : Findings) (threads : ThreadFindings) (serial : ℕ) → AreFindings (size_of heap.now) (facts_of heap.now) found
         → AreThreadFindings (facts_of heap.now) found.naming threads → AreHeldBy (facts_of heap.now) serial rows.now
         → let stack = identifiers_of frames.entry in WritesText (W.written target.old) (W.written target.new) result
-        (stack_text found threads rows.now 0 stack ++ elsewhere_text found (filter (is_elsewhere (length stack)) rows.now)) }
+        (stack_text found threads 0 rows.now stack ++ elsewhere_text found (filter (is_elsewhere (length stack)) rows.now)) }
     ensures health { LeavesTarget result (W.health target.new) }
 {
     let count = frames.len() as u64;
@@ -161,7 +161,7 @@ fn write_places<W: Target>(
     ensures bytes { (found : Findings) (threads : ThreadFindings) (serial : ℕ) → AreFindings (size_of heap.now) (facts_of heap.now) found
         → AreThreadFindings (facts_of heap.now) found.naming threads → AreHeldBy (facts_of heap.now) serial rows.now
         → let stack = frames_in (option_map identifiers_of frames.entry) in WritesText (W.written target.old) (W.written target.new) result
-        (stack_text found threads rows.now 0 stack ++ elsewhere_text found (filter (is_elsewhere (length stack)) rows.now)) }
+        (stack_text found threads 0 rows.now stack ++ elsewhere_text found (filter (is_elsewhere (length stack)) rows.now)) }
     ensures health { LeavesTarget result (W.health target.new) }
 {
     match frames {

@@ -179,10 +179,8 @@ fn write_roots<W: Target>(
 /// identifier that strong references do not reach, and for 0.
 ///
 /// The report has the total; then the dominators of the node, from the outermost to itself, and the nodes right below it, each with the
-/// bytes
-/// and the number of the objects that it retains. The identifier 0 stands for the roots together. Of an identifier that strong references
-/// do
-/// not reach the report says so.
+/// bytes and the number of the objects that it retains. The identifier 0 stands for the roots together. Of an identifier that strong
+/// references do not reach the report says so.
 ///
 /// If the writer fails or memory runs out, the bytes written are the beginning of the report. Its form is this project's own.
 pub fn write_keeps<W: Target>(

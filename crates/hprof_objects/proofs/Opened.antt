@@ -29,7 +29,8 @@ module _ {R : Type 0} (left : R → Option (List ℕ)) (health : R → Health) (
   open_last (first ∷ list) [] stretch it each one = absurd each
   open_last (first ∷ list) (cursor ∷ cursors) stretch it each one = (each.0, open_last list cursors stretch it each.1 one)
 
-  pub added_none : {A : Type 0} (cursors : List (OneOf A (StretchCursor R))) → AddsStretches left health pulls limits told [] cursors cursors
+  pub added_none : {A : Type 0} (cursors : List (OneOf A (StretchCursor R))) → AddsStretches left health pulls limits told [] cursors
+      cursors
   added_none cursors = record { opened = []; are = sym (append-nil cursors); each = tt }
 
   pub added_more : {A : Type 0} (list : List Stretch) (index : ℕ) (stretch : Stretch) (it : StretchCursor R)

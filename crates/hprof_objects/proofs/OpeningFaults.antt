@@ -22,12 +22,15 @@ use Rattle.hprof_objects.specs.StretchCursor.{RefusesOneOf}
 use Rattle.hprof_objects.specs.Stretches.{AreStretches, IsStretch}
 
 -- each stretch has rows
-rows_of : (limits : Limits) (reads : List PartRead) (list : List Stretch) (lists : List (List ByteRow)) → AreStretches limits reads list lists → (k : ℕ)
+rows_of : (limits : Limits) (reads : List PartRead) (list : List Stretch) (lists : List (List ByteRow)) → AreStretches limits reads list
+    lists → (k : ℕ)
     (one : Stretch) → slice_index_or list k one ≡ one → k < length list → (rows : List ByteRow) × IsStretch limits reads one rows
 rows_of limits reads [] lists are k one is lt = absurd (omega (arith, lt))
 rows_of limits reads (first ∷ list) [] are k one is lt = absurd are
-rows_of limits reads (first ∷ list) (rows ∷ lists) are zero one is lt = (rows, subst (λ (s : Stretch). IsStretch limits reads s rows) is are.0)
-rows_of limits reads (first ∷ list) (rows ∷ lists) are (suc k) one is lt = rows_of limits reads list lists are.1 k one is (omega (arith, lt))
+rows_of limits reads (first ∷ list) (rows ∷ lists) are zero one is lt =
+    (rows, subst (λ (s : Stretch). IsStretch limits reads s rows) is are.0)
+rows_of limits reads (first ∷ list) (rows ∷ lists) are (suc k) one is lt = rows_of limits reads list lists are.1 k one is
+    (omega (arith, lt))
 
 -- a part that is not there is not the same
 pub not_there : (limits : Limits) (told : List (Option (List ℕ))) (one : Stretch) → length told ≤ one.part → (reads : List PartRead)

@@ -41,7 +41,8 @@ any_of_parts (part ∷ parts) row has = elim (has_either (rows_of_part part) (ro
   | inr behind ↦ let there = any_of_parts parts row behind in (suc there.0, there.1)
 ]
 
-parts_of_any : (parts : List PartRead) (row : ByteRow) (place : ℕ) → Has (rows_at (objects_of parts) place) row → Has (rows_of_parts parts) row
+parts_of_any : (parts : List PartRead) (row : ByteRow) (place : ℕ) → Has (rows_at (objects_of parts) place) row → Has
+    (rows_of_parts parts) row
 parts_of_any [] row place has = absurd has
 parts_of_any (part ∷ parts) row zero has = has_front (rows_of_part part) (rows_of_parts parts) row has
 parts_of_any (part ∷ parts) row (suc place) has =

@@ -35,7 +35,8 @@ use Rattle.hprof_objects.proofs.Whole.{row_again}
 use Rattle.hprof_objects.proofs.Whole.{row_of}
 
 -- a fact of the parts has a spelling
-fits_given : (ids : IdSize) (parts : List Given) (fact : FactValue) → AllByRecursion (λ part. part.header.ids ≡ ids) parts → FitGiven parts
+pub fits_given : (ids : IdSize) (parts : List Given) (fact : FactValue) → AllByRecursion (λ part. part.header.ids ≡ ids) parts → FitGiven
+    parts
     → sets.Has (all_given parts) fact → Fits ids fact
 fits_given ids [] fact same fit h = absurd h
 fits_given ids (part ∷ parts) fact same fit h = elim (Has-parts part.facts (all_given parts) fact h) [

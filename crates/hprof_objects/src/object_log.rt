@@ -201,8 +201,7 @@ impl<S: Scratch + Drop> ObjectLog<S> {
     }
 
     /// Goes on with a stretch whose rows are the last ones in memory, from this one on. If it is long enough, it stays in its part, and
-    /// they
-    /// leave the memory.
+    /// they leave the memory.
     fn settle(&mut self, growing: Growing, from: usize)
         requires { growing.stands ≡ InMemory from }
         ensures log { (limits : Limits) (parts : List PartRead) (part : PartRead) (rows : List ByteRow)

@@ -1,5 +1,6 @@
 -- The facts on which parts agree: those of the heap without objects, and the stored objects behind them.
 use Rattle.std.proofs.Common.{◌≡◌, ℕ, false, List, [], ◌∷◌, ◌++◌, length, map, take, Option, Some, Ok, refl, sym, ap, subst}
+use Rattle.std.specs.Prelude.{⊤}
 use Rattle.std.specs.List.{AllByRecursion}
 use Rattle.hprof_values.specs.declared.ids.IdSize.{IdSize}
 use Rattle.hprof_items.specs.FactValue.{FactValue}
@@ -13,10 +14,20 @@ use Rattle.hprof_heap.specs.Heap.{heap_of}
 use Rattle.hprof_heap.specs.State.{IsLeastOf}
 use Rattle.hprof_merge.specs.Rows.{ByteRow}
 use Rattle.hprof_merge.specs.TwoContents.{IsLeastWithTwoContents}
-use Rattle.hprof_merge.specs.Union.{IsUnion}
+use Rattle.hprof_merge.specs.Union.{AnyHas, IsUnion}
+use Rattle.hprof_runs.specs.declared.run_fault.RunFault.{RunFault}
+use Rattle.hprof_runs.specs.declared.run_fault.RunFault.TheVariants as runs
+use Rattle.hprof_runs.specs.RunFault.{IfDamaged}
+use Rattle.hprof_objects.specs.declared.stretch_fault.StretchFault.{StretchFault}
+use Rattle.hprof_objects.specs.declared.stretch_fault.StretchFault.TheVariants as stretches
 use Rattle.hprof_objects.specs.ObjectRows.{object_rows}
-use Rattle.hprof_objects.specs.StoredObjects.{objects_of}
+use Rattle.hprof_objects.specs.PartsRead.{PartRead}
+use Rattle.hprof_objects.specs.ReadAgain.{IsSameAt}
+use Rattle.hprof_objects.specs.StoredObjects.{HoldsObjects, objects_of}
+use Rattle.hprof_objects.specs.StretchFault.{ByFault}
 use Rattle.hprof_objects.specs.Whole.{AreObjects, FitGiven, is_object, rows_given, with_objects, without_objects}
+use Rattle.hprof_objects.proofs.Whole.{fact_given}
+use Rattle.hprof_objects.proofs.WholeHeap.{fits_given}
 use Rattle.hprof_engine.specs.Joining.{Agree, AreGiven, Disagree}
 use Rattle.hprof_engine.specs.Outcome.{ComesTo, OneHeap, Outcome}
 use Rattle.hprof_engine.proofs.Answers.{agree, disagree, given_by_parts}
@@ -24,9 +35,14 @@ use Rattle.hprof_engine.proofs.PartByPart.{say_together}
 use Rattle.hprof_engine.proofs.Stated.{given_state}
 use Rattle.hprof_engine.proofs.Together.{together_once}
 use Rattle.hprof_stored.specs.declared.in_parts.InParts.{InParts}
+use Rattle.hprof_stored.specs.declared.pass_fault.PassFault.{PassFault}
+use Rattle.hprof_stored.specs.declared.pass_fault.PassFault.TheVariants as faults
 use Rattle.hprof_stored.specs.declared.stored_heap.StoredHeap.{StoredHeap}
-use Rattle.hprof_stored.specs.InParts.{AreAsRead, AreStoredOf, HaveUnion, MakeUp, limits_under, objects_under, parts_under}
+use Rattle.hprof_stored.specs.InParts.{AreAsRead, AreStoredOf, HaveUnion, IsOfSame, MakeUp, TellsPass}
+use Rattle.hprof_stored.specs.InParts.{limits_under, objects_under, parts_under}
 use Rattle.hprof_stored.specs.Parts.{AreStored, PartStored, all_read, given_of}
+use Rattle.hprof_stored.specs.RowDecoder.{SpellsObject}
+use Rattle.hprof_stored.proofs.ObjectSpelling.{row_spells}
 use Rattle.hprof_stored.proofs.Joined.{ComeLast, StandBehind, TellWhole, by_all, by_parts, fits, rows_same, same_ids, told_again}
 use Rattle.hprof_stored.proofs.ObjectTable.{among_all, no_object_given, other_tables}
 
@@ -114,6 +130,37 @@ module _ {R S P : Type 0} (left : R → Option (List ℕ)) (written : S → Opti
       → (all : List FactValue) × Agree told heap.ids heap.millis all
   union_agrees behind whole have =
       let it = have (all_read parts) as_read in (_, agreed behind whole it.0 it.1)
+
+  -- each row of the parts spells an object
+  rows_spelled : (row : ByteRow) → AnyHas (objects_of (all_read parts)) row → (object : FactValue) × SpellsObject heap.ids row.1 object
+  rows_spelled row has =
+      let of_fact = fact_given heap.ids given row sizes (subst (λ (l : List (List ByteRow)). AnyHas l row) (rows_same parts) has) in
+      (of_fact.fact, row_spells heap.ids of_fact.fact row (fits_given heap.ids given of_fact.fact sizes fit of_fact.has) of_fact.is)
+
+  -- a damage, if it is one, is of a scratch that does not hold the objects
+  not_damaged : (fault : RunFault)
+      → IfDamaged fault ((reads : List PartRead) → HoldsObjects written health (limits_under it) reads (objects_under it) → ⊥)
+      → IfDamaged fault ⊥
+  not_damaged runs.OutOfMemory damaged = tt
+  not_damaged runs.Read damaged = tt
+  not_damaged runs.Damaged damaged = damaged (all_read parts) as_read.holds
+
+  -- a change, if it is one, is of a part that is not the same
+  not_changed : (part : ℕ) (fault : StretchFault)
+      → ByFault fault ⊤ ((reads : List PartRead) → HoldsObjects written health (limits_under it) reads (objects_under it)
+      → IsSameAt (limits_under it) (bytes (parts_under it)) reads part → ⊥) → ByFault fault ⊤ ⊥
+  not_changed part stretches.OutOfMemory changed = tt
+  not_changed part stretches.Read changed = tt
+  not_changed part stretches.Changed changed = changed (all_read parts) as_read.holds (as_read.same part)
+
+  pub faults_of_same : (unreadable : S → Type 0) (fault : PassFault)
+      → TellsPass written health bytes unreadable it heap.ids heap.facts fault → IsOfSame fault
+  faults_of_same unreadable faults.OutOfMemory tells = tt
+  faults_of_same unreadable (faults.TwoContents id) tells = tt
+  faults_of_same unreadable (faults.Scratch fault) tells = not_damaged fault tells.1
+  faults_of_same unreadable (faults.Part part fault) tells = not_changed part fault tells
+  faults_of_same unreadable faults.NoObject tells = tells (all_read parts) as_read rows_spelled
+  faults_of_same unreadable faults.TooMany tells = tt
 
   -- objects with two contents
   pub contents_disagree : ComeLast → (id : ℕ) → IsLeastWithTwoContents (objects_of (all_read parts)) id → Disagree told (keys.Object id)

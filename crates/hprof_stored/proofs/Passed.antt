@@ -6,7 +6,8 @@ use Rattle.hprof_devices.specs.declared.health.Health.{Health}
 use Rattle.hprof_merge.specs.Rows.{ByteRow}
 use Rattle.hprof_merge.specs.Run.{Runs}
 use Rattle.hprof_merge.specs.Merging.{RefusesRow, TakesAll, TakesBelow}
-use Rattle.hprof_merge.specs.Union.{IsUnion}
+use Rattle.hprof_merge.specs.Union.{AnyHas, IsUnion}
+use Rattle.hprof_merge.proofs.Lists.{append-last}
 use Rattle.hprof_merge.proofs.Unions.{union_front, union_unique}
 use Rattle.hprof_objects.specs.declared.object_stop.ObjectStop.{ObjectStop}
 use Rattle.hprof_objects.specs.declared.object_stop.ObjectStop.TheVariants as stops
@@ -42,6 +43,21 @@ module _ {T E : Type 0} (takes : T → IdSize → FactValue → T → Type 0) (r
   same_lists =
       unchanged.same_lists (GivesObject takes) (GivesNone refuses) AreOverSame (λ it. (refl, refl)) same_then
       (λ old key bytes new gives. gives.over) (λ old key bytes fault new gives. gives.0)
+
+  -- ---- a row that is refused
+
+  module _ (ids : IdSize) (lists : List (List ByteRow)) (old new : RowDecoder T) (size : old.ids ≡ ids) where
+    size_then : (row : ByteRow) (refusal : RowRefusal E)
+        → (refused : RefusesRow (GivesObject takes) (GivesNone refuses) lists row refusal old new) → refused.mid.ids ≡ ids
+    size_then row refusal refused = (same_run old refused.front refused.mid refused.run).0 ∙ size
+
+    -- where each row spells an object, none is refused as spelling none
+    pub none_refused : ((row : ByteRow) → AnyHas lists row → (object : FactValue) × SpellsObject ids row.1 object)
+        → (row : ByteRow) → RefusesRow (GivesObject takes) (GivesNone refuses) lists row refusals.NoObject old new → ⊥
+    none_refused spelled row refused =
+        let object = spelled row ((refused.union.same row).0 (append-last refused.front row)).0 in
+        refused.refused.1.1 object.0
+        (subst (λ (i : IdSize). SpellsObject i row.1 object.0) (sym (size_then row refusals.NoObject refused)) object.1)
 
   -- ---- the objects of rows
 
@@ -96,23 +112,19 @@ module _ {T E : Type 0} (takes : T → IdSize → FactValue → T → Type 0) (r
           object_at ids refused.front row cut.0 objects
           (subst (λ (l : List ByteRow). AreObjects ids l objects) (cut.1 ∙ append_assoc refused.front (row ∷ []) cut.0) are)
 
-      size_then : (row : ByteRow) (refusal : RowRefusal E)
-          → (refused : RefusesRow (GivesObject takes) (GivesNone refuses) lists row refusal old new) → refused.mid.ids ≡ ids
-      size_then row refusal refused = (same_run old refused.front refused.mid refused.run).0 ∙ size
-
-      -- each row spells an object
-      pub none_refused : (row : ByteRow) → RefusesRow (GivesObject takes) (GivesNone refuses) lists row refusals.NoObject old new → ⊥
-      none_refused row refused =
+      no_object : (row : ByteRow) → RefusesRow (GivesObject takes) (GivesNone refuses) lists row refusals.NoObject old new → ⊥
+      no_object row refused =
           let at = refused_at row refusals.NoObject refused in
           refused.refused.1.1 at.object
-          (subst (λ (i : IdSize). SpellsObject i row.1 at.object) (sym (size_then row refusals.NoObject refused)) at.spells)
+          (subst (λ (i : IdSize). SpellsObject i row.1 at.object)
+          (sym (size_then ids lists old new size row refusals.NoObject refused)) at.spells)
 
       object_refused : (row : ByteRow) (fault : E)
           → RefusesRow (GivesObject takes) (GivesNone refuses) lists row (refusals.Sink fault) old new
           → RefusesObject takes refuses ids objects fault (sink_under old) (sink_under new)
       object_refused row fault refused =
           let at = refused_at row (refusals.Sink fault) refused in
-          let sized = size_then row (refusals.Sink fault) refused in
+          let sized = size_then ids lists old new size row (refusals.Sink fault) refused in
           let mid = refused.mid in
           let it = refused.refused.1 in
           let one : it.0 ≡ at.object =
@@ -135,7 +147,7 @@ module _ {T E : Type 0} (takes : T → IdSize → FactValue → T → Type 0) (r
       stopped (stops.TwoContents id) front = below id front.1
       stopped (stops.Scratch fault) front = below front.0 front.1
       stopped (stops.Part part fault) front = below front.0 front.1
-      stopped (stops.Sink refusals.NoObject) refused = absurd (none_refused refused.0 refused.1)
+      stopped (stops.Sink refusals.NoObject) refused = absurd (no_object refused.0 refused.1)
       stopped (stops.Sink (refusals.Sink fault)) refused = object_refused refused.0 fault refused.1
 
 -- ---- what a pass tells of the parts
@@ -153,9 +165,9 @@ module _ {S P T E : Type 0} (written : S → Option (List ℕ)) (health : S → 
   told_by ids facts size (stops.TwoContents id) within changed fails = λ reads as_read. (within reads as_read).0
   told_by ids facts size (stops.Scratch fault) within changed fails = (fails, changed)
   told_by ids facts size (stops.Part part fault) within changed fails = changed
-  told_by ids facts size (stops.Sink refusals.NoObject) within changed fails = λ reads all objects as_read union are.
+  told_by ids facts size (stops.Sink refusals.NoObject) within changed fails = λ reads as_read spelled.
       let refused = within reads as_read in
-      none_refused takes refuses ids (objects_of reads) all objects union are old new size refused.0 refused.1
+      none_refused takes refuses ids (objects_of reads) old new size spelled refused.0 refused.1
   told_by ids facts size (stops.Sink (refusals.Sink fault)) within changed fails = tt
 
   -- facts that the objects make up

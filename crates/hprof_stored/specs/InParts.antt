@@ -6,7 +6,7 @@ use Rattle.hprof_devices.specs.declared.health.Health.{Health}
 use Rattle.hprof_stream.specs.declared.limits.Limits.{Limits}
 use Rattle.hprof_merge.specs.Rows.{ByteRow}
 use Rattle.hprof_merge.specs.TwoContents.{IsLeastWithTwoContents}
-use Rattle.hprof_merge.specs.Union.{IsUnion}
+use Rattle.hprof_merge.specs.Union.{AnyHas, IsUnion}
 use Rattle.hprof_runs.specs.RunFault.{IfDamaged, IfReadFailed}
 use Rattle.hprof_objects.specs.declared.object_stop.ObjectStop.{ObjectStop}
 use Rattle.hprof_objects.specs.declared.object_stop.ObjectStop.TheVariants as stops
@@ -28,6 +28,7 @@ use Rattle.hprof_stored.specs.declared.row_decoder.RowRefusal.{RowRefusal}
 use Rattle.hprof_stored.specs.declared.row_decoder.RowRefusal.TheVariants as rows
 use Rattle.hprof_stored.specs.declared.stored_heap.StoredHeap.{StoredHeap}
 use Rattle.hprof_stored.specs.Reading.{HoldsHeap}
+use Rattle.hprof_stored.specs.RowDecoder.{SpellsObject}
 
 -- the stored objects, the parts, and the limits of the first reading
 abbrev pub objects_under : {S P : Type 0} → InParts S P → StoredObjects S
@@ -70,7 +71,7 @@ module _ {S P : Type 0} (written : S → Option (List ℕ)) (health : S → Heal
     pub whole : IsWhole ids facts all
 
   -- what a fault tells of the parts: the least identifier with two contents; the scratch cannot be read, or does not hold what was written;
-  -- the part is not as it was read; the rows are not those of objects; there are too many objects
+  -- the part is not as it was read; not every row of the parts spells an object; there are too many objects
   abbrev pub TellsPass : (S → Type 0) → InParts S P → IdSize → List FactValue → PassFault → Type 0
   TellsPass unreadable it ids facts faults.OutOfMemory = ⊤
   TellsPass unreadable it ids facts (faults.TwoContents id) =
@@ -82,9 +83,18 @@ module _ {S P : Type 0} (written : S → Option (List ℕ)) (health : S → Heal
       ByFault fault ⊤ ((reads : List PartRead) → HoldsObjects written health (limits_under it) reads (objects_under it)
       → IsSameAt (limits_under it) (bytes (parts_under it)) reads part → ⊥)
   TellsPass unreadable it ids facts faults.NoObject =
-      (reads : List PartRead) (rows : List ByteRow) (objects : List FactValue) → AreAsRead it reads → IsUnion (objects_of reads) rows
-      → AreObjects ids rows objects → ⊥
+      (reads : List PartRead) → AreAsRead it reads
+      → ((row : ByteRow) → AnyHas (objects_of reads) row → (object : FactValue) × SpellsObject ids row.1 object) → ⊥
   TellsPass unreadable it ids facts faults.TooMany = (all : List FactValue) → MakeUp it ids facts all → 2 ^ 64 ≤ length (objects_among all)
+
+-- with which faults a pass ends, where the parts are as they were read and the scratch tells its bytes
+abbrev pub IsOfSame : PassFault → Type 0
+IsOfSame faults.OutOfMemory = ⊤
+IsOfSame (faults.TwoContents id) = ⊤
+IsOfSame (faults.Scratch fault) = IfDamaged fault ⊥
+IsOfSame (faults.Part part fault) = ByFault fault ⊤ ⊥
+IsOfSame faults.NoObject = ⊥
+IsOfSame faults.TooMany = ⊤
 
 -- the readers told these parts, which are the same when they are opened again, and the scratch told its bytes: these are the objects that
 -- were stored when the readers were read

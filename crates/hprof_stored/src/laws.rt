@@ -12,8 +12,9 @@ ghost use Rattle.hprof_merge.specs.Rows.{ByteRow};
 ghost use Rattle.hprof_objects.specs.Whole.{AreObjects};
 ghost use Rattle.hprof_engine.specs.Joining.{Agree, Disagree};
 ghost use Rattle.hprof_stored.specs.Dumping.{dump_with};
-ghost use Rattle.hprof_stored.specs.InParts.{AreStoredOf, HaveUnion, MakeUp, TellsPass};
+ghost use Rattle.hprof_stored.specs.InParts.{AreStoredOf, HaveUnion, IsOfSame, MakeUp, TellsPass};
 ghost use Rattle.hprof_stored.specs.declared.in_parts.InParts.{InParts};
+ghost use Rattle.hprof_stored.specs.declared.pass_fault.PassFault.{PassFault};
 ghost use Rattle.hprof_stored.specs.declared.pass_fault.PassFault.TheVariants.{TwoContents};
 ghost use Rattle.hprof_stored.specs.declared.stored_heap.StoredHeap.{StoredHeap};
 
@@ -33,6 +34,7 @@ pub fn dump_with_objects_is_canonical()
 
 /// The objects that were stored as parts were read make up, with the facts of the heap without them, the facts on which the parts agree. If
 /// the objects have a union, the parts agree. If they have two contents, the least identifier that has is the least conflict of the parts.
+/// What comes is always an object, the scratch holds what was written, and no part has changed.
 pub fn stored_objects_are_those_of_the_parts<R: Source, S: Scratch, P: Parts>()
     ensures heap { (readers : List R) (scratch : Option (List ℕ)) (stored : StoredHeap S) (it : InParts S P) (told : List (List ℕ))
         (ids : IdSize) (millis : ℕ) (all : List FactValue)
@@ -46,6 +48,9 @@ pub fn stored_objects_are_those_of_the_parts<R: Source, S: Scratch, P: Parts>()
         (id : ℕ) → AreStoredOf R.left S.written S.health P.bytes readers scratch stored it told
         → TellsPass S.written S.health P.bytes S.unreadable it (size_of stored.heap) (facts_of stored.heap) (TwoContents id)
         → Disagree told (Object id) }
+    ensures faults { (readers : List R) (scratch : Option (List ℕ)) (stored : StoredHeap S) (it : InParts S P) (told : List (List ℕ))
+        (fault : PassFault) → AreStoredOf R.left S.written S.health P.bytes readers scratch stored it told
+        → TellsPass S.written S.health P.bytes S.unreadable it (size_of stored.heap) (facts_of stored.heap) fault → IsOfSame fault }
 {
     parts_come_to_one_thing();
     objects_in_order_are_their_union();

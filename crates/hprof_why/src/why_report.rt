@@ -84,8 +84,7 @@ fn write_reached<W: Target>(
 ///
 /// The report has the shortest path by strong references, or if there is none `only by weak references` and the shortest path by all; or
 /// that no root leads to the identifier, or that it has no dump. If the writer fails or memory runs out, the bytes written are the
-/// beginning
-/// of the report.
+/// beginning of the report.
 pub fn write_why<W: Target>(
     alloc: Global,
     view: HeapView<'_>,

@@ -16,7 +16,7 @@ returns-in_err-write_stack-clause-bytes g c = λ found threads serial are are_th
     let rows = c.args.rows.now in
     let stack = identifiers_of c.args.frames in
     text_stops r.result (g.W.Target.written c.args.target.now) (g.W.Target.written c.write_stack.new.target) p.0
-    (stack_text found threads rows 0 stack) (elsewhere_text found (filter (is_elsewhere (length stack)) rows)) p.1
+    (stack_text found threads 0 rows stack) (elsewhere_text found (filter (is_elsewhere (length stack)) rows)) p.1
     (c.in_err-write_stack.ensures.bytes found threads serial are are_threads held)
 
 pub returns-clause-bytes : goal.returns-clause-bytes
@@ -28,7 +28,7 @@ returns-clause-bytes g c = λ found threads serial are are_threads held.
     let new = g.W.Target.written c.write_elsewhere.new.target in
     let rest = c.rows_elsewhere-rest.ensures (facts_of c.args.heap.now) serial held
     ∙ ap (λ (count : ℕ). filter (is_elsewhere count) rows) c.len-count.ensures in
-    text_then r (g.W.Target.written c.args.target.now) mid new (stack_text found threads rows 0 stack)
+    text_then r (g.W.Target.written c.args.target.now) mid new (stack_text found threads 0 rows stack)
     (elsewhere_text found (filter (is_elsewhere (length stack)) rows))
     (c.in_ok-write_stack.ensures.bytes found threads serial are are_threads held)
     (subst (λ (left : List Held). WritesText mid new r (elsewhere_text found left)) rest (c.write_elsewhere.ensures.bytes found are))

@@ -16,8 +16,8 @@ loop-frame-init g c =
     record {
       pushed = λ found threads serial are are_threads held.
           let rows = c.args.rows.now in
-          let all = stack_text found threads rows 0 (identifiers_of c.args.frames) in
-          subst (λ (frames : List ℕ). Pushed old old all (stack_text found threads rows 0 frames)) (sym same) (Pushed-none old all);
+          let all = stack_text found threads 0 rows (identifiers_of c.args.frames) in
+          subst (λ (frames : List ℕ). Pushed old old all (stack_text found threads 0 rows frames)) (sym same) (Pushed-none old all);
       well = c.requires.well;
       count = omega (arith, ap (λ (frames : List ℕ). length frames) same);
     }
@@ -31,11 +31,11 @@ returns-in_err-write_frame-clause-bytes g c = λ found threads serial are are_th
     let frame = c.in-Some.frame in
     let rest = identifiers_left c.next.new.self in
     pushed_stops_within r.result p.0 p.1 (g.W.Target.written c.args.target.now) (g.W.Target.written c.loop-frame.target)
-    (stack_text found threads rows 0 (identifiers_of c.args.frames))
-    (stack_text found threads rows number (identifiers_left c.loop-frame.frame-iterator))
+    (stack_text found threads 0 rows (identifiers_of c.args.frames))
+    (stack_text found threads number rows (identifiers_left c.loop-frame.frame-iterator))
     (c.loop-frame.invariant.pushed found threads serial are are_threads held) (g.W.Target.written c.write_frame.new.target)
-    (frame_text found threads rows number frame) (stack_text found threads rows (number + 1) rest)
-    (ap (stack_text found threads rows number) c.in-Some.ensures.steps ∙ stack_more found threads rows number frame rest)
+    (frame_text found threads rows number frame) (stack_text found threads (number + 1) rows rest)
+    (ap (stack_text found threads number rows) c.in-Some.ensures.steps ∙ stack_more found threads rows number frame rest)
     (c.in_err-write_frame.ensures.bytes found threads serial are are_threads held)
 
 pub loop-frame-preserved : goal.loop-frame-preserved
@@ -50,11 +50,11 @@ loop-frame-preserved g c =
           let frame = c.in-Some.frame in
           let rest = identifiers_left c.next.new.self in
           Pushed-more (g.W.Target.written c.args.target.now) (g.W.Target.written c.loop-frame.target)
-          (g.W.Target.written c.write_frame.new.target) (stack_text found threads rows 0 (identifiers_of c.args.frames))
-          (stack_text found threads rows number (identifiers_left c.loop-frame.frame-iterator))
-          (frame_text found threads rows number frame) (stack_text found threads rows (number + 1) rest)
+          (g.W.Target.written c.write_frame.new.target) (stack_text found threads 0 rows (identifiers_of c.args.frames))
+          (stack_text found threads number rows (identifiers_left c.loop-frame.frame-iterator))
+          (frame_text found threads rows number frame) (stack_text found threads (number + 1) rows rest)
           (c.loop-frame.invariant.pushed found threads serial are are_threads held)
-          (ap (stack_text found threads rows number) steps ∙ stack_more found threads rows number frame rest)
+          (ap (stack_text found threads number rows) steps ∙ stack_more found threads rows number frame rest)
           (c.in_ok-write_frame.ensures.bytes found threads serial are are_threads held);
       well = c.in_ok-write_frame.ensures.health;
       count = omega (arith, lengths, count);
@@ -66,6 +66,6 @@ returns-clause-bytes g c = λ found threads serial are are_threads held.
     let number = c.loop-frame.number in
     let left = identifiers_left c.loop-frame.frame-iterator in
     Pushed-all (g.W.Target.written c.args.target.now) (g.W.Target.written c.loop-frame.target)
-    (stack_text found threads rows 0 (identifiers_of c.args.frames)) (stack_text found threads rows number left)
+    (stack_text found threads 0 rows (identifiers_of c.args.frames)) (stack_text found threads number rows left)
     (c.loop-frame.invariant.pushed found threads serial are are_threads held)
     (stack_done found threads rows number left c.in-None.ensures.steps.0)

@@ -14,8 +14,8 @@ invariant-loop-frame g l = record {
   pushed : (found : Findings) (threads : ThreadFindings) (serial : ℕ) → AreFindings (size_of l.heap) (facts_of l.heap) found
       → AreThreadFindings (facts_of l.heap) found.naming threads → AreHeldBy (facts_of l.heap) serial l.rows
       → Pushed (g.W.Target.written l.fn.target) (g.W.Target.written l.target)
-      (stack_text found threads l.rows 0 (identifiers_of l.fn.frames))
-      (stack_text found threads l.rows l.number (identifiers_left l.frame-iterator));
+      (stack_text found threads 0 l.rows (identifiers_of l.fn.frames))
+      (stack_text found threads l.number l.rows (identifiers_left l.frame-iterator));
   well : g.W.Target.health l.target ≡ Well;
   count : l.number + length (identifiers_left l.frame-iterator) ≡ length (identifiers_of l.fn.frames);
 }

@@ -12,7 +12,8 @@ use Rattle.hprof_objects.proofs.opening.open_stretches.Goals as goal
 
 pub loop-index-init : goal.loop-index-init
 loop-index-init g c = record {
-  adds = added_none g.R.Source.left g.R.Source.health g.R.Source.pulls c.args.limits (g.P.Parts.bytes c.args.parts.now) c.args.cursors.now.items;
+  adds = added_none g.R.Source.left g.R.Source.health g.R.Source.pulls c.args.limits (g.P.Parts.bytes c.args.parts.now)
+      c.args.cursors.now.items;
   well = c.requires.well;
 }
 
@@ -55,7 +56,8 @@ loop-index-preserved g c =
 pub returns-clause-adds : goal.returns-clause-adds
 returns-clause-adds g c =
     let now = c.loop-index in
-    added_all g.R.Source.left g.R.Source.health g.R.Source.pulls c.args.limits (g.P.Parts.bytes c.args.parts.now) c.args.stretches.now now.index
+    added_all g.R.Source.left g.R.Source.health g.R.Source.pulls c.args.limits (g.P.Parts.bytes c.args.parts.now) c.args.stretches.now
+        now.index
     c.args.cursors.now.items now.cursors.items now.invariant.adds
     (omega (arith, c.loop-index-test.false, now.auto.index-end))
 

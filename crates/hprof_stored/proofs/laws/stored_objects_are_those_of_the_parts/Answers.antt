@@ -1,6 +1,6 @@
 use Rattle.hprof_heap.specs.HeapFacts.{facts_of, size_of}
 use Rattle.hprof_stored.specs.Parts.{all_read}
-use Rattle.hprof_stored.proofs.MadeUp.{agreed_made_up, as_read, contents_disagree, union_agrees}
+use Rattle.hprof_stored.proofs.MadeUp.{agreed_made_up, as_read, contents_disagree, faults_of_same, union_agrees}
 use Rattle.hprof_stored.proofs.laws.stored_objects_are_those_of_the_parts.Goals as goal
 
 pub returns-clause-heap : goal.returns-clause-heap
@@ -23,3 +23,9 @@ returns-clause-disagree g c = λ readers scratch stored it told id are tells.
     c.conflicts_of_objects_come_last.ensures.objects id
     (tells (all_read are.holds.parts)
     (as_read g.R.Source.left g.S.Target.written g.S.Target.health g.P.Parts.bytes readers scratch stored it told are))
+
+pub returns-clause-faults : goal.returns-clause-faults
+unfolding facts_of size_of
+returns-clause-faults g c = λ readers scratch stored it told fault are tells.
+    faults_of_same g.R.Source.left g.S.Target.written g.S.Target.health g.P.Parts.bytes readers scratch stored it told are
+    g.S.Scratch.unreadable fault tells

@@ -9,7 +9,8 @@ returns-in-Err-clause-again g c =
     let told = g.P.Parts.bytes c.args.parts.now in
     subst (λ (s : ObjectStop g.row.F.Denot). TellsChange g.S.Target.written g.S.Target.health c.args.limits told c.args.self.now s)
     (sym c.scratch_stop.ensures)
-    (scratch_tells g.row.F.Denot g.S.Target.written g.S.Target.health c.args.limits told c.args.self.now c.in-Err.fault c.in-Err.ensures.fault)
+    (scratch_tells g.row.F.Denot g.S.Target.written g.S.Target.health c.args.limits told c.args.self.now c.in-Err.fault
+        c.in-Err.ensures.fault)
 
 pub returns-clause-again : goal.returns-clause-again
 returns-clause-again g c =
@@ -17,5 +18,6 @@ returns-clause-again g c =
     let fault = c.in-Err-open_stretches in
     subst (λ (s : ObjectStop g.row.F.Denot). TellsChange g.S.Target.written g.S.Target.health c.args.limits told c.args.self.now s)
     (sym c.part_stop.ensures)
-    (part_tells g.row.F.Denot g.S.Target.written g.S.Target.health c.args.limits told c.args.self.now c.deref.result.now fault.part fault.fault
+    (part_tells g.row.F.Denot g.S.Target.written g.S.Target.health c.args.limits told c.args.self.now c.deref.result.now fault.part
+        fault.fault
     c.deref.ensures.value fault.ensures.fault)

@@ -1,0 +1,2 @@
+mod StoredOf
+mod Made

@@ -1,0 +1,49 @@
+//! Products that are made of passes over objects.
+
+ghost use Rattle.std.specs.Prelude.{◌≡◌, ℕ, List};
+ghost use Rattle.hprof_items.specs.FactValue.{FactValue};
+ghost use Rattle.hprof_heap.specs.Heap.{heap_of};
+ghost use Rattle.hprof_heap.specs.HeapFacts.{facts_of, size_of};
+ghost use Rattle.hprof_making.specs.Over.{EndsOver, heap_with};
+
+use hprof_devices::Target;
+use hprof_engine::{Summaries, WriteStop};
+use hprof_heap::Heap;
+use hprof_passes::{Objects, PassStop};
+use std::alloc::Global;
+
+/// A report that is made of the heap that parts state, whose objects are gone through, and of the summaries of the parts. It says which
+/// summaries it wants.
+pub trait PassProduct: Summaries {
+    ghost use Rattle.hprof_devices.specs.declared.health.Health.TheVariants.{Well};
+    ghost use Rattle.hprof_stream.specs.declared.summary.PartSummary.{PartSummary};
+    ghost use Rattle.hprof_rows.specs.HeapValue.{HeapValue};
+    ghost use Rattle.hprof_engine.specs.declared.product_refusal.ProductRefusal.{ProductRefusal};
+
+    // The text is made of parts with these summaries, which state that heap.
+    ghost is_text: { Self → List PartSummary → HeapValue → List ℕ → Type 0 };
+
+    // The heap is refused for that reason, before the first byte.
+    ghost refuses: { Self → ProductRefusal → HeapValue → Type 0 };
+
+    /// Writes the product. The heap has all facts but the objects.
+    ///
+    /// # Errors
+    ///
+    /// - `Sink`: the writer failed, memory ran out, or the heap was refused. The bytes written are the beginning of the product.
+    /// - `Lost`: the objects cannot be gone through. Nothing was written.
+    fn write_over<O: Objects, W: Target>(
+        &self,
+        alloc: Global,
+        kept: &Self::Kept,
+        heap: &Heap,
+        objects: &O,
+        target: &mut W,
+    ) -> Result<(), PassStop<WriteStop, O::Fault>>
+        requires well { W.health target.old ≡ Well }
+        ensures { (summaries : List PartSummary) → Self.holds self.now kept.now summaries
+            → EndsOver (O.make_up objects.now (size_of heap.now) (facts_of heap.now))
+            (O.agree objects.now (size_of heap.now) (facts_of heap.now)) (O.tells objects.now (size_of heap.now) (facts_of heap.now))
+            (λ all. is_text self.now summaries (heap_with (heap_of heap.now) all))
+            (λ refusal all. refuses self.now refusal (heap_with (heap_of heap.now) all)) W.written W.health target.old target.new result };
+}
