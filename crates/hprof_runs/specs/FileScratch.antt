@@ -1,12 +1,11 @@
 -- Scratch in a file.
-use Rattle.std.specs.declared.fs.File.{File}
 use Rattle.hprof_devices.specs.declared.health.Health.{Health}
 use Rattle.hprof_runs.specs.declared.file_scratch.FileScratch.{FileScratch}
 
 -- the file
-abbrev pub file_of : FileScratch → File
+abbrev pub file_of : {F : Type 0} → FileScratch F → F
 file_of scratch = scratch.file
 
 -- its health
-abbrev pub file_health : FileScratch → Health
+abbrev pub file_health : {F : Type 0} → FileScratch F → Health
 file_health scratch = scratch.health

@@ -5,24 +5,23 @@ ghost use Rattle.hprof_devices.specs.declared.health.Health.TheVariants.{Well};
 
 use crate::scratch::Scratch;
 use hprof_devices::{Health, ReadFault, Target, WriteFault};
-use std::fs::File;
 use std::os::unix::fs::FileExt;
 
 /// Scratch in a file, which is empty and was opened to be read and written. It writes and reads at offsets, and does not move the position
 /// of the file. An error of any kind is a failure, and no call is repeated. No contract tells the bytes of a file.
 #[derive(Drop)]
-pub struct FileScratch {
-    file: File,
+pub struct FileScratch<F> {
+    file: F,
     /// The number of bytes that were written.
     end: u64,
     health: Health,
 }
 
-impl FileScratch {
+impl<F> FileScratch<F> {
     ghost use Rattle.hprof_runs.specs.FileScratch.{file_of, file_health};
 
     /// Returns scratch without bytes, in a file.
-    pub fn new(file: File) -> Self
+    pub fn new(file: F) -> Self
         ensures file { file_of result ≡ file }
         ensures health { file_health result ≡ Well }
     {
@@ -34,7 +33,7 @@ impl FileScratch {
     }
 }
 
-impl Target for FileScratch {
+impl<F: FileExt> Target for FileScratch<F> {
     ghost written = { λ it. None };
 
     ghost health = { λ it. it.health };
@@ -58,7 +57,7 @@ impl Target for FileScratch {
     }
 }
 
-impl Scratch for FileScratch {
+impl<F: FileExt> Scratch for FileScratch<F> {
     ghost unreadable = { λ it. ⊤ };
 
     fn read_back(&self, at: u64, piece: &mut [u8]) -> Result<usize, ReadFault> {

@@ -243,7 +243,7 @@ fn keeps_runs_in_a_file(rt: HostRuntime) -> Result<(), Fail> {
     runs.add(&sorted(alloc, &[(3, b"c"), (2, b"b")])?)?;
     assert_eq!(rt; runs.count(), 2);
     let rows = sorted(alloc, &[(4, b"d")])?;
-    let mut cursors = open_all::<FileScratch, Firsts<'_>>(alloc, &rows, &runs)?;
+    let mut cursors = open_all::<FileScratch<File>, Firsts<'_>>(alloc, &rows, &runs)?;
     let mut sink = Collected {
         keys: Vec::new(alloc),
         bytes: Vec::new(alloc),
