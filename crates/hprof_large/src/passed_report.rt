@@ -28,7 +28,26 @@ pub enum PassedReport<'a> {
 }
 
 impl<'a> PassedReport<'a> {
+    ghost use Rattle.std.specs.Prelude.{MatchOption, ◌≢◌};
     ghost use Rattle.hprof_large.specs.PassedReport.{report_of};
+    ghost use Rattle.hprof_large.specs.declared.passed_report.PassedReport.{PassedReport};
+
+    /// Returns the report as one that is made of passes, or `None` if it is not.
+    pub fn of(report: Report<'a>) -> Option<PassedReport<'a>>
+        ensures { MatchOption result ((passed : PassedReport) → report_of passed ≢ report) (λ passed. report_of passed ≡ report) }
+    {
+        match report {
+            Report::Heap(HeapReport::Check) => Some(PassedReport::Check),
+            Report::Heap(HeapReport::Histogram) => Some(PassedReport::Histogram),
+            Report::Heap(HeapReport::Classes) => Some(PassedReport::Classes),
+            Report::Kind(KindReport::Objects, kinds) => Some(PassedReport::Objects(kinds)),
+            Report::Heap(
+                HeapReport::Threads | HeapReport::Suspects | HeapReport::Retained,
+            )
+            | Report::Kind(KindReport::Biggest, _)
+            | Report::Node(_, _) => None,
+        }
+    }
 
     /// Returns the report.
     pub fn report(self) -> Report<'a>
