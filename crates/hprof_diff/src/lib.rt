@@ -20,4 +20,4 @@ pub use differences::difference;
 pub use fault::DiffFault;
 pub use label_counts::LabelCounts;
 pub use parts::{GrowthReport, count_parts, diff_to};
-pub use report::write_difference;
+pub use report::{write_difference, write_growth_over};

@@ -10,10 +10,12 @@ ghost use Rattle.hprof_diff.specs.DifferenceText.{AreTotalsOf, IsDifferenceOf};
 
 use crate::fault::DiffFault;
 use crate::label_counts::LabelCounts;
-use crate::report::write_growth;
+use crate::report::{write_growth, write_growth_over};
 use hprof_devices::{Source, Target};
 use hprof_engine::{HeapProduct, NoSummaries, ToolFault, WriteStop, read_heap, write_to};
 use hprof_heap::{Gatherer, Heap};
+use hprof_making::PassProduct;
+use hprof_passes::{Objects, PassStop};
 use hprof_stream::Limits;
 use std::alloc::Global;
 
@@ -46,6 +48,26 @@ impl<'a> HeapProduct for GrowthReport<'a> {
     }
 
     ghost one_text = { λ report heap. one_growth_text (totals_in report.old.now) heap.ids heap.facts };
+}
+
+impl<'a> PassProduct for GrowthReport<'a> {
+    ghost use Rattle.hprof_diff.specs.Kept.{totals_in};
+    ghost use Rattle.hprof_diff.specs.DifferenceText.{IsGrowthReport};
+
+    ghost is_text = { λ report. IsGrowthReport (totals_in report.old.now) };
+
+    ghost refuses = { λ report refusal heap. ⊥ };
+
+    fn write_over<O: Objects, W: Target>(
+        &self,
+        alloc: Global,
+        _kept: &(),
+        heap: &Heap,
+        objects: &O,
+        target: &mut W,
+    ) -> Result<(), PassStop<WriteStop, O::Fault>> {
+        write_growth_over(alloc, self.old, heap, objects, target)
+    }
 }
 
 /// Reads all parts, and counts the objects of their heap by label.

@@ -5,6 +5,7 @@ ghost use Rattle.hprof_devices.specs.declared.health.Health.TheVariants.{Well};
 ghost use Rattle.hprof_heap.specs.HeapFacts.{facts_of, size_of};
 ghost use Rattle.hprof_diff.specs.Changes.{change_value, step_value};
 ghost use Rattle.hprof_diff.specs.Kept.{totals_in};
+ghost use Rattle.hprof_reports.specs.Passed.{EndsPassed};
 ghost use Rattle.hprof_reports.specs.Stopping.{LeavesTarget, WritesText};
 ghost use Rattle.hprof_diff.specs.DifferenceText.{IsDifferenceText, IsGrowthText, change_line, changes_text, step_text};
 
@@ -14,7 +15,8 @@ use crate::label_counts::LabelCounts;
 use hprof_devices::Target;
 use hprof_engine::WriteStop;
 use hprof_heap::{Heap, holds_of_heap};
-use hprof_reports::write_str;
+use hprof_passes::{InHeap, Objects, PassStop};
+use hprof_reports::{stop_of_pass, write_str};
 use itoa::Buffer;
 use std::alloc::{AllocError, Global};
 
@@ -83,7 +85,35 @@ pub fn write_difference<W: Target>(
     write_all(alloc, &changes, target)
 }
 
-/// Writes the report `diff` on a heap, compared with an older one whose objects are counted. If the writer fails or memory runs out, a
+/// Writes the report `diff` on a heap, compared with an older one whose objects are counted. The heap has all facts but the objects.
+///
+/// # Errors
+///
+/// - `Sink`: the writer failed or memory ran out. The bytes written are the beginning of the report.
+/// - `Lost`: the objects cannot be gone through. Nothing was written.
+pub fn write_growth_over<O: Objects, W: Target>(
+    alloc: Global,
+    old: &LabelCounts,
+    heap: &Heap,
+    objects: &O,
+    target: &mut W,
+) -> Result<(), PassStop<WriteStop, O::Fault>>
+    requires { W.health target.old ≡ Well }
+    ensures { EndsPassed (O.make_up objects.now (size_of heap.now) (facts_of heap.now))
+        (O.agree objects.now (size_of heap.now) (facts_of heap.now)) (O.tells objects.now (size_of heap.now) (facts_of heap.now))
+        (IsGrowthText (totals_in old.now) (size_of heap.now)) W.written W.health target.old target.new result }
+{
+    let new = match LabelCounts::over(alloc, heap, objects) {
+        Ok(new) => new,
+        Err(stop) => return Err(stop_of_pass(stop)),
+    };
+    match write_difference(alloc, old, &new, target) {
+        Ok(()) => Ok(()),
+        Err(stop) => Err(PassStop::Sink(stop)),
+    }
+}
+
+/// Writes the report `diff` on a heap with its objects in memory, as [`write_growth_over`] does. If the writer fails or memory runs out, a
 /// prefix of the report was written.
 pub(crate) fn write_growth<W: Target>(
     alloc: Global,
@@ -97,6 +127,8 @@ pub(crate) fn write_growth<W: Target>(
     ensures health { LeavesTarget result (W.health target.new) }
 {
     holds_of_heap(heap);
-    let new = LabelCounts::of(alloc, heap)?;
-    write_difference(alloc, old, &new, target)
+    match write_growth_over(alloc, old, heap, &InHeap, target) {
+        Ok(()) => Ok(()),
+        Err(stop) => Err(stop.of_sink()),
+    }
 }

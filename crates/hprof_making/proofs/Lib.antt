@@ -1,2 +1,3 @@
 mod StoredOf
 mod Made
+pub mod Passed
