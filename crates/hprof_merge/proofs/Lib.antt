@@ -7,6 +7,7 @@ pub mod Unions
 pub mod Merged
 pub mod Rounds
 pub mod Tree
+mod Apart
 pub mod Late
 pub mod LateUnions
 pub mod Skipping

@@ -1,79 +1,41 @@
 //! A contest of cursors for the least key.
 
-ghost use Rattle.std.specs.Prelude.{◌≡◌, ◌<◌, ◌≤◌, ◌+◌, ◌*◌, ◌/◌, ℕ, List, length, vec_len, IfOk, slice_set, Option, None, Some};
-ghost use Rattle.hprof_merge.specs.Tree.{IsTree, IsDecided, IsDecidedBut, lesser_of, node_at, keys_from};
+ghost use Rattle.std.specs.Prelude.{◌≡◌, ◌≢◌, ◌<◌, ◌≤◌, ℕ, length, IfOk, slice_set, None, Some};
+ghost use Rattle.hprof_merge.specs.Contest.{head_at, keys_in};
 
+use crate::contest_tree::{ContestTree, lesser};
 use std::alloc::{AllocError, Global};
 
-/// The keys that cursors show, with the places of the cursors, as the leaves of a tree. A cursor at its end, or one that is held out, has
-/// none. Each other node has the lesser of the two below it: node n has the nodes 2n and 2n + 1 below it, and the leaf of a place is the
-/// node with the number of cursors plus the place.
+/// The keys that cursors show, with the places of the cursors. A cursor at its end, or one that is held out, has none.
+///
+/// The key of the place that was held out last stands beside the tree of the others. So each row of a cursor that goes on to show the least
+/// key costs one comparison.
 #[derive(Drop)]
 pub(crate) struct Contest {
-    nodes: Vec<Option<(u64, usize)>>,
-    count: usize,
-    ghost tree: { IsTree nodes.items count },
-}
-
-/// Returns the one with the lesser key, or the first if both have the same.
-fn lesser(one: Option<(u64, usize)>, other: Option<(u64, usize)>) -> Option<(u64, usize)>
-    ensures { result ≡ lesser_of one other }
-{
-    match (one, other) {
-        (Some(first), Some(second)) => if second.0 < first.0 {
-            Some(second)
-        } else {
-            Some(first)
-        },
-        (Some(first), None) => Some(first),
-        (None, last) => last,
-    }
-}
-
-/// Decides all nodes above a node that was changed.
-fn settle(nodes: &mut [Option<(u64, usize)>], count: usize, changed: usize)
-    requires sized { length nodes.old ≡ 2 * count }
-    requires changed { changed < length nodes.old }
-    requires decided { IsDecidedBut (changed / 2) nodes.old count }
-    ensures sized { length nodes.new ≡ length nodes.old }
-    ensures decided { IsDecided nodes.new count }
-    ensures leaves { (node : ℕ) → count ≤ node → node_at nodes.new node ≡ node_at nodes.old node }
-{
-    let mut node = changed;
-    while node > 1 {
-        node /= 2;
-        nodes[node] = lesser(nodes[2 * node], nodes[2 * node + 1]);
-    }
-}
-
-/// Puts a key at a place of a tree, or takes the one there out of it.
-fn enter(nodes: &mut [Option<(u64, usize)>], count: usize, place: usize, head: Option<u64>)
-    requires tree { IsTree nodes.old count }
-    requires place { place < count }
-    ensures tree { IsTree nodes.new count }
-    ensures keys { keys_from count nodes.new ≡ slice_set (keys_from count nodes.old) place head }
-{
-    nodes[count + place] = match head {
-        Some(key) => Some((key, place)),
-        None => None,
-    };
-    settle(nodes, count, count + place);
+    tree: ContestTree,
+    /// The place that was held out last. It has no key in the tree.
+    apart: usize,
+    /// The key that is at this place.
+    key: Option<u64>,
+    ghost within: { 0 < length (keys_in tree) → apart < length (keys_in tree) },
+    ghost some: { key ≢ None → 0 < length (keys_in tree) },
+    ghost out: { head_at (keys_in tree) apart ≡ None },
 }
 
 impl Contest {
-    ghost use Rattle.hprof_merge.specs.Contest.{heads_of, head_at, IsLeastHead, IsPlaceOfHead};
+    ghost use Rattle.hprof_merge.specs.Contest.{IsLeastHead, IsPlaceOfHead, heads_of};
 
     /// Returns a contest of so many cursors, none of which is in it yet.
     pub(crate) fn new(alloc: Global, count: usize) -> Result<Self, AllocError>
         ensures count { IfOk result (λ contest. length (heads_of contest) ≡ count) }
         ensures empty { IfOk result (λ contest. (place : ℕ) → head_at (heads_of contest) place ≡ None) }
     {
-        let mut nodes = Vec::new(alloc);
-        for _ in 0..count {
-            nodes.push(None)?;
-            nodes.push(None)?;
-        }
-        Ok(Contest { nodes, count })
+        let tree = ContestTree::new(alloc, count)?;
+        Ok(Contest {
+            tree,
+            apart: 0,
+            key: None,
+        })
     }
 
     /// Puts a key at a place, or takes the one there out of the contest.
@@ -81,17 +43,37 @@ impl Contest {
         requires { place < length (heads_of self.old) }
         ensures { heads_of self.new ≡ slice_set (heads_of self.old) place head }
     {
-        enter(&mut self.nodes, self.count, place, head);
+        if place == self.apart {
+            self.key = head;
+        } else if head.is_some() {
+            self.tree.set(place, head);
+        } else {
+            self.hold_out(place);
+        }
+    }
+
+    /// Takes the key at another place than the one that is held out, out of the contest.
+    fn hold_out(&mut self, place: usize)
+        requires place { place < length (heads_of self.old) }
+        requires other { place ≢ self.old.apart }
+        ensures { heads_of self.new ≡ slice_set (heads_of self.old) place None }
+    {
+        self.tree.set(place, None);
+        let (before, key) = (self.apart, self.key);
+        self.apart = place;
+        self.key = None;
+        self.tree.set(before, key);
     }
 
     /// Returns a least key with its place.
     pub(crate) fn first(&self) -> Option<(u64, usize)>
         ensures { IsLeastHead (heads_of self.now) result }
     {
-        if self.count == 0 {
-            return None;
-        }
-        self.nodes[1]
+        let own = match self.key {
+            Some(key) => Some((key, self.apart)),
+            None => None,
+        };
+        lesser(own, self.tree.first())
     }
 
     /// Returns a place of a key to which none is lower.

@@ -5,6 +5,7 @@
 #![tactic(auto)]
 
 mod contest;
+mod contest_tree;
 pub mod laws;
 mod merge_stop;
 mod merging;

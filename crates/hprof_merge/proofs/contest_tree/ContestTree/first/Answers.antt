@@ -3,7 +3,7 @@ use Rattle.std.proofs.lemmas.List.{get_or_default}
 use Rattle.hprof_merge.specs.Tree.{node_at, keys_from}
 use Rattle.hprof_merge.specs.Contest.{IsLeastHead}
 use Rattle.hprof_merge.proofs.Tree.{first_least}
-use Rattle.hprof_merge.proofs.contest.Contest.first.Goals as goal
+use Rattle.hprof_merge.proofs.contest_tree.ContestTree.first.Goals as goal
 
 pub returns : goal.returns
 returns c =

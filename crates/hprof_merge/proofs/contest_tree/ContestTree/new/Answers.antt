@@ -1,7 +1,7 @@
 use Rattle.std.proofs.Common.{◌≡◌, ◌*◌, length, ap, ◌∙◌, arith}
 use Rattle.hprof_merge.specs.Tree.{key_of}
 use Rattle.hprof_merge.proofs.Tree.{empty_tree, head-node}
-use Rattle.hprof_merge.proofs.contest.Contest.new.Goals as goal
+use Rattle.hprof_merge.proofs.contest_tree.ContestTree.new.Goals as goal
 
 pub invariant_of-result : goal.invariant_of-result
 invariant_of-result c =

@@ -1,6 +1,6 @@
 use Rattle.std.proofs.Common.{◌≡◌, ◌*◌, ℕ, length, None}
 use Rattle.hprof_merge.specs.Tree.{node_at}
-use Rattle.hprof_merge.proofs.contest.Contest.new.Given as goal
+use Rattle.hprof_merge.proofs.contest_tree.ContestTree.new.Given as goal
 
 abbrev pub invariant-loop : goal.invariant-loop
 invariant-loop l = record {

@@ -2,8 +2,8 @@ use Rattle.std.proofs.Common.{◌≡◌, ◌+◌, ap, sym, ◌∙◌}
 use Rattle.std.proofs.lemmas.List.{length-set}
 use Rattle.hprof_merge.specs.Tree.{key_of}
 use Rattle.hprof_merge.proofs.Tree.{changed_keys}
-use Rattle.hprof_merge.proofs.contest.enter.Goals as goal
-use Rattle.hprof_merge.proofs.contest.enter.Goals.{in-Some, in-None}
+use Rattle.hprof_merge.proofs.contest_tree.enter.Goals as goal
+use Rattle.hprof_merge.proofs.contest_tree.enter.Goals.{in-Some, in-None}
 
 pub returns-clause-keys : goal.returns-clause-keys
 returns-clause-keys c =

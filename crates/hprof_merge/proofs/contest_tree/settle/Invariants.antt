@@ -1,6 +1,6 @@
 use Rattle.std.proofs.Common.{◌≡◌, ◌<◌, ◌≤◌, ◌/◌, ℕ, length}
 use Rattle.hprof_merge.specs.Tree.{IsDecidedBut, node_at}
-use Rattle.hprof_merge.proofs.contest.settle.Given as goal
+use Rattle.hprof_merge.proofs.contest_tree.settle.Given as goal
 
 abbrev pub invariant-loop-node : goal.invariant-loop-node
 invariant-loop-node l =
