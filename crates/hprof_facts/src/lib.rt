@@ -7,8 +7,6 @@ mod fact_reader;
 mod kept;
 pub mod laws;
 mod queue;
-#[cfg(test)]
-mod tests;
 
 pub use fact_place::FactPlace;
 pub use fact_reader::FactReader;

@@ -14,8 +14,6 @@ mod refuse_late;
 mod row_cursor;
 mod row_sink;
 mod skip_late;
-#[cfg(test)]
-mod tests;
 
 pub use merge_stop::MergeStop;
 pub use merging::merge_rows;

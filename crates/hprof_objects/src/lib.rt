@@ -7,8 +7,6 @@ mod identifying;
 mod keeping;
 pub mod laws;
 mod merging;
-#[cfg(test)]
-mod merging_tests;
 mod next_object;
 mod object_log;
 mod object_stop;
@@ -19,8 +17,6 @@ mod stretch;
 mod stretch_cursor;
 mod stretch_fault;
 pub mod stretch_laws;
-#[cfg(test)]
-mod stretch_tests;
 
 pub use identifying::object_id;
 pub use keeping::Keeping;

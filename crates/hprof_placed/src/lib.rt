@@ -4,8 +4,6 @@
 pub mod laws;
 mod placed_sink;
 mod reading;
-#[cfg(test)]
-mod tests;
 
 pub use placed_sink::PlacedSink;
 pub use reading::read_placed;

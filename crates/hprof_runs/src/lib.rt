@@ -22,8 +22,6 @@ mod scratch;
 mod scratch_fault;
 mod scratch_writer;
 mod sorted_rows;
-#[cfg(test)]
-mod tests;
 
 pub use file_scratch::FileScratch;
 pub use firsts::Firsts;

@@ -5,12 +5,8 @@
 mod dumping;
 mod finding;
 mod in_parts;
-#[cfg(test)]
-mod in_parts_tests;
 mod join_stop;
 mod joining;
-#[cfg(test)]
-mod joining_tests;
 pub mod laws;
 mod object_counter;
 mod object_row;
@@ -21,8 +17,6 @@ mod stored_fault;
 mod stored_heap;
 mod stored_sink;
 mod sub_buffer;
-#[cfg(test)]
-mod tests;
 
 pub use dumping::write_stored_dump;
 pub use finding::find_conflict;

@@ -2,15 +2,7 @@
 
 ghost use Rattle.std.specs.Prelude.{◌≡◌, ◌++◌, ◌∷◌, [], None, ⊤};
 
-use crate::file_scratch::FileScratch;
-use crate::firsts::Firsts;
-use crate::memory_scratch::MemoryScratch;
-use crate::opening::open_all;
-use crate::rows::Rows;
-use crate::run_fault::RunFault;
-use crate::runs::Runs;
-use crate::scratch::Scratch;
-use crate::sorted_rows::SortedRows;
+use hprof_runs::{FileScratch, Firsts, MemoryScratch, Rows, RunFault, Runs, Scratch, SortedRows, open_all};
 use hprof_devices::{ReadFault, Target, WriteFault};
 use hprof_merge::{MergeStop, OneOf, RowCursor, RowSink, merge_rows};
 use std::alloc::{AllocError, Global};

@@ -1,8 +1,7 @@
 //! Plain parts, joined with their objects stored, and in memory.
 
-use crate::join_stop::JoinStop;
-use crate::joining::join_stored;
-use crate::tests::{ORDERED, OTHER_OBJECT, UNORDERED, keeping, readers_of};
+use crate::storing::{ORDERED, OTHER_OBJECT, UNORDERED, keeping, readers_of};
+use hprof_stored::{JoinStop, join_stored};
 use hprof_devices::{Device, WriteFault};
 use hprof_engine::join_to;
 use hprof_objects::ObjectStop;

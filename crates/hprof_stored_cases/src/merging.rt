@@ -2,13 +2,7 @@
 
 ghost use Rattle.std.specs.Prelude.{◌≡◌, ◌++◌, ◌∷◌, [], ⊤};
 
-use crate::merge_stop::MergeStop;
-use crate::merging::merge_rows;
-use crate::one_of::OneOf;
-use crate::refuse_late::RefuseLate;
-use crate::row_cursor::RowCursor;
-use crate::row_sink::RowSink;
-use crate::skip_late::{LateFault, SkipLate};
+use hprof_merge::{LateFault, MergeStop, OneOf, RefuseLate, RowCursor, RowSink, SkipLate, merge_rows};
 use std::alloc::{AllocError, Global};
 
 /// A cursor over rows in memory, which never fails.

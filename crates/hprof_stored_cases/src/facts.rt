@@ -1,7 +1,6 @@
 //! A plain part, fact by fact: whole, cut, and from places on.
 
-use crate::fact_place::FactPlace;
-use crate::fact_reader::FactReader;
+use hprof_facts::{FactPlace, FactReader};
 use hprof_devices::Device;
 use hprof_items::Fact;
 use hprof_stream::{Limits, PartFault, PartReader, Tally};

@@ -5,8 +5,7 @@ ghost use Rattle.hprof_devices.specs.declared.health.Health.TheVariants.{Well};
 ghost use Rattle.hprof_devices.specs.Device.{health_of};
 ghost use Rattle.hprof_runs.specs.ReadBack.{HoldsNothing};
 
-use crate::reading::read_stored;
-use crate::stored_fault::StoredFault;
+use hprof_stored::{StoredFault, read_stored};
 use hprof_devices::{Device, Health, ReadFault, Target, WriteFault};
 use hprof_engine::{AllSummaries, Summaries};
 use hprof_heap::{Key, Table};

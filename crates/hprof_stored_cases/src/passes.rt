@@ -2,11 +2,8 @@
 
 ghost use Rattle.std.specs.Prelude.{⊤};
 
-use crate::in_parts::InParts;
-use crate::pass_fault::PassFault;
-use crate::reading::read_stored;
-use crate::stored_heap::StoredHeap;
-use crate::tests::{ORDERED, OTHER_OBJECT, UNORDERED, keeping, readers_of};
+use crate::storing::{ORDERED, OTHER_OBJECT, UNORDERED, keeping, readers_of};
+use hprof_stored::{InParts, PassFault, StoredHeap, read_stored};
 use hprof_engine::NoSummaries;
 use hprof_items::Fact;
 use hprof_objects::{StretchFault, object_id};

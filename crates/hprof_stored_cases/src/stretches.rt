@@ -1,8 +1,6 @@
 //! A stretch in the second of two parts, read again: as it was, and changed.
 
-use crate::stretch::Stretch;
-use crate::stretch_cursor::StretchCursor;
-use crate::stretch_fault::StretchFault;
+use hprof_objects::{Stretch, StretchCursor, StretchFault};
 use hprof_merge::RowCursor;
 use hprof_parts::Slices;
 use hprof_stream::{Limits, PartPlace, PartReader, Tally};

@@ -4,8 +4,7 @@ ghost use Rattle.std.specs.Prelude.{◌≡◌, []};
 ghost use Rattle.hprof_devices.specs.declared.health.Health.TheVariants.{Well};
 ghost use Rattle.hprof_devices.specs.Device.{health_of};
 
-use crate::placed_sink::PlacedSink;
-use crate::reading::read_placed;
+use hprof_placed::{PlacedSink, read_placed};
 use hprof_devices::Device;
 use hprof_facts::{FactPlace, FactReader};
 use hprof_items::{Fact, Header, IdSize};
