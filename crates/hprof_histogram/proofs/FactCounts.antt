@@ -59,7 +59,7 @@ left_out kind fact facts e = ap (λ (b : Bool). cond b (fact ∷ of_kind kind fa
 -- a fact more, and others
 counted_more : (ids : IdSize) (kind : Kind) (fact : FactValue) (facts : List FactValue) → counted_of ids kind (fact ∷ facts)
     ≡ cond (is_kind kind (object_kind fact)) (both (one_of (size_of_object ids fact)) (counted_of ids kind facts))
-        (counted_of ids kind facts)
+    (counted_of ids kind facts)
 counted_more ids kind fact facts = by_test (is_kind kind (object_kind fact)) refl where
   by_test : (b : Bool) → is_kind kind (object_kind fact) ≡ b → counted_of ids kind (fact ∷ facts)
       ≡ cond b (both (one_of (size_of_object ids fact)) (counted_of ids kind facts)) (counted_of ids kind facts)
@@ -139,7 +139,7 @@ module _ (test : Option Kind → Bool) (none : test None ≡ false) where
   same_passing (Unload serial ∷ facts) = passing_past (Unload serial) (facts_of_table tables.Objects facts) facts refl (same_passing facts)
   same_passing (Frame id method signature source class_serial line ∷ facts) =
       passing_past (Frame id method signature source class_serial line) (facts_of_table tables.Objects facts) facts refl
-          (same_passing facts)
+      (same_passing facts)
   same_passing (Trace serial thread frames ∷ facts) =
       passing_past (Trace serial thread frames) (facts_of_table tables.Objects facts) facts refl (same_passing facts)
   same_passing (Start thread object trace name group parent_group ∷ facts) =

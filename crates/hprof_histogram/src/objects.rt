@@ -56,7 +56,7 @@ pub fn objects_of<O: Objects>(
     ensures { Finds (O.make_up objects.now (size_of heap.now) (facts_of heap.now))
         (O.agree objects.now (size_of heap.now) (facts_of heap.now))
         (O.tells objects.now (size_of heap.now) (facts_of heap.now)) (λ all found. AreObjects (size_of heap.now) all kind found.items)
-            result }
+        result }
 {
     match chosen_objects(alloc, heap, objects, Chosen::Kind(kind)) {
         Ok(found) => Ok(found),

@@ -43,9 +43,7 @@ pub(crate) fn write_objects_named<O: Objects, W: Target>(
         Err(stop) => return Err(stop_of_pass(stop)),
     };
     if classes.is_empty() && !names_classes(name) {
-        return Err(PassStop::Sink(WriteStop::Refused(
-            ProductRefusal::NoClass,
-        )));
+        return Err(PassStop::Sink(WriteStop::Refused(ProductRefusal::NoClass)));
     }
     write_objects_of_classes_over(alloc, heap, objects, &classes, target)
 }

@@ -41,9 +41,7 @@ impl<'a> PassedReport<'a> {
             Report::Heap(HeapReport::Histogram) => Some(PassedReport::Histogram),
             Report::Heap(HeapReport::Classes) => Some(PassedReport::Classes),
             Report::Kind(KindReport::Objects, kinds) => Some(PassedReport::Objects(kinds)),
-            Report::Heap(
-                HeapReport::Threads | HeapReport::Suspects | HeapReport::Retained,
-            )
+            Report::Heap(HeapReport::Threads | HeapReport::Suspects | HeapReport::Retained)
             | Report::Kind(KindReport::Biggest, _)
             | Report::Node(_, _) => None,
         }

@@ -23,10 +23,10 @@ module _ {W F : Type 0} (MakeUp : List FactValue → Type 0) (agree : Type 0) (t
   ends_over Refuses (Err (Sink stops.OutOfMemory)) ends = elim ends [
     | inl unchanged ↦ inl unchanged
     | inr wrote ↦ inr (
-        wrote.0,
-        λ all make. let it = wrote.1 all make in (it.0, it.1, it.2, same all it.0 make it.3, it.4),
-        wrote.2,
-      )
+      wrote.0,
+      λ all make. let it = wrote.1 all make in (it.0, it.1, it.2, same all it.0 make it.3, it.4),
+      wrote.2,
+    )
   ]
   ends_over Refuses (Err (Sink (stops.Write fault))) ends =
       (ends.0, λ all make. let it = ends.1 all make in (it.0, it.1, it.2, same all it.0 make it.3, it.4), ends.2)

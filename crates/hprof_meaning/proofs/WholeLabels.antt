@@ -14,9 +14,9 @@ module _ (ids : IdSize) (facts all : List FactValue) (whole : IsWhole ids facts 
   bare_label_of_same (Some name) text is = elim is [
     | inl named ↦ inl (named.0, (has_same ids facts all whole tables.Names (λ e. cc) (Name name named.0) refl).0 named.1, named.2)
     | inr none ↦ inr (
-        λ bytes has. none.0 bytes ((has_same ids facts all whole tables.Names (λ e. cc) (Name name bytes) refl).1 has),
-        none.1,
-      )
+      λ bytes has. none.0 bytes ((has_same ids facts all whole tables.Names (λ e. cc) (Name name bytes) refl).1 has),
+      none.1,
+    )
   ]
 
   bare_label_same : (class : ℕ) (text : List ℕ) → IsBareLabel all class text → IsBareLabel facts class text

@@ -163,14 +163,14 @@ module _ {S R : Type 0} (written : S → Option (List ℕ)) (unreadable : S → 
 
   -- the cursor is over a stretch of this part, one of these
   pub record IsOver (limits : Limits) (told : List (Option (List ℕ))) (list : List Stretch) (part : ℕ) (here : ObjectCursor S R) : Type 0
-      where
-    pub it : StretchCursor R
-    pub is : here ≡ Second it
-    pub its : Stretch
-    pub in_part : its.part ≡ part
-    pub opens : stretch.OpensStretch left health pulls limits told its it
-    pub among : (reads : List PartRead) (lists : List (List ByteRow)) → AreStretches limits reads list lists
-        → (rows : List ByteRow) × IsStretch limits reads its rows
+    where
+      pub it : StretchCursor R
+      pub is : here ≡ Second it
+      pub its : Stretch
+      pub in_part : its.part ≡ part
+      pub opens : stretch.OpensStretch left health pulls limits told its it
+      pub among : (reads : List PartRead) (lists : List (List ByteRow)) → AreStretches limits reads list lists
+          → (rows : List ByteRow) × IsStretch limits reads its rows
 
   module _ (scratch : S) (limits : Limits) (told : List (Option (List ℕ))) where
     -- each cursor is over rows, or over the stretch at its place
@@ -217,14 +217,14 @@ module _ {S R : Type 0} (written : S → Option (List ℕ)) (unreadable : S → 
 
     pub rows_or_stretch : (over_rows : List (ObjectCursor S R)) (list : List Stretch) (opened : List (StretchCursor R)) (place : ℕ)
         (d : ObjectCursor S R) → All (IsOverRows scratch) over_rows → AllOpen left health pulls limits told list opened → IsOverRows
-            scratch d
+        scratch d
         → IsOverRows scratch (slice_index_or (over_rows ++ map Second opened) place d)
         ⊎ IsOver limits told list (part_of list (place - length over_rows)) (slice_index_or (over_rows ++ map Second opened) place d)
     rows_or_stretch [] list opened place d kind each over =
         let same : place ≡ place - 0 = omega arith in
         let here = slice_index_or (map Second opened) place d in
         subst (λ (n : ℕ). IsOverRows scratch here ⊎ IsOver limits told list (part_of list n) here) same
-            (stretch_at list opened place d each over)
+        (stretch_at list opened place d each over)
     rows_or_stretch (one ∷ over_rows) list opened zero d kind each over = inl (kind 0 one (omega arith))
     rows_or_stretch (one ∷ over_rows) list opened (suc place) d kind each over =
         let same : place - length over_rows ≡ suc place - length (one ∷ over_rows) = omega arith in

@@ -101,7 +101,7 @@ module _ {S R : Type 0} (written : S → Option (List ℕ)) (well : S → Health
 
     pub merged_all : {T : Type 0} (steps : T → ℕ → List ℕ → T → Type 0) (new : List (ObjectCursor S R)) (old_sink new_sink : T)
         → MergesAll (shown written unreadable left health pulls) (goes written unreadable left health pulls) steps cursors new old_sink
-            new_sink
+        new_sink
         → (reads : List PartRead) → AreToldAgain written well limits told reads objects
         → TakesAll steps (objects_of reads) old_sink new_sink
     merged_all steps new old_sink new_sink merges reads again =
@@ -161,7 +161,7 @@ module _ {S R : Type 0} (written : S → Option (List ℕ)) (well : S → Health
           let sorted = sorted_in objects.rows in
           let come = opens.rows holds.runs holds.are_runs in
           let d = first_comes (ObjectsCome written left health pulls) opens.over_rows (firsts_of sorted) (others_of sorted ∷ holds.runs)
-              come in
+          come in
           never_damaged written unreadable left health pulls opens.over_rows (firsts_of sorted ∷ others_of sorted ∷ holds.runs)
           opens.adds.opened stopped.mid stopped.came place d.0 next come (d.1, d.2) shows_over (failed d.0)
 
@@ -174,7 +174,7 @@ module _ {S R : Type 0} (written : S → Option (List ℕ)) (well : S → Health
           let d = first_over (scratch_under objects) opens.over_rows (run_count objects.runs) opens.count opens.kind in
           let list = objects.stretches.items in
           never_changed written unreadable left health pulls (scratch_under objects) limits told opens.over_rows list opens.adds.opened
-              stopped.mid stopped.came place
+          stopped.mid stopped.came place
           d.0 next opens.kind opens.adds.each d.1 shows_over (failed d.0) reads holds.lists holds.are_stretches
           (subst (λ (n : ℕ). IsSameAt limits told reads (part_of list (place - n))) (sym opens.count) same)
 

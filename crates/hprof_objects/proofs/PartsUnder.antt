@@ -1,6 +1,25 @@
 -- The part of a stretch, by its place among the stretches.
-use Rattle.std.proofs.Common.{◌≡◌, ◌<◌, ◌≤◌, ℕ, zero, suc, true, false, nat_lt, List, [], ◌∷◌, length, slice_index_or, refl, sym, ap, ◌∙◌,
-    arith}
+use Rattle.std.proofs.Common.{
+  ◌≡◌,
+  ◌<◌,
+  ◌≤◌,
+  ℕ,
+  zero,
+  suc,
+  true,
+  false,
+  nat_lt,
+  List,
+  [],
+  ◌∷◌,
+  length,
+  slice_index_or,
+  refl,
+  sym,
+  ap,
+  ◌∙◌,
+  arith,
+}
 use Rattle.std.proofs.lemmas.Bool.{ltb-false, ltb-true}
 use Rattle.hprof_objects.specs.declared.stretch.Stretch.{Stretch}
 use Rattle.hprof_objects.specs.ObjectCursors.{part_of}

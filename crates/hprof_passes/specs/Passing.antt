@@ -49,22 +49,22 @@ module _ {T : Type 0} (takes : T → IdSize → FactValue → T → Type 0) (ids
     pub took : TakesObjects old front new
 
 module _ {T E : Type 0} (takes : T → IdSize → FactValue → T → Type 0) (refuses : T → IdSize → FactValue → E → T → Type 0) (ids : IdSize)
-    where
-  -- it took the objects before this one, which it refused
-  pub record RefusesObject (objects : List FactValue) (fault : E) (old new : T) : Type 0 where
-    pub front : List FactValue
-    pub object : FactValue
-    pub behind : List FactValue
-    pub are : objects ≡ front ++ object ∷ behind
-    pub mid : T
-    pub took : TakesObjects takes ids old front mid
-    pub refused : refuses mid ids object fault new
+  where
+    -- it took the objects before this one, which it refused
+    pub record RefusesObject (objects : List FactValue) (fault : E) (old new : T) : Type 0 where
+      pub front : List FactValue
+      pub object : FactValue
+      pub behind : List FactValue
+      pub are : objects ≡ front ++ object ∷ behind
+      pub mid : T
+      pub took : TakesObjects takes ids old front mid
+      pub refused : refuses mid ids object fault new
 
-  -- what a pass over these objects does to a sink
-  abbrev pub Passes : {A F : Type 0} → List FactValue → Result A (PassStop E F) → T → T → Type 0
-  Passes objects (Ok done) old new = TakesObjects takes ids old objects new
-  Passes objects (Err (Sink fault)) old new = RefusesObject objects fault old new
-  Passes objects (Err (Lost fault)) old new = TakesFront takes ids objects old new
+    -- what a pass over these objects does to a sink
+    abbrev pub Passes : {A F : Type 0} → List FactValue → Result A (PassStop E F) → T → T → Type 0
+    Passes objects (Ok done) old new = TakesObjects takes ids old objects new
+    Passes objects (Err (Sink fault)) old new = RefusesObject objects fault old new
+    Passes objects (Err (Lost fault)) old new = TakesFront takes ids objects old new
 
 -- if the objects cannot be gone through, this holds of the reason
 abbrev pub IfLost : {E F : Type 0} → (F → Type 0) → PassStop E F → Type 0

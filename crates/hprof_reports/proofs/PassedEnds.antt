@@ -43,8 +43,16 @@ module _ {W : Type 0} (MakeUp : List FactValue → Type 0) (agree : Type 0) (tel
   stops_in_memory (stops.Write fault) ends =
       let front = ends.1 facts make in (front.0, front.3, (front.1, front.2, front.4))
   stops_in_memory stops.OutOfMemory ends = elim ends [
-    | inl same ↦ (some.0, some.1, (0, omega arith, subst (λ (w : W). Appends (written old) (written w) []) (sym same)
-        (Appends-nil (written old))))
+    | inl same ↦ (
+      some.0,
+      some.1,
+      (
+        0,
+        omega arith,
+        subst (λ (w : W). Appends (written old) (written w) []) (sym same)
+            (Appends-nil (written old)),
+      ),
+    )
     | inr wrote ↦ let front = wrote.1 facts make in (front.0, front.3, (front.1, front.2, front.4))
   ]
   stops_in_memory (stops.Refused refusal) ends = absurd ends
@@ -55,4 +63,4 @@ module _ {W : Type 0} (MakeUp : List FactValue → Type 0) (agree : Type 0) (tel
       → (text : List ℕ) × IsText facts text × WritesText {A = Unit {0}} (written old) (written new) (Err kept) text
   in_memory stop kept is ends = stops_in_memory kept
       (subst (λ (s : PassStop WriteStop Infallible). EndsPassed MakeUp agree tells IsText written well old new {A = Unit {0}} (Err s))
-        is ends)
+      is ends)

@@ -16,9 +16,9 @@ module _ (ids : IdSize) (facts all : List FactValue) (whole : IsWhole ids facts 
   name_text_same name text is = elim is [
     | inl named ↦ inl (named.0, (has_same ids facts all whole tables.Names (λ e. cc) (Name name named.0) refl).0 named.1, named.2)
     | inr none ↦ inr (
-        λ bytes has. none.0 bytes ((has_same ids facts all whole tables.Names (λ e. cc) (Name name bytes) refl).1 has),
-        none.1,
-      )
+      λ bytes has. none.0 bytes ((has_same ids facts all whole tables.Names (λ e. cc) (Name name bytes) refl).1 has),
+      none.1,
+    )
   ]
 
   pub names_class_same : (class : ℕ) (name : Option ℕ) → NamesClass all class name → NamesClass facts class name

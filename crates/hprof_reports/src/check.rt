@@ -227,5 +227,10 @@ pub fn write_check<W: Target>(
     ensures health { LeavesHealth result (W.health target.new) }
 {
     holds_of_heap(heap);
-    write_counts(summaries, heap, table_len(heap, Table::Objects) as u64, target)
+    write_counts(
+        summaries,
+        heap,
+        table_len(heap, Table::Objects) as u64,
+        target,
+    )
 }

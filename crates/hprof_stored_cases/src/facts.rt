@@ -1,7 +1,7 @@
 //! A plain part, fact by fact: whole, cut, and from places on.
 
-use hprof_facts::{FactPlace, FactReader};
 use hprof_devices::Device;
+use hprof_facts::{FactPlace, FactReader};
 use hprof_items::Fact;
 use hprof_stream::{Limits, PartFault, PartReader, Tally};
 use std::test::*;

@@ -1,13 +1,13 @@
 //! Plain parts, joined with their objects stored, and in memory.
 
 use crate::storing::{ORDERED, OTHER_OBJECT, UNORDERED, keeping, readers_of};
-use hprof_stored::{JoinStop, join_stored};
 use hprof_devices::{Device, WriteFault};
 use hprof_engine::join_to;
 use hprof_objects::ObjectStop;
 use hprof_parts::Slices;
 use hprof_runs::MemoryScratch;
 use hprof_segments::SegmentFault;
+use hprof_stored::{JoinStop, join_stored};
 use hprof_stream::Limits;
 use std::alloc::{AllocError, Global};
 use std::io;

@@ -2,7 +2,9 @@
 
 ghost use Rattle.std.specs.Prelude.{◌≡◌, ◌++◌, ◌∷◌, [], ⊤};
 
-use hprof_merge::{LateFault, MergeStop, OneOf, RefuseLate, RowCursor, RowSink, SkipLate, merge_rows};
+use hprof_merge::{
+    LateFault, MergeStop, OneOf, RefuseLate, RowCursor, RowSink, SkipLate, merge_rows,
+};
 use std::alloc::{AllocError, Global};
 
 /// A cursor over rows in memory, which never fails.

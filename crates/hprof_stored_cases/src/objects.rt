@@ -2,8 +2,8 @@
 
 ghost use Rattle.std.specs.Prelude.{◌≡◌, ◌<◌, ◌++◌, ◌∷◌, ◌^◌, [], length, ⊤};
 
-use hprof_objects::{Keeping, ObjectLog, ObjectStop, StoredObjects, StretchFault};
 use hprof_merge::RowSink;
+use hprof_objects::{Keeping, ObjectLog, ObjectStop, StoredObjects, StretchFault};
 use hprof_parts::Slices;
 use hprof_runs::MemoryScratch;
 use hprof_stream::{Limits, PartPlace, PartReader, Tally};

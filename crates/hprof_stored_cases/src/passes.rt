@@ -3,13 +3,13 @@
 ghost use Rattle.std.specs.Prelude.{⊤};
 
 use crate::storing::{ORDERED, OTHER_OBJECT, UNORDERED, keeping, readers_of};
-use hprof_stored::{InParts, PassFault, StoredHeap, read_stored};
 use hprof_engine::NoSummaries;
 use hprof_items::Fact;
 use hprof_objects::{StretchFault, object_id};
 use hprof_parts::Slices;
 use hprof_passes::{ObjectSink, Objects, PassStop};
 use hprof_runs::MemoryScratch;
+use hprof_stored::{InParts, PassFault, StoredHeap, read_stored};
 use hprof_stream::Limits;
 use hprof_values::IdSize;
 use std::alloc::{AllocError, Global};

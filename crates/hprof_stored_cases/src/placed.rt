@@ -4,10 +4,10 @@ ghost use Rattle.std.specs.Prelude.{◌≡◌, []};
 ghost use Rattle.hprof_devices.specs.declared.health.Health.TheVariants.{Well};
 ghost use Rattle.hprof_devices.specs.Device.{health_of};
 
-use hprof_placed::{PlacedSink, read_placed};
 use hprof_devices::Device;
 use hprof_facts::{FactPlace, FactReader};
 use hprof_items::{Fact, Header, IdSize};
+use hprof_placed::{PlacedSink, read_placed};
 use hprof_stream::{Limits, PartFault, PartPlace, Sink, SinkFault};
 use std::io;
 use std::io::Read;

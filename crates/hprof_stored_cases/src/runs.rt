@@ -2,9 +2,11 @@
 
 ghost use Rattle.std.specs.Prelude.{◌≡◌, ◌++◌, ◌∷◌, [], None, ⊤};
 
-use hprof_runs::{FileScratch, Firsts, MemoryScratch, Rows, RunFault, Runs, Scratch, SortedRows, open_all};
 use hprof_devices::{ReadFault, Target, WriteFault};
 use hprof_merge::{MergeStop, OneOf, RowCursor, RowSink, merge_rows};
+use hprof_runs::{
+    FileScratch, Firsts, MemoryScratch, Rows, RunFault, Runs, Scratch, SortedRows, open_all,
+};
 use std::alloc::{AllocError, Global};
 use std::convert::Infallible;
 use std::fs::{File, OpenOptions};

@@ -5,12 +5,12 @@ ghost use Rattle.hprof_devices.specs.declared.health.Health.TheVariants.{Well};
 ghost use Rattle.hprof_devices.specs.Device.{health_of};
 ghost use Rattle.hprof_runs.specs.ReadBack.{HoldsNothing};
 
-use hprof_stored::{StoredFault, read_stored};
 use hprof_devices::{Device, Health, ReadFault, Target, WriteFault};
 use hprof_engine::{AllSummaries, Summaries};
 use hprof_heap::{Key, Table};
 use hprof_objects::Keeping;
 use hprof_runs::{MemoryScratch, Scratch, ScratchFault};
+use hprof_stored::{StoredFault, read_stored};
 use hprof_stream::{Limits, PartFault};
 use hprof_values::Reason;
 use std::alloc::{AllocError, Global};

@@ -1,7 +1,7 @@
 //! A stretch in the second of two parts, read again: as it was, and changed.
 
-use hprof_objects::{Stretch, StretchCursor, StretchFault};
 use hprof_merge::RowCursor;
+use hprof_objects::{Stretch, StretchCursor, StretchFault};
 use hprof_parts::Slices;
 use hprof_stream::{Limits, PartPlace, PartReader, Tally};
 use std::alloc::Global;

@@ -108,18 +108,15 @@ fn answer_stored(
     let again = Slices::new(parts);
     let scratch = MemoryScratch::new(alloc);
     match call {
-        Call::Join => Some(
-            join_stored(alloc, readers, &again, limits, keeping, scratch, target)
-                .map_err(fault_of_joining),
-        ),
+        Call::Join => Some(join_stored(
+            alloc, readers, &again, limits, keeping, scratch, target,
+        ).map_err(fault_of_joining)),
         Call::Report(report) => {
             let report = PassedReport::of(report)?;
-            Some(
-                make_stored(
-                    alloc, &report, readers, &again, limits, keeping, scratch, target,
-                )
-                .map_err(fault_of_making),
+            Some(make_stored(
+                alloc, &report, readers, &again, limits, keeping, scratch, target,
             )
+            .map_err(fault_of_making))
         }
         _ => None,
     }

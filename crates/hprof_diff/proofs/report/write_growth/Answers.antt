@@ -21,9 +21,12 @@ returns-in-Err-clause-bytes g c =
       same = refl;
       fit = c.holds_of_heap.ensures.fit;
       ordered = c.holds_of_heap.ensures.ordered;
-    }) (changes_text changes.0, record {
-      agree = c.holds_of_heap.ensures.agree;
-      new = new.0;
-      are_totals = new.1;
-      is = record { changes = changes.0; is_difference = changes.1; is = refl };
-    }) c.in-Err.stop c.of_sink.result c.of_sink.ensures c.in-Err.ensures
+    }) (
+      changes_text changes.0,
+      record {
+        agree = c.holds_of_heap.ensures.agree;
+        new = new.0;
+        are_totals = new.1;
+        is = record { changes = changes.0; is_difference = changes.1; is = refl };
+      },
+    ) c.in-Err.stop c.of_sink.result c.of_sink.ensures c.in-Err.ensures

@@ -14,16 +14,16 @@ returns-in-Ok-write_difference g c =
     ends_passed (g.O.Objects.make_up objects ids facts) (g.O.Objects.agree objects ids facts) (g.O.Objects.tells objects ids facts)
     (IsGrowthText (totals_in c.args.old.now) ids) g.W.Target.written g.W.Target.health c.args.target.now c.write_difference.new.target
     (Ok c.in-Ok-write_difference.field-0) c.in-Ok.ensures.0 (λ all make.
-        let wrote = c.in-Ok-write_difference.ensures.bytes in (
-          wrote.0,
-          record {
-            agree = order_agrees all (g.met.O.Objects.whole objects ids facts all make).ordered;
-            new = totals_in c.in-Ok.new;
-            are_totals = c.in-Ok.ensures.1 all make;
-            is = wrote.1;
-          },
-          wrote.2,
-        )) c.in-Ok-write_difference.ensures.health
+    let wrote = c.in-Ok-write_difference.ensures.bytes in (
+      wrote.0,
+      record {
+        agree = order_agrees all (g.met.O.Objects.whole objects ids facts all make).ordered;
+        new = totals_in c.in-Ok.new;
+        are_totals = c.in-Ok.ensures.1 all make;
+        is = wrote.1;
+      },
+      wrote.2,
+    )) c.in-Ok-write_difference.ensures.health
 
 pub returns : goal.returns
 returns g c =
@@ -33,13 +33,13 @@ returns g c =
     ends_passed (g.O.Objects.make_up objects ids facts) (g.O.Objects.agree objects ids facts) (g.O.Objects.tells objects ids facts)
     (IsGrowthText (totals_in c.args.old.now) ids) g.W.Target.written g.W.Target.health c.args.target.now c.write_difference.new.target
     (Err c.in-Err-write_difference.stop) c.in-Ok.ensures.0 (λ all make.
-        let wrote = c.in-Err-write_difference.ensures.bytes in (
-          wrote.0,
-          record {
-            agree = order_agrees all (g.met.O.Objects.whole objects ids facts all make).ordered;
-            new = totals_in c.in-Ok.new;
-            are_totals = c.in-Ok.ensures.1 all make;
-            is = wrote.1;
-          },
-          wrote.2,
-        )) c.in-Err-write_difference.ensures.health
+    let wrote = c.in-Err-write_difference.ensures.bytes in (
+      wrote.0,
+      record {
+        agree = order_agrees all (g.met.O.Objects.whole objects ids facts all make).ordered;
+        new = totals_in c.in-Ok.new;
+        are_totals = c.in-Ok.ensures.1 all make;
+        is = wrote.1;
+      },
+      wrote.2,
+    )) c.in-Err-write_difference.ensures.health

@@ -15,8 +15,8 @@ returns c = λ all whole histogram.
     classes_are_all (size_of c.args.heap.now) all c.args.rows.now histogram of_rows c.push_loads.new.classes.items
     c.push_dumps.new.classes.items first
     (c.in_ok-push_loads.ensures ∙ ap (λ (l : List FactValue). of_rows ++ flat_map class_loaded l)
-        (sym (whole.others tables.Loads (λ e. cc))))
+    (sym (whole.others tables.Loads (λ e. cc))))
     (c.in_ok-push_dumps.ensures
-        ∙ ap (λ (l : List FactValue). c.push_loads.new.classes.items ++ flat_map class_dumped l)
-            (sym (whole.others tables.Classes (λ e. cc))))
+    ∙ ap (λ (l : List FactValue). c.push_loads.new.classes.items ++ flat_map class_dumped l)
+    (sym (whole.others tables.Classes (λ e. cc))))
     c.sort_classes.new.classes.items c.sort_classes.ensures.ascend c.sort_classes.ensures.same

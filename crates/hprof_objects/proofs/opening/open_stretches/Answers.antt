@@ -57,7 +57,7 @@ pub returns-clause-adds : goal.returns-clause-adds
 returns-clause-adds g c =
     let now = c.loop-index in
     added_all g.R.Source.left g.R.Source.health g.R.Source.pulls c.args.limits (g.P.Parts.bytes c.args.parts.now) c.args.stretches.now
-        now.index
+    now.index
     c.args.cursors.now.items now.cursors.items now.invariant.adds
     (omega (arith, c.loop-index-test.false, now.auto.index-end))
 

@@ -17,8 +17,12 @@ returns-in_err-write_parts-clause-bytes g c = λ facts whole counted.
     let r = c.from_residual.result in
     let p = err_from_is_err_and r c.from_residual.ensures.1 in (
       check_text parts facts bad,
-      (bad, subst (λ (l : List FactValue). IsCountOf IsBadName l bad) (sym (whole.others tables.Names (λ e. cc)))
-          c.count_bad_names-bad.ensures, refl),
+      (
+        bad,
+        subst (λ (l : List FactValue). IsCountOf IsBadName l bad) (sym (whole.others tables.Names (λ e. cc)))
+            c.count_bad_names-bad.ensures,
+        refl,
+      ),
       check_stops_at_parts parts facts bad (g.W.Target.written c.args.target.now) (g.W.Target.written c.write_parts.new.target) r p.0 p.1
           c.in_err-write_parts.ensures.bytes,
     )
@@ -32,8 +36,12 @@ returns-in_err-write_tables-clause-bytes g c = λ facts whole counted.
     let r = c.from_residual-in_err-write_tables.result in
     let p = err_from_is_err_and r c.from_residual-in_err-write_tables.ensures.1 in (
       check_text parts facts bad,
-      (bad, subst (λ (l : List FactValue). IsCountOf IsBadName l bad) (sym (whole.others tables.Names (λ e. cc)))
-          c.count_bad_names-bad.ensures, refl),
+      (
+        bad,
+        subst (λ (l : List FactValue). IsCountOf IsBadName l bad) (sym (whole.others tables.Names (λ e. cc)))
+            c.count_bad_names-bad.ensures,
+        refl,
+      ),
       check_after_parts parts facts bad (g.W.Target.written c.args.target.now) mid new r c.in_ok-write_parts.ensures.bytes
           (Writes-stops mid new r p.0 (flat_map (table_line facts) all_tables) (count_line (codes "bad names") bad) p.1
           (c.in_err-write_tables.ensures.bytes facts whole counted)),
@@ -48,8 +56,12 @@ returns-clause-bytes g c = λ facts whole counted.
     let new = g.W.Target.written c.write_count.new.target in
     let r = c.write_count.result in (
       check_text parts facts bad,
-      (bad, subst (λ (l : List FactValue). IsCountOf IsBadName l bad) (sym (whole.others tables.Names (λ e. cc)))
-          c.count_bad_names-bad.ensures, refl),
+      (
+        bad,
+        subst (λ (l : List FactValue). IsCountOf IsBadName l bad) (sym (whole.others tables.Names (λ e. cc)))
+            c.count_bad_names-bad.ensures,
+        refl,
+      ),
       check_after_parts parts facts bad (g.W.Target.written c.args.target.now) mid new r c.in_ok-write_parts.ensures.bytes
           (Writes-then mid last new zero r (flat_map (table_line facts) all_tables) (count_line (codes "bad names") bad)
           (c.in_ok-write_tables.ensures.bytes facts whole counted) c.write_count.ensures.bytes),

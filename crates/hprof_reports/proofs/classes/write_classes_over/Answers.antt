@@ -11,7 +11,7 @@ returns-in-Ok-write_counted g c =
     let objects = c.args.objects.now in
     ends_passed (g.O.Objects.make_up objects ids facts) (g.O.Objects.agree objects ids facts) (g.O.Objects.tells objects ids facts)
     (IsClassesText ids) g.W.Target.written g.W.Target.health c.args.target.now c.write_counted.new.target
-        (Ok c.in-Ok-write_counted.field-0) c.in-Ok.ensures.0
+    (Ok c.in-Ok-write_counted.field-0) c.in-Ok.ensures.0
     (λ all make. c.in-Ok-write_counted.ensures.bytes all
     (g.met.O.Objects.whole objects ids facts all make) (c.in-Ok.ensures.1 all make)) c.in-Ok-write_counted.ensures.health
 
@@ -22,6 +22,6 @@ returns g c =
     let objects = c.args.objects.now in
     ends_passed (g.O.Objects.make_up objects ids facts) (g.O.Objects.agree objects ids facts) (g.O.Objects.tells objects ids facts)
     (IsClassesText ids) g.W.Target.written g.W.Target.health c.args.target.now c.write_counted.new.target
-        (Err c.in-Err-write_counted.stop) c.in-Ok.ensures.0
+    (Err c.in-Err-write_counted.stop) c.in-Ok.ensures.0
     (λ all make. c.in-Err-write_counted.ensures.bytes all
     (g.met.O.Objects.whole objects ids facts all make) (c.in-Ok.ensures.1 all make)) c.in-Err-write_counted.ensures.health

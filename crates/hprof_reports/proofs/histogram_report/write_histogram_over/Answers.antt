@@ -13,11 +13,11 @@ returns-in-Ok-write_histogram_rows g c =
     let objects = c.args.objects.now in
     ends_passed (g.O.Objects.make_up objects ids facts) (g.O.Objects.agree objects ids facts) (g.O.Objects.tells objects ids facts)
     (IsHistogramText ids) g.W.Target.written g.W.Target.health c.args.target.now c.write_histogram_rows.new.target
-        (Ok c.in-Ok-write_histogram_rows.field-0) c.in-Ok.ensures.0
+    (Ok c.in-Ok-write_histogram_rows.field-0) c.in-Ok.ensures.0
     (λ all make. c.in-Ok-write_histogram_rows.ensures.bytes all
     (g.met.O.Objects.whole objects ids facts all make)
-        (subst (λ (rows : List Row). IsHistogram ids all rows) (sym c.deref.ensures.value) (c.in-Ok.ensures.1 all make)))
-            c.in-Ok-write_histogram_rows.ensures.health
+    (subst (λ (rows : List Row). IsHistogram ids all rows) (sym c.deref.ensures.value) (c.in-Ok.ensures.1 all make)))
+    c.in-Ok-write_histogram_rows.ensures.health
 
 pub returns : goal.returns
 returns g c =
@@ -26,8 +26,8 @@ returns g c =
     let objects = c.args.objects.now in
     ends_passed (g.O.Objects.make_up objects ids facts) (g.O.Objects.agree objects ids facts) (g.O.Objects.tells objects ids facts)
     (IsHistogramText ids) g.W.Target.written g.W.Target.health c.args.target.now c.write_histogram_rows.new.target
-        (Err c.in-Err-write_histogram_rows.stop) c.in-Ok.ensures.0
+    (Err c.in-Err-write_histogram_rows.stop) c.in-Ok.ensures.0
     (λ all make. c.in-Err-write_histogram_rows.ensures.bytes all
     (g.met.O.Objects.whole objects ids facts all make)
-        (subst (λ (rows : List Row). IsHistogram ids all rows) (sym c.deref.ensures.value) (c.in-Ok.ensures.1 all make)))
-            c.in-Err-write_histogram_rows.ensures.health
+    (subst (λ (rows : List Row). IsHistogram ids all rows) (sym c.deref.ensures.value) (c.in-Ok.ensures.1 all make)))
+    c.in-Err-write_histogram_rows.ensures.health

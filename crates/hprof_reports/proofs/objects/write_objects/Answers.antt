@@ -13,7 +13,7 @@ returns-in-Err-clause-bytes g c =
     let ids = size_of c.args.heap.now in
     let facts = facts_of c.args.heap.now in
     in_memory (IsItself ids facts) ⊤ (λ fault. ⊥) (λ all. IsObjectsText ids all c.args.kind) g.W.Target.written g.W.Target.health
-        c.args.target.now
+    c.args.target.now
     c.write_objects_over.new.target facts (record {
       same = refl;
       fit = c.holds_of_heap.ensures.fit;

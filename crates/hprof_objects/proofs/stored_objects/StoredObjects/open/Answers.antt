@@ -10,7 +10,7 @@ returns-in-Err-clause-again g c =
     subst (λ (s : ObjectStop g.row.F.Denot). TellsChange g.S.Target.written g.S.Target.health c.args.limits told c.args.self.now s)
     (sym c.scratch_stop.ensures)
     (scratch_tells g.row.F.Denot g.S.Target.written g.S.Target.health c.args.limits told c.args.self.now c.in-Err.fault
-        c.in-Err.ensures.fault)
+    c.in-Err.ensures.fault)
 
 pub returns-clause-again : goal.returns-clause-again
 returns-clause-again g c =
@@ -19,5 +19,5 @@ returns-clause-again g c =
     subst (λ (s : ObjectStop g.row.F.Denot). TellsChange g.S.Target.written g.S.Target.health c.args.limits told c.args.self.now s)
     (sym c.part_stop.ensures)
     (part_tells g.row.F.Denot g.S.Target.written g.S.Target.health c.args.limits told c.args.self.now c.deref.result.now fault.part
-        fault.fault
+    fault.fault
     c.deref.ensures.value fault.ensures.fault)
