@@ -3,7 +3,8 @@ use Rattle.std.proofs.Common.{◌≡◌, ◌≢◌, ◌<◌, ◌≤◌, ℕ, Lis
 use Rattle.std.proofs.lemmas.List.{get_or-set_same, get_or-set_other, length-set, ext_get_or}
 use Rattle.std.proofs.lemmas.Bool.{cases_eq, cases_lt, lt-ltb, le-ltb}
 use Rattle.hprof_merge.specs.Tree.{lesser_of}
-use Rattle.hprof_merge.specs.Contest.{IsLeastHead, head_at}
+use Rattle.hprof_merge.specs.Tree.{head_at}
+use Rattle.hprof_merge.specs.Contest.{IsLeastHead}
 
 -- the key that stands apart, with its place
 abbrev pub own_of : ℕ → Option ℕ → Option (ℕ × ℕ)

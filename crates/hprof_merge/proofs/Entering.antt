@@ -6,7 +6,7 @@ use Rattle.std.proofs.lemmas.List.{get_or-set_same, get_or-set_other}
 use Rattle.std.proofs.lemmas.Bool.{cases_eq}
 use Rattle.hprof_merge.specs.Rows.{ByteRow, IsAscending, first_key, HaveSameFirst}
 use Rattle.hprof_merge.specs.Union.{rows_at, AllAscend}
-use Rattle.hprof_merge.specs.Contest.{head_at}
+use Rattle.hprof_merge.specs.Tree.{head_at}
 use Rattle.hprof_merge.proofs.Lists.{rows_at-map}
 
 -- the first keys of the first lists are in it

@@ -8,7 +8,8 @@ use Rattle.hprof_merge.specs.declared.merge_stop.MergeStop.{MergeStop}
 use Rattle.hprof_merge.specs.declared.merge_stop.MergeStop.TheVariants.{OutOfMemory, TwoContents, Cursor, Sink}
 use Rattle.hprof_merge.specs.Rows.{ByteRow, Has, IsAscending, first_key, HaveSameFirst}
 use Rattle.hprof_merge.specs.Union.{rows_at, AnyHas, AllAscend}
-use Rattle.hprof_merge.specs.Contest.{head_at, MatchesBut, IsPlaceOfHead}
+use Rattle.hprof_merge.specs.Tree.{head_at}
+use Rattle.hprof_merge.specs.Contest.{MatchesBut, IsPlaceOfHead}
 use Rattle.hprof_merge.specs.Merging.{AllAbove}
 use Rattle.hprof_merge.specs.Showing.{all_shown, GoesAt}
 use Rattle.hprof_merge.specs.Stopping.{LeavesCursors, IsFaultAt, PassesEquals, StopsPassing, room_of}

@@ -9,7 +9,8 @@ use Rattle.hprof_merge.specs.declared.merge_stop.MergeStop.TheVariants.{OutOfMem
 use Rattle.hprof_merge.specs.Rows.{ByteRow, Has, IsAscending, first_key}
 use Rattle.hprof_merge.specs.Run.{Runs}
 use Rattle.hprof_merge.specs.Union.{rows_at, AnyHas, AllAscend, IsUnionBelow}
-use Rattle.hprof_merge.specs.Contest.{head_at, Matches, MatchesBut, IsLeastHead}
+use Rattle.hprof_merge.specs.Tree.{head_at}
+use Rattle.hprof_merge.specs.Contest.{Matches, MatchesBut, IsLeastHead}
 use Rattle.hprof_merge.specs.Merging.{AllAbove, TakesBelow, GivesFirst}
 use Rattle.hprof_merge.specs.Showing.{all_shown, GoesAt, AllShow}
 use Rattle.hprof_merge.specs.Stopping.{LeavesCursors, IsFaultAt, StopsLevel, StopsBecause, PassesEquals, MergesAll, StopsMerging, room_of}

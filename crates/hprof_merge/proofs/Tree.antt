@@ -6,7 +6,8 @@ use Rattle.std.proofs.lemmas.List.{ext_get_or}
 use Rattle.std.proofs.Math.ListN.{get_or-map}
 use Rattle.std.proofs.lemmas.Bool.{cases_eq, cases_lt, lt-ltb, le-ltb}
 use Rattle.hprof_merge.specs.Tree.{node_at, lesser_of, IsDecided, IsDecidedBut, HasPlaces, IsTree, key_of, keys_from}
-use Rattle.hprof_merge.specs.Contest.{head_at, IsLeastHead}
+use Rattle.hprof_merge.specs.Tree.{head_at}
+use Rattle.hprof_merge.specs.Contest.{IsLeastHead}
 
 -- one of two wins
 pub lesser-one : (one other : Option (ℕ × ℕ)) → (lesser_of one other ≡ one) ⊎ (lesser_of one other ≡ other)

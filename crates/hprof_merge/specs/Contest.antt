@@ -1,22 +1,14 @@
 -- Which of several cursors has the least key.
-use Rattle.std.specs.Prelude.{◌≡◌, ◌<◌, ◌≤◌, ◌≢◌, ℕ, List, length, Option, Some, None, slice_index_or, slice_set}
+use Rattle.std.specs.Prelude.{◌≡◌, ◌<◌, ◌≤◌, ◌≢◌, ℕ, List, length, Option, Some, None, slice_set}
 use Rattle.hprof_merge.specs.declared.contest.Contest.{Contest}
-use Rattle.hprof_merge.specs.declared.contest_tree.ContestTree.{ContestTree}
 use Rattle.hprof_merge.specs.Rows.{ByteRow, first_key}
-use Rattle.hprof_merge.specs.Tree.{keys_from}
+use Rattle.hprof_merge.specs.Heads.{keys_in}
+use Rattle.hprof_merge.specs.Tree.{head_at}
 use Rattle.hprof_merge.specs.Union.{rows_at}
-
--- the keys in a tree of contests, by their places
-abbrev pub keys_in : ContestTree → List (Option ℕ)
-keys_in tree = keys_from tree.count tree.nodes.items
 
 -- the keys in the contest, by the place of their cursor: those in its tree, and the one that stands beside it
 abbrev pub heads_of : Contest → List (Option ℕ)
 heads_of contest = slice_set (keys_in contest.tree) contest.apart contest.key
-
--- the key at a place, if there is one
-abbrev pub head_at : List (Option ℕ) → ℕ → Option ℕ
-head_at heads place = slice_index_or heads place None
 
 -- a least key, and its place; none if there is no key
 abbrev pub IsLeastHead : List (Option ℕ) → Option (ℕ × ℕ) → Type 0

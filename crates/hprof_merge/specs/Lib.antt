@@ -3,6 +3,7 @@ pub mod Union
 pub mod TwoContents
 pub mod Run
 pub mod Tree
+pub mod Heads
 pub mod Contest
 pub mod Merging
 pub mod Showing

@@ -1,7 +1,8 @@
 //! A contest of cursors for the least key.
 
 ghost use Rattle.std.specs.Prelude.{◌≡◌, ◌≢◌, ◌<◌, ◌≤◌, ℕ, length, IfOk, slice_set, None, Some};
-ghost use Rattle.hprof_merge.specs.Contest.{head_at, keys_in};
+ghost use Rattle.hprof_merge.specs.Heads.{keys_in};
+ghost use Rattle.hprof_merge.specs.Tree.{head_at};
 
 use crate::contest_tree::{ContestTree, lesser};
 use std::alloc::{AllocError, Global};

@@ -60,7 +60,9 @@ fn enter(nodes: &mut [Option<(u64, usize)>], count: usize, place: usize, head: O
 }
 
 impl ContestTree {
-    ghost use Rattle.hprof_merge.specs.Contest.{IsLeastHead, head_at, keys_in};
+    ghost use Rattle.hprof_merge.specs.Heads.{keys_in};
+    ghost use Rattle.hprof_merge.specs.Tree.{head_at};
+    ghost use Rattle.hprof_merge.specs.Contest.{IsLeastHead};
 
     /// Returns a tree of so many places, none of which has a key yet.
     pub(crate) fn new(alloc: Global, count: usize) -> Result<Self, AllocError>

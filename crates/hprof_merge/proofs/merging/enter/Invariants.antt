@@ -2,7 +2,8 @@ use Rattle.std.proofs.Common.{◌≡◌, ◌<◌, ◌≤◌, ℕ, length, None}
 use Rattle.hprof_merge.specs.Rows.{first_key}
 use Rattle.hprof_merge.specs.Union.{rows_at}
 use Rattle.hprof_merge.specs.Showing.{all_shown}
-use Rattle.hprof_merge.specs.Contest.{heads_of, head_at}
+use Rattle.hprof_merge.specs.Tree.{head_at}
+use Rattle.hprof_merge.specs.Contest.{heads_of}
 use Rattle.hprof_merge.proofs.merging.enter.Given as goal
 
 abbrev pub invariant-loop-place : goal.invariant-loop-place
