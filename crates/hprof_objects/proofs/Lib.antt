@@ -2,7 +2,7 @@ mod Enough
 mod Rows
 mod Stretches
 pub mod Whole
-mod WholeHeap
+pub mod WholeHeap
 mod InOrder
 mod Spilled
 mod Logged
