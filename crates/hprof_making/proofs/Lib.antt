@@ -1,3 +1,4 @@
 mod StoredOf
 mod Made
+mod OfParts
 pub mod Passed

@@ -25,7 +25,7 @@ use Rattle.hprof_stored.specs.declared.pass_fault.PassFault.TheVariants as fault
 use Rattle.hprof_stored.specs.InParts.{IsOfSame}
 use Rattle.hprof_making.specs.declared.make_stop.MakeStop.{MakeStop}
 use Rattle.hprof_making.specs.declared.make_stop.MakeStop.TheVariants as makes
-use Rattle.hprof_making.specs.Making.{EndsMade, IsHinderedMade, IsHinderedPass, IsMadeOrConflict, IsOfObjects, LeavesMade}
+use Rattle.hprof_making.specs.Making.{EndsMade, IsHinderedMade, IsMadeOrConflict, IsOfObjects}
 use Rattle.hprof_making.specs.Over.{EndsOver, heap_with}
 
 -- the answer of writing as that of the call
@@ -51,7 +51,7 @@ module _ (heap : HeapValue) (MakeUp : List FactValue → Type 0) (agreed : Type 
 
   pub of_objects : AreOfParts → (fault : PassFault) → Tells fault → IsOfObjects told fault
   of_objects are (faults.TwoContents id) tells = are.contents id tells
-  of_objects are faults.TooMany tells = λ ids millis facts agree. are.many tells facts (are.made_up ids millis facts agree).2.1
+  of_objects are faults.TooMany tells = λ ids millis facts agree. are.many tells facts (are.made_up ids millis facts agree).2
   of_objects are faults.OutOfMemory tells = tt
   of_objects are (faults.Scratch fault) tells = are.same (faults.Scratch fault) tells
   of_objects are (faults.Part part fault) tells = are.same (faults.Part part fault) tells
@@ -66,7 +66,7 @@ module _ (heap : HeapValue) (MakeUp : List FactValue → Type 0) (agreed : Type 
 
     module _ (are : AreOfParts) (of_parts : AreSummaries told summaries) where
       makes_up : (all : List FactValue) → Agree told heap.ids heap.millis all → MakeUp all
-      makes_up all agree = (are.made_up heap.ids heap.millis all agree).2.1
+      makes_up all agree = (are.made_up heap.ids heap.millis all agree).2
 
       made : (all : List FactValue) → Agree told heap.ids heap.millis all → (text : List ℕ) → IsText summaries (heap_with heap all) text
           → IsMadeOf IsText told text
@@ -101,7 +101,7 @@ module _ (heap : HeapValue) (MakeUp : List FactValue → Type 0) (agreed : Type 
           record { heap = heap_with heap all.0; agree = all.1; refuses = ends.1 all.0 (makes_up all.0 all.1) }
 
       -- no other answer
-      pub no_other : (result : Result (Unit {0}) (PassStop WriteStop PassFault)) → Ends result → well after ≡ healths.Well
+      no_other : (result : Result (Unit {0}) (PassStop WriteStop PassFault)) → Ends result → well after ≡ healths.Well
           → (IsHinderedMade (as_made result) → ⊥) → IsMadeOrConflict (as_made result)
       no_other (Ok done) ends is_well unhindered = tt
       no_other (Err (Lost faults.OutOfMemory)) ends is_well unhindered = unhindered tt
@@ -114,14 +114,11 @@ module _ (heap : HeapValue) (MakeUp : List FactValue → Type 0) (agreed : Type 
       no_other (Err (Sink (stops.Write fault))) ends is_well unhindered = ill (well after) fault ends.2 is_well
       no_other (Err (Sink (stops.Refused refusal))) ends is_well unhindered = tt
 
-    -- what becomes of the target
-    pub leaves_made : well before ≡ healths.Well → (result : Result (Unit {0}) (PassStop WriteStop PassFault)) → Ends result
-        → LeavesMade well before after (as_made result)
-    leaves_made was_well (Ok done) ends = ends.2
-    leaves_made was_well (Err (Lost fault)) ends = ends.1
-    leaves_made was_well (Err (Sink stops.OutOfMemory)) ends = elim ends [
-      | inl same ↦ ap well same ∙ was_well
-      | inr wrote ↦ wrote.2
-    ]
-    leaves_made was_well (Err (Sink (stops.Write fault))) ends = ends.2
-    leaves_made was_well (Err (Sink (stops.Refused refusal))) ends = ends.2
+      -- the same of an answer that is known to be one of these
+      pub stopped_made : (stop : PassStop WriteStop PassFault) (known : PassStop WriteStop PassFault) → stop ≡ known → Ends (Err stop)
+          → EndsMade IsText Refuses written told before after (as_made (Err known))
+      stopped_made stop known is ends = ends_made (Err known) (subst (λ (s : PassStop WriteStop PassFault). Ends (Err s)) is ends)
+
+      pub stopped_other : (stop : PassStop WriteStop PassFault) (known : PassStop WriteStop PassFault) → stop ≡ known → Ends (Err stop)
+          → well after ≡ healths.Well → (IsHinderedMade (as_made (Err known)) → ⊥) → IsMadeOrConflict (as_made (Err known))
+      stopped_other stop known is ends = no_other (Err known) (subst (λ (s : PassStop WriteStop PassFault). Ends (Err s)) is ends)
