@@ -6,11 +6,11 @@ use hprof_stream::PartPlace;
 #[derive(Clone, Copy)]
 pub struct Stretch {
     /// The number of the part, from 0.
-    pub(crate) part: usize,
+    pub part: usize,
     /// A place before its first object.
-    pub(crate) place: PartPlace,
+    pub place: PartPlace,
     /// The number of facts between the place and its first object.
-    pub(crate) passed: u64,
+    pub passed: u64,
     /// The number of its objects.
-    pub(crate) count: u64,
+    pub count: u64,
 }
