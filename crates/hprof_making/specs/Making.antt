@@ -9,7 +9,6 @@ use Rattle.hprof_stream.specs.declared.limits.Limits.{Limits}
 use Rattle.hprof_stream.specs.declared.summary.PartSummary.{PartSummary}
 use Rattle.hprof_rows.specs.declared.key.Key.TheVariants as keys
 use Rattle.hprof_rows.specs.HeapValue.{HeapValue}
-use Rattle.hprof_engine.specs.declared.product.WriteStop.{WriteStop}
 use Rattle.hprof_engine.specs.declared.product.WriteStop.TheVariants as stops
 use Rattle.hprof_engine.specs.declared.product_refusal.ProductRefusal.{ProductRefusal}
 use Rattle.hprof_engine.specs.Joining.{Agree, AreReadOut, Disagree}

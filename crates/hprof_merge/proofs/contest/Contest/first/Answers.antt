@@ -1,4 +1,4 @@
-use Rattle.std.proofs.Common.{◌≡◌, ◌≢◌, ◌<◌, ◌∙◌, ℕ, Option, None, length, subst, sym, ap}
+use Rattle.std.proofs.Common.{◌≡◌, ◌∙◌, ℕ, Option, subst, sym, ap}
 use Rattle.hprof_merge.specs.Heads.{keys_in}
 use Rattle.hprof_merge.specs.Tree.{lesser_of}
 use Rattle.hprof_merge.specs.Contest.{IsLeastHead, heads_of}
@@ -15,5 +15,5 @@ returns c =
       | in-None w ↦ w.own-is ∙ ap (own_of contest.apart) (sym w.in-None.is)
     ] in
     let least = first_of keys contest.apart contest.out contest.key c.first.result (λ some. contest.within (contest.some some))
-        c.first.ensures in
+    c.first.ensures in
     subst (IsLeastHead (heads_of contest)) (sym (c.lesser.ensures ∙ ap (λ (o : Option (ℕ × ℕ)). lesser_of o c.first.result) own)) least
