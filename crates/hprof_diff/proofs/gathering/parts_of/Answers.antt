@@ -18,6 +18,8 @@ loop-row-preserved c =
 pub returns : goal.returns
 returns c =
     let facts = facts_of c.args.heap.now in
-    parts_labelled facts c.args.rows.now c.loop-row.parts.items
-    (parts_end facts c.args.rows.now c.loop-row.rest.now c.loop-row.parts.items
-    (nil_from_length c.loop-row.rest.now c.in_default.ensures.cases) c.loop-row.invariant)
+    record {
+      labelled = parts_labelled facts c.args.rows.now c.loop-row.parts.items
+          (parts_end facts c.args.rows.now c.loop-row.rest.now c.loop-row.parts.items
+          (nil_from_length c.loop-row.rest.now c.in_default.ensures.cases) c.loop-row.invariant);
+    }

@@ -8,9 +8,9 @@ use Rattle.hprof_diff.proofs.label_counts.LabelCounts.add.Goals as goal
 
 pub returns : goal.returns
 returns c = λ text.
-    let sum : c.with-sum.result ≡ both (kept_in c.args.self.now (string_bytes c.args.label)) c.args.counted =
-    c.with-sum.ensures ∙ ap (λ (k : Counted). both k c.args.counted)
+    let sum : c.in-Some.sum ≡ both (kept_in c.args.self.now (string_bytes c.args.label)) c.args.counted =
+    c.in-Some.ensures ∙ ap (λ (k : Counted). both k c.args.counted)
     (c.counted.ensures ∙ ap (kept_in c.args.self.now) c.as_str.ensures.value) in
     kept_updated c.args.self.now (record { labels = c.insert.new.self })
-    (string_bytes c.args.label) text c.args.counted c.with-sum.result sum
+    (string_bytes c.args.label) text c.args.counted c.in-Some.sum sum
     (btree_map_updates_text (string_bytes c.args.label) c.args.self.now.labels c.insert.new.self _ c.in_ok-insert.ensures.updates text)
