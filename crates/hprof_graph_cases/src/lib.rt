@@ -1,5 +1,5 @@
 //! Tests of the crates of the graph, through public calls: look-ups, layouts, edges, distances and paths; and of live heaps, after each
-//! fact, in any order, in long chains and in conflict. [`one_fact`] is a caller that meets the premises of a live heap's contracts, and
+//! fact, in long chains and in conflict. [`one_fact`] is a caller that meets the premises of a live heap's contracts, and
 //! [`call_laws`] calls each law.
 #![tactic(auto)]
 
@@ -25,10 +25,6 @@ mod laying;
 #[cfg(test)]
 mod left_out;
 pub mod one_fact;
-#[cfg(test)]
-mod orders;
-#[cfg(test)]
-mod plain_list;
 #[cfg(test)]
 mod reaching;
 #[cfg(test)]

@@ -10,8 +10,6 @@ mod gathering;
 #[cfg(test)]
 mod joining;
 #[cfg(test)]
-mod lent_facts;
-#[cfg(test)]
 mod rooms;
 #[cfg(test)]
 mod samples;
