@@ -34,7 +34,7 @@ impl<'a> PassedReport<'a> {
 
     /// Returns the report as one that is made of passes, or `None` if it is not.
     pub fn of(report: Report<'a>) -> Option<PassedReport<'a>>
-        ensures { MatchOption result ((passed : PassedReport) → report_of passed ≢ report) (λ passed. report_of passed ≡ report) }
+        ensures { MatchOption result ((passed : PassedReport) → report_of passed ≢ report.entry) (λ passed. report_of passed ≡ report.entry) }
     {
         match report {
             Report::Heap(HeapReport::Check) => Some(PassedReport::Check),
@@ -49,7 +49,7 @@ impl<'a> PassedReport<'a> {
 
     /// Returns the report.
     pub fn report(self) -> Report<'a>
-        ensures { result ≡ report_of self }
+        ensures { result ≡ report_of self.entry }
     {
         match self {
             PassedReport::Check => Report::Heap(HeapReport::Check),
