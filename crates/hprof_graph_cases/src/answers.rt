@@ -1,10 +1,9 @@
-//! Layouts, fields and the answers of live heaps, compared with the expected ones.
+//! The answers of live heaps, compared with the expected ones.
 
 use crate::expecting::equal_at;
 use hprof_edges::{Edge, Via};
 use hprof_graph::{Index, Live, LiveHeap};
-use hprof_heap::Heap;
-use hprof_layouts::{FieldValue, Fields, Layout, Slot, fields, layout};
+use hprof_layouts::{Layout, Slot};
 use std::alloc::{AllocError, Global};
 use std::process::Abort;
 use std::test::Fail;
@@ -33,54 +32,6 @@ pub(crate) fn shape_of(layout: &Layout) -> Shape<'_> {
         Layout::Missing(class) => Shape::Missing(*class),
         Layout::Cyclic => Shape::Cyclic,
     }
-}
-
-/// The borrowed fields of an object.
-#[derive(Clone, Copy, Debug, PartialEq, Eq)]
-pub(crate) enum Read<'a> {
-    Values(&'a [FieldValue]),
-    Missing(u64),
-    Cyclic,
-    WidthDiffers(u128),
-    NotAnInstance,
-    NoObject,
-}
-
-fn read_of(fields: &Fields) -> Read<'_> {
-    match fields {
-        Fields::Values(values) => Read::Values(values),
-        Fields::Missing(class) => Read::Missing(*class),
-        Fields::Cyclic => Read::Cyclic,
-        Fields::WidthDiffers(width) => Read::WidthDiffers(*width),
-        Fields::NotAnInstance => Read::NotAnInstance,
-        Fields::NoObject => Read::NoObject,
-    }
-}
-
-/// Asserts that a class has this layout.
-pub(crate) fn expect_layout(
-    rt: &impl Abort,
-    alloc: Global,
-    heap: &Heap,
-    class: u64,
-    expected: Shape<'_>,
-) -> Result<(), Fail> {
-    let layout = layout(alloc, heap, class)?;
-    equal_at(rt, class, shape_of(&layout), expected);
-    Ok(())
-}
-
-/// Asserts that an object has these fields.
-pub(crate) fn expect_fields(
-    rt: &impl Abort,
-    alloc: Global,
-    heap: &Heap,
-    object: u64,
-    expected: Read<'_>,
-) -> Result<(), Fail> {
-    let fields = fields(alloc, heap, object)?;
-    equal_at(rt, object, read_of(&fields), expected);
-    Ok(())
 }
 
 pub(crate) fn live_shape(layout: &Live<Layout>) -> Live<Shape<'_>> {

@@ -1,5 +1,5 @@
-//! Tests of the crates of the graph, through public calls: look-ups, layouts, edges, distances and paths; and of live heaps, after each
-//! fact, in long chains and in conflict. [`one_fact`] is a caller that meets the premises of a live heap's contracts, and
+//! Tests of the crates of the graph, through public calls: searches without left-out fields; and live heaps, after each fact, in long
+//! chains and in conflict. [`one_fact`] is a caller that meets the premises of a live heap's contracts, and
 //! [`call_laws`] calls each law.
 #![tactic(auto)]
 
@@ -8,11 +8,7 @@ mod answers;
 #[cfg(test)]
 mod chains;
 #[cfg(test)]
-mod collecting;
-#[cfg(test)]
 mod expecting;
-#[cfg(test)]
-mod finding;
 #[cfg(test)]
 mod indexes;
 #[cfg(test)]
@@ -21,12 +17,8 @@ mod instance_200;
 mod late;
 mod laws;
 #[cfg(test)]
-mod laying;
-#[cfg(test)]
 mod left_out;
 pub mod one_fact;
-#[cfg(test)]
-mod reaching;
 #[cfg(test)]
 mod refusals;
 #[cfg(test)]

@@ -19,10 +19,6 @@ pub(crate) const CLASS_100: &[u8] = b"\x20\0\0\0\x64\0\0\0\x01\0\0\0\x63\
 pub(crate) const CLASS_99: &[u8] = b"\x20\0\0\0\x63\0\0\0\x01\0\0\0\0\
     \0\0\0\0\0\0\0\0\0\0\0\0\0\0\0\0\0\0\0\0\0\0\0\x01\0\0\0\0\0\x01\0\0\0\x07\x08";
 
-/// Class 99, whose superclass is class 100.
-pub(crate) const CLASS_99_BELOW: &[u8] = b"\x20\0\0\0\x63\0\0\0\x01\0\0\0\x64\
-    \0\0\0\0\0\0\0\0\0\0\0\0\0\0\0\0\0\0\0\0\0\0\0\x01\0\0\0\0\0\x01\0\0\0\x07\x08";
-
 /// Returns the heap of these sub-records.
 pub(crate) fn heap_of(alloc: Global, subs: &[&[u8]]) -> Result<Heap, Fail> {
     let part = part_of(alloc, subs)?;

@@ -11,7 +11,7 @@ use hprof_heap::{Gatherer, Heap};
 use hprof_items::{Fact, Header, IdSize, Version, read_sub};
 use hprof_stream::{Sink, SinkFault};
 use hprof_tables::Stated;
-use hprof_values::{Basic, ConstantList, FieldList, IdList, StaticList};
+use hprof_values::Basic;
 use hprof_writing::{fits, write_fact};
 use std::alloc::Global;
 use std::process::Abort;
@@ -195,61 +195,5 @@ pub(crate) fn array(id: u64, elem: Basic, bytes: &[u8]) -> Fact<'_> {
         trace: 1,
         elem,
         bytes,
-    }
-}
-
-pub(crate) fn class_of<'a>(id: u64, size: u32) -> Option<Fact<'a>> {
-    Some(Fact::Class {
-        id,
-        trace: 1,
-        parent: 0,
-        loader: 0,
-        signers: 0,
-        domain: 0,
-        reserved1: 0,
-        reserved2: 0,
-        size,
-        constants: ConstantList::new(b"", IdSize::Four)?,
-        statics: StaticList::new(b"", IdSize::Four)?,
-        fields: FieldList::new(b"", IdSize::Four)?,
-    })
-}
-
-pub(crate) fn start_of<'a>(thread: u32, name: u64) -> Fact<'a> {
-    Fact::Start {
-        thread,
-        object: 8,
-        trace: 6,
-        name,
-        group: 3,
-        parent_group: 4,
-    }
-}
-
-pub(crate) fn frame_of<'a>(id: u64, line: i32) -> Fact<'a> {
-    Fact::Frame {
-        id,
-        method: 2,
-        signature: 3,
-        source: 4,
-        class_serial: 5,
-        line,
-    }
-}
-
-pub(crate) fn trace_of<'a>(serial: u32, frame: &'a [u8]) -> Option<Fact<'a>> {
-    Some(Fact::Trace {
-        serial,
-        thread: 7,
-        frames: IdList::new(frame, IdSize::Four)?,
-    })
-}
-
-pub(crate) fn loaded<'a>(serial: u32, name: u64) -> Fact<'a> {
-    Fact::Load {
-        serial,
-        class: 1,
-        trace: 2,
-        name,
     }
 }

@@ -1,12 +1,10 @@
 //! Parts with thousands of facts, and thousands of parts.
 
 use crate::expecting::{equal, equal_bytes, equal_text};
-use crate::pieces::dump_of;
-use crate::samples::{fed, readers_of};
+use crate::samples::readers_of;
 use hprof_devices::Device;
 use hprof_engine::{Joined, join_to};
 use hprof_fixtures::{END, HEADER, NAME_1_A, bytes_of};
-use hprof_heap::Gatherer;
 use hprof_stream::Limits;
 use hprof_tool::check_to;
 use std::alloc::{AllocError, Global};
@@ -49,21 +47,6 @@ fn thousands_of_facts(rt: HostRuntime) -> Result<(), Fail> {
     };
     equal(&rt, answer, Ok(joined));
     equal_bytes(&rt, &target.into_inner(), &dump);
-    Ok(())
-}
-
-#[test]
-fn thousands_of_facts_in_pieces_of_seven(rt: HostRuntime) -> Result<(), Fail> {
-    let (ascending, descending) = thousands(rt.alloc())?;
-    let part = bytes_of(rt.alloc(), &[HEADER, &descending])?;
-    let dump = bytes_of(rt.alloc(), &[HEADER, &ascending, END])?;
-    let mut gatherer = Gatherer::new(rt.alloc());
-    let summary = fed(rt.alloc(), &part, 7, &mut gatherer)
-        .ok()
-        .ok_or("the part is whole")?;
-    let found = (summary.records, summary.facts, summary.ended, dump.len());
-    equal(&rt, found, (3_000, 3_000, false, 42_040));
-    equal_bytes(&rt, &dump_of(rt.alloc(), gatherer)?, &dump);
     Ok(())
 }
 

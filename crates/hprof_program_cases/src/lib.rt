@@ -1,6 +1,5 @@
-//! Tests of the engine, the reports and the program that do not fit a line in the table of worked cases: the heaps that calls return, parts
-//! that are fed in pieces, counts of pushes, memory that is given back, generated parts, texts of faults that no small part has, labels
-//! that words mean, and the real disk.
+//! Tests of the engine, the reports and the program that do not fit a line in the table of worked cases: counts of pushes, memory that is
+//! given back, generated parts, texts of faults that no small part has, labels that words mean, and the real disk.
 #![tactic(auto)]
 
 #[cfg(test)]
@@ -11,15 +10,11 @@ mod disk;
 mod expecting;
 #[cfg(test)]
 mod generated;
-#[cfg(test)]
-mod handed_back;
 mod laws;
 #[cfg(test)]
 mod meant_labels;
 #[cfg(test)]
 mod old_dumps;
-#[cfg(test)]
-mod pieces;
 #[cfg(test)]
 mod products;
 #[cfg(test)]

@@ -13,10 +13,6 @@ mod objects;
 #[cfg(test)]
 mod passes;
 #[cfg(test)]
-mod placed;
-#[cfg(test)]
 mod runs;
 #[cfg(test)]
 mod storing;
-#[cfg(test)]
-mod stretches;
