@@ -27,6 +27,7 @@ impl Place {
 }
 
 /// Returns the bytes that lie at a place.
+#[inline(always)]
 pub(crate) fn bytes_at(bytes: &[u8], place: Place) -> &[u8]
     ensures { result.now ≡ take place.len (drop place.at bytes.now) }
 {
