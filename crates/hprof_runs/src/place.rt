@@ -17,6 +17,7 @@ pub(crate) struct Place {
 
 impl Place {
     /// Returns the place of a row.
+    #[inline(always)]
     pub(crate) fn new(key: u64, at: usize, len: u32) -> Self
         ensures key { result.key ≡ key }
         ensures at { result.at ≡ at }
