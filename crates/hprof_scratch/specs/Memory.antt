@@ -1,7 +1,8 @@
 -- The memory that objects may take, in bytes.
 use Rattle.std.specs.Prelude.{ℕ, ◌*◌, ◌/◌, ◌^◌, min, Option, Some, None}
 
--- A quarter of what is available and of the limit, whichever is less, where they are known; and else 256 MiB.
+-- A quarter of the memory that is available or of the limit, whichever is less. One that is not known does not count; if neither is known,
+-- it is 256 MiB.
 abbrev pub memory_for : Option ℕ → Option ℕ → ℕ
 memory_for (Some available) (Some limit) = min available limit / 4
 memory_for (Some available) None = available / 4
