@@ -1,0 +1,8 @@
+//! The reports on parts that are larger than the memory: those that are made of passes over objects.
+#![tactic(auto)]
+
+mod checked;
+mod named;
+mod passed_report;
+
+pub use passed_report::PassedReport;
