@@ -170,7 +170,10 @@ keeps_once ids (forms.Frame id method signature source class_serial line) bytes 
 keeps_once ids (forms.Trace serial thread) bytes fact other keeps too = keeps.1 ∙ sym too.1
 keeps_once ids (forms.Start thread object trace name group parent_group) bytes fact other keeps too = keeps ∙ sym too
 keeps_once ids (forms.End thread) bytes fact other keeps too = keeps ∙ sym too
-keeps_once ids forms.Spelled bytes fact other keeps too = sym (spelled_read ids 0 fact bytes keeps) ∙ spelled_read ids 0 other bytes too
+keeps_once ids (forms.Object id) bytes fact other keeps too =
+    sym (spelled_read ids 0 fact bytes keeps.0) ∙ spelled_read ids 0 other bytes too.0
+keeps_once ids forms.Spelled bytes fact other keeps too =
+    sym (spelled_read ids 0 fact bytes keeps.0) ∙ spelled_read ids 0 other bytes too.0
 
 are_kept_once : (ids : IdSize) (bytes : List ℕ) (slots : List Slot) (facts others : List FactValue) → AreKept ids bytes slots facts
     → AreKept ids bytes slots others → facts ≡ others

@@ -23,7 +23,8 @@ kept_spelled ids (forms.Frame id method signature source class_serial line) byte
 kept_spelled ids (forms.Trace serial thread) bytes fact keeps = sym (ap (dump_bytes ids) keeps.1)
 kept_spelled ids (forms.Start thread object trace name group parent_group) bytes fact keeps = sym (ap (dump_bytes ids) keeps)
 kept_spelled ids (forms.End thread) bytes fact keeps = sym (ap (dump_bytes ids) keeps)
-kept_spelled ids forms.Spelled bytes fact keeps = keeps.spelled
+kept_spelled ids (forms.Object id) bytes fact keeps = keeps.0.spelled
+kept_spelled ids forms.Spelled bytes fact keeps = keeps.0.spelled
 
 -- a slot that lies within the bytes
 pub held_within : (bytes : List ℕ) (slot : Slot) → slot.at + slot.len ≤ length bytes

@@ -8,6 +8,7 @@ use Rattle.hprof_rows.specs.Spelled.{Spells}
 use Rattle.hprof_facts.specs.declared.kept.Form.{Form}
 use Rattle.hprof_facts.specs.declared.kept.Form.TheVariants as forms
 use Rattle.hprof_facts.specs.declared.kept.Slot.{Slot}
+use Rattle.hprof_facts.specs.ObjectKeys.{object_key}
 
 -- these numbers and bytes are what is kept of the fact
 abbrev pub Keeps : IdSize → Form → List ℕ → FactValue → Type 0
@@ -20,7 +21,8 @@ Keeps ids (forms.Trace serial thread) bytes fact = (length bytes % width_of ids 
 Keeps ids (forms.Start thread object trace name group parent_group) bytes fact =
     fact ≡ Start thread object trace name group parent_group
 Keeps ids (forms.End thread) bytes fact = fact ≡ End thread
-Keeps ids forms.Spelled bytes fact = Spells ids fact bytes
+Keeps ids (forms.Object id) bytes fact = Spells ids fact bytes × (object_key fact ≡ Some id)
+Keeps ids forms.Spelled bytes fact = Spells ids fact bytes × (object_key fact ≡ None)
 
 -- a slot of a queue with these bytes keeps the fact
 pub record KeepsAt (ids : IdSize) (bytes : List ℕ) (slot : Slot) (fact : FactValue) : Type 0 where

@@ -1,3 +1,4 @@
+pub mod ObjectKeys
 pub mod Kept
 pub mod Queues
 pub mod Listing

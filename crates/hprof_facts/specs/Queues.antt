@@ -8,7 +8,7 @@ use Rattle.hprof_stream.specs.declared.sink.SinkFault.{SinkFault}
 use Rattle.hprof_stream.specs.declared.sink.SinkFault.TheVariants.{OutOfMemory}
 use Rattle.hprof_facts.specs.declared.queue.Queue.{Queue}
 use Rattle.hprof_facts.specs.declared.kept.Form.{Form}
-use Rattle.hprof_facts.specs.declared.kept.Form.TheVariants.{Spelled}
+use Rattle.hprof_facts.specs.declared.kept.Form.TheVariants.{Object, Spelled}
 use Rattle.hprof_facts.specs.declared.kept.Slot.{Slot}
 use Rattle.hprof_facts.specs.Kept.{AreKeptUnder, KeepsAt}
 
@@ -48,6 +48,7 @@ held_at bytes slot = if nat_le (slot.at + slot.len) (length bytes) then Some (ta
 
 -- the bytes that are kept with a form, where they are those of a sub-record
 abbrev pub spelled_in : Form → List ℕ → List ℕ
+spelled_in (Object id) bytes = bytes
 spelled_in Spelled bytes = bytes
 spelled_in form bytes = []
 

@@ -52,6 +52,7 @@ impl<R: Source + Drop> FactReader<R> {
     ghost use Rattle.hprof_facts.specs.FactReader.{Advances, AdvancesFrom, CanAdvance, HasGiven, HasGivenFrom, HasPassed, IsCurrent};
     ghost use Rattle.hprof_facts.specs.FactReader.{IsOver, IsPlaced, IsPlacedBy, IsReading, Origin, answer_of, ids_of, reads_to_come};
     ghost use Rattle.hprof_facts.specs.FactReader.{source_of, spelled_of, summary_of};
+    ghost use Rattle.hprof_facts.specs.ObjectKeys.{object_key};
     ghost use Rattle.hprof_facts.specs.Queues.{Holds, begun_with, given_of, has_refused};
 
     /// Returns a reader of the part that the source gives. It reads nothing yet. If memory runs out, the fault is `OutOfMemory`.
@@ -199,6 +200,7 @@ impl<R: Source + Drop> FactReader<R> {
     ///
     /// All facts before a fault are given first. The fault is the one with which `read_part` refuses the part. At the end, or behind a
     /// fault, the answer stays the same.
+    #[inline(always)]
     pub fn advance(&mut self) -> Result<bool, PartFault>
         requires { CanAdvance R.health self.old }
         ensures can { CanAdvance R.health self.new }
@@ -215,6 +217,7 @@ impl<R: Source + Drop> FactReader<R> {
     }
 
     /// Gives the next fact of the queue. Without one, returns what reading the part came to.
+    #[inline(always)]
     fn give(&mut self) -> Result<bool, PartFault>
         requires can { CanAdvance R.health self.old }
         requires over { Holds self.old.queue [] → self.old.part ≡ None }
@@ -244,13 +247,23 @@ impl<R: Source + Drop> FactReader<R> {
     }
 
     /// Returns the fact that `advance` went on to last.
+    #[inline(always)]
     pub fn current(&self) -> Option<Fact<'_>>
         ensures { (fact : FactValue) → IsCurrent self.now fact → option_map value_of result ≡ Some fact }
     {
         self.queue.current()
     }
 
+    /// Returns the identifier of the fact that `advance` went on to last, or `None` if it is no object. Nothing is decoded.
+    #[inline(always)]
+    pub fn object_id(&self) -> Option<u64>
+        ensures { (fact : FactValue) → IsCurrent self.now fact → result ≡ object_key fact }
+    {
+        self.queue.object_id()
+    }
+
     /// Returns the bytes of the sub-record that states the fact. They are empty for the fact of a record.
+    #[inline(always)]
     pub fn spelled(&self) -> &[u8]
         ensures spells { (fact : FactValue) → IsCurrent self.now fact → SpellsBegun (ids_of self.now) fact result.now }
         ensures is { result.now ≡ spelled_of self.now }

@@ -51,7 +51,11 @@ pub(crate) enum Form {
     End {
         thread: u32,
     },
-    /// A sub-record, whose bytes are kept as they came.
+    /// An object, whose bytes are kept as they came.
+    Object {
+        id: u64,
+    },
+    /// Another sub-record, whose bytes are kept as they came.
     Spelled,
 }
 
@@ -129,6 +133,9 @@ pub(crate) fn form_of<'a>(fact: &Fact<'a>, spelled: &'a [u8]) -> (Form, &'a [u8]
             b"",
         ),
         Fact::End { thread } => (Form::End { thread }, b""),
+        Fact::Instance { id, .. } | Fact::ObjArray { id, .. } | Fact::PrimArray { id, .. } => {
+            (Form::Object { id }, spelled)
+        }
         _ => (Form::Spelled, spelled),
     }
 }
@@ -193,7 +200,7 @@ pub(crate) fn kept_fact(form: Form, bytes: &[u8], ids: IdSize) -> Option<Fact<'_
             parent_group,
         }),
         Form::End { thread } => Some(Fact::End { thread }),
-        Form::Spelled => sub_fact(bytes, ids),
+        Form::Object { .. } | Form::Spelled => sub_fact(bytes, ids),
     }
 }
 

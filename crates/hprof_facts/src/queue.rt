@@ -28,6 +28,7 @@ impl Queue {
     ghost use Rattle.hprof_stream.specs.Run.{SpellsBegun};
     ghost use Rattle.hprof_stream.specs.declared.sink.SinkFault.{SinkFault};
     ghost use Rattle.hprof_facts.specs.declared.kept.Slot.{Slot};
+    ghost use Rattle.hprof_facts.specs.ObjectKeys.{object_key};
     ghost use Rattle.hprof_facts.specs.Queues.{Holds, HasCurrent, has_refused, begun_with, given_of, held_at, last_slot, spelled_last};
 
     /// Returns a queue that keeps nothing, begun with a size of identifiers, if there is one. It takes no memory yet.
@@ -84,6 +85,7 @@ impl Queue {
     }
 
     /// Returns whether there is a fact that was not given yet.
+    #[inline(always)]
     pub(crate) fn has_next(&self) -> bool
         ensures none { result ≡ false → Holds self.now [] }
         ensures some { result ≡ true → ¬ (Holds self.now []) }
@@ -124,6 +126,17 @@ impl Queue {
         kept_fact(slot.form, self.bytes_of(slot)?, ids)
     }
 
+    /// Returns the identifier of the fact that was gone past last, if it is an object.
+    #[inline(always)]
+    pub(crate) fn object_id(&self) -> Option<u64>
+        ensures { (fact : FactValue) → HasCurrent self.now fact → result ≡ object_key fact }
+    {
+        match self.last()?.form {
+            Form::Object { id } => Some(id),
+            _ => None,
+        }
+    }
+
     /// Returns the slot of the fact that was given last.
     #[inline(always)]
     fn last(&self) -> Option<&Slot>
@@ -143,12 +156,16 @@ impl Queue {
     }
 
     /// Returns the bytes of the sub-record that states the fact that was given last. They are empty for the fact of a record.
+    #[inline(always)]
     pub(crate) fn spelled(&self) -> &[u8]
         ensures { result.now ≡ spelled_last self.now }
     {
         match self.last() {
-            Some(slot) if slot.form == Form::Spelled => self.bytes_of(slot).unwrap_or(&[]),
-            _ => &[],
+            Some(slot) => match slot.form {
+                Form::Object { .. } | Form::Spelled => self.bytes_of(slot).unwrap_or(&[]),
+                _ => &[],
+            },
+            None => &[],
         }
     }
 }

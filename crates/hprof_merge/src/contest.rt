@@ -40,6 +40,7 @@ impl Contest {
     }
 
     /// Puts a key at a place, or takes the one there out of the contest.
+    #[inline(always)]
     pub(crate) fn set(&mut self, place: usize, head: Option<u64>)
         requires { place < length (heads_of self.old) }
         ensures { heads_of self.new ≡ slice_set (heads_of self.old) place head }
@@ -67,6 +68,7 @@ impl Contest {
     }
 
     /// Returns a least key with its place.
+    #[inline(always)]
     pub(crate) fn first(&self) -> Option<(u64, usize)>
         ensures { IsLeastHead (heads_of self.now) result }
     {
@@ -78,6 +80,7 @@ impl Contest {
     }
 
     /// Returns a place of a key to which none is lower.
+    #[inline(always)]
     pub(crate) fn place_of(&self, key: u64) -> Option<usize>
         requires { (place other : ℕ) → head_at (heads_of self.now) place ≡ Some other → key ≤ other }
         ensures { IsPlaceOfHead (heads_of self.now) key result }

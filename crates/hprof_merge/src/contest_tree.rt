@@ -15,6 +15,7 @@ pub(crate) struct ContestTree {
 }
 
 /// Returns the one with the lesser key, or the first if both have the same.
+#[inline(always)]
 pub(crate) fn lesser(one: Option<(u64, usize)>, other: Option<(u64, usize)>) -> Option<(u64, usize)>
     ensures { result ≡ lesser_of one other }
 {
@@ -86,6 +87,7 @@ impl ContestTree {
     }
 
     /// Returns a least key with its place.
+    #[inline(always)]
     pub(crate) fn first(&self) -> Option<(u64, usize)>
         ensures { IsLeastHead (keys_in self.now) result }
     {

@@ -30,6 +30,7 @@ fn enter<C: RowCursor>(alloc: Global, cursors: &[C]) -> Result<Contest, AllocErr
 }
 
 /// Returns the key that a cursor shows.
+#[inline(always)]
 fn head_of<C: RowCursor>(cursor: &C) -> Option<u64>
     requires well { C.well cursor.now }
     ensures { result ≡ first_key (only (C.shown cursor.now)) }
@@ -54,6 +55,7 @@ fn agree<C: RowCursor>(one: &C, other: &C) -> bool
 }
 
 /// Gives the row that a cursor shows to a sink.
+#[inline(always)]
 fn give<C: RowCursor, T: RowSink>(cursor: &C, sink: &mut T) -> Result<(), T::Fault>
     requires well { C.well cursor.now }
     requires sink { T.well sink.old }
@@ -67,6 +69,7 @@ fn give<C: RowCursor, T: RowSink>(cursor: &C, sink: &mut T) -> Result<(), T::Fau
 }
 
 /// Advances the cursor at a place, and puts the key that it shows then into the contest.
+#[inline(always)]
 fn advance<C: RowCursor, F>(
     cursors: &mut [C],
     contest: &mut Contest,
@@ -91,6 +94,7 @@ fn advance<C: RowCursor, F>(
 }
 
 /// Advances each cursor that shows the same key and the same bytes as the one that is held.
+#[inline(always)]
 fn pass_equals<C: AscendingCursor, F>(
     cursors: &mut [C],
     contest: &mut Contest,

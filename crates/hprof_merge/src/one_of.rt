@@ -26,6 +26,7 @@ impl<A: RowCursor, B: RowCursor> RowCursor for OneOf<A, B> {
 
     type Fault = OneOf<A::Fault, B::Fault>;
 
+    #[inline(always)]
     fn current(&self) -> Option<(u64, &[u8])> {
         match self {
             OneOf::First(cursor) => cursor.current(),
@@ -33,6 +34,7 @@ impl<A: RowCursor, B: RowCursor> RowCursor for OneOf<A, B> {
         }
     }
 
+    #[inline(always)]
     fn advance(&mut self) -> Result<(), OneOf<A::Fault, B::Fault>> {
         match self {
             OneOf::First(cursor) => match cursor.advance() {

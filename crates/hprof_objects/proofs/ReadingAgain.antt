@@ -35,7 +35,8 @@ use Rattle.hprof_merge.specs.Rows.{ByteRow}
 use Rattle.hprof_merge.specs.Showing.{only}
 use Rattle.hprof_objects.specs.declared.stretch_fault.StretchFault.{StretchFault}
 use Rattle.hprof_objects.specs.declared.stretch_fault.StretchFault.TheVariants as whys
-use Rattle.hprof_objects.specs.ObjectRows.{object_key, object_row, object_rows}
+use Rattle.hprof_facts.specs.ObjectKeys.{object_key}
+use Rattle.hprof_objects.specs.ObjectRows.{object_row, object_rows}
 use Rattle.hprof_objects.specs.ReadAgain.{CannotRead, HasObjects, IsOverBefore, IsWhole}
 use Rattle.hprof_objects.specs.StretchFault.{ByFault, stretch_fault}
 

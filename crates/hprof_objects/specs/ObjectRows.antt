@@ -7,13 +7,6 @@ use Rattle.hprof_items.specs.SubRecord.{dump_bytes}
 use Rattle.hprof_merge.specs.Rows.{ByteRow}
 use Rattle.hprof_merge.specs.Showing.{only}
 
--- the identifier of an object
-abbrev pub object_key : FactValue → Option ℕ
-object_key (Instance id trace class bytes) = Some id
-object_key (ObjArray id trace class elements) = Some id
-object_key (PrimArray id trace elem bytes) = Some id
-object_key fact = None
-
 -- the row of an object
 abbrev pub object_row : IdSize → FactValue → Option ByteRow
 object_row ids (Instance id trace class bytes) = Some (id, dump_bytes ids (Instance id trace class bytes))

@@ -8,7 +8,8 @@ use Rattle.hprof_rows.specs.Facts.{AllFit}
 use Rattle.hprof_rows.specs.HeapValue.{HeapValue}
 use Rattle.hprof_heap.specs.Gathering.{Given}
 use Rattle.hprof_merge.specs.Rows.{ByteRow}
-use Rattle.hprof_objects.specs.ObjectRows.{object_key, object_row, object_rows}
+use Rattle.hprof_facts.specs.ObjectKeys.{object_key}
+use Rattle.hprof_objects.specs.ObjectRows.{object_row, object_rows}
 
 -- whether the fact is an object
 abbrev pub is_object : FactValue → Bool

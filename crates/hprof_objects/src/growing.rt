@@ -36,6 +36,7 @@ impl Growing {
     ghost use Rattle.hprof_objects.specs.Growing.{extended, grown_first, grown_in_part};
 
     /// Returns the stretch with one object more.
+    #[inline(always)]
     pub(crate) fn with(self, id: u64, len: usize) -> Growing
         requires { self.stretch.count < 2 ^ 64 - 1 }
         ensures { result ≡ extended self id len }

@@ -2,7 +2,7 @@
 
 ghost use Rattle.std.specs.Prelude.{◌≡◌};
 ghost use Rattle.hprof_items.specs.FactValue.{value_of};
-ghost use Rattle.hprof_objects.specs.ObjectRows.{object_key};
+ghost use Rattle.hprof_facts.specs.ObjectKeys.{object_key};
 
 use hprof_items::Fact;
 

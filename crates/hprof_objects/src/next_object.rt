@@ -1,26 +1,17 @@
 //! The next object of a part.
 
 ghost use Rattle.std.specs.Prelude.{◌≡◌, ◌∷◌, ℕ, List, IfOk, IfErr, OnOk};
-ghost use Rattle.hprof_items.specs.FactValue.{FactValue};
-ghost use Rattle.hprof_facts.specs.FactReader.{CanAdvance, IsCurrent, source_of, spelled_of};
+ghost use Rattle.hprof_facts.specs.FactReader.{CanAdvance, source_of, spelled_of};
 ghost use Rattle.hprof_merge.specs.Rows.{ByteRow};
-ghost use Rattle.hprof_objects.specs.ObjectRows.{object_key};
 ghost use Rattle.hprof_objects.specs.ReadAgain.{CannotRead, HasObjects};
 ghost use Rattle.hprof_objects.specs.StretchFault.{ByFault};
 
-use crate::identifying::object_id;
 use crate::stretch_fault::StretchFault;
 use hprof_devices::Source;
 use hprof_facts::FactReader;
 
-/// Returns the identifier of the object that was given last, or `None` if the fact is no object.
-fn current_id<R: Source + Drop>(reader: &FactReader<R>) -> Option<u64>
-    ensures { (fact : FactValue) → IsCurrent reader.now fact → result ≡ object_key fact }
-{
-    object_id(&reader.current()?)
-}
-
 /// Goes past the facts that are no objects to the next object, and returns its identifier.
+#[inline(always)]
 pub(crate) fn next_object<R: Source + Drop>(reader: &mut FactReader<R>) -> Result<u64, StretchFault>
     requires { CanAdvance R.health reader.old }
     ensures can { OnOk result (CanAdvance R.health reader.new) }
@@ -35,7 +26,7 @@ pub(crate) fn next_object<R: Source + Drop>(reader: &mut FactReader<R>) -> Resul
     for _ in 0..u64::MAX {
         match reader.advance() {
             Ok(true) => {
-                if let Some(id) = current_id(reader) {
+                if let Some(id) = reader.object_id() {
                     return Ok(id);
                 }
             }

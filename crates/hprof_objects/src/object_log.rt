@@ -69,6 +69,7 @@ fn piece_at(place: Option<PartPlace>) -> Option<Piece>
 }
 
 /// Returns the piece with one fact more that was taken of it. Where they cannot be counted, no stretch may begin behind them.
+#[inline(always)]
 fn with_one_more(piece: Option<Piece>) -> Option<Piece>
     ensures { (limits : Limits) (part : PartRead) (fact : FactValue) → IsPieceOf limits part piece
         → IsPieceOf limits (with_fact part fact) result }
@@ -307,6 +308,7 @@ impl<S: Scratch + Drop> ObjectLog<S> {
     }
 
     /// Takes an object, with the bytes of its sub-record, and does not go on in the piece.
+    #[inline(always)]
     fn take_row(&mut self, id: u64, spelled: &[u8]) -> Result<(), ScratchFault>
         requires short { length spelled.now < 2 ^ 32 }
         requires well { S.health (scratch_of_log self.old) ≡ Well }
@@ -338,6 +340,7 @@ impl<S: Scratch + Drop> ObjectLog<S> {
     /// - `Full`, `Write`: the scratch took no more.
     ///
     /// The log is not used again then.
+    #[inline(always)]
     pub fn take(&mut self, id: u64, spelled: &[u8]) -> Result<(), ScratchFault>
         requires short { length spelled.now < 2 ^ 32 }
         requires well { S.health (scratch_of_log self.old) ≡ Well }

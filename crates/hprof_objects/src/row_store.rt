@@ -39,6 +39,7 @@ impl<S: Scratch + Drop> RowStore<S> {
     }
 
     /// Returns the number of rows in memory.
+    #[inline(always)]
     pub fn len(&self) -> usize
         ensures { result ≡ length (rows_of_store self.now) }
     {
@@ -72,6 +73,7 @@ impl<S: Scratch + Drop> RowStore<S> {
     /// whether they did.
     ///
     /// After an error no row is added.
+    #[inline(always)]
     pub fn push(&mut self, key: u64, bytes: &[u8]) -> Result<bool, ScratchFault>
         requires short { length bytes.now < 2 ^ 32 }
         requires well { S.health (scratch_of_store self.old) ≡ Well }

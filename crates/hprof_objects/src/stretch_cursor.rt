@@ -60,6 +60,7 @@ impl<R: Source + Drop> StretchCursor<R> {
     }
 
     /// Goes on to the next object, or to the end.
+    #[inline(always)]
     fn go_on(&mut self) -> Result<(), StretchFault>
         requires { CanGoOn R.health self.old }
         ensures can { OnOk result (CanGoOn R.health self.new) }
@@ -99,6 +100,7 @@ impl<R: Source + Drop> RowCursor for StretchCursor<R> {
 
     type Fault = StretchFault;
 
+    #[inline(always)]
     fn current(&self) -> Option<(u64, &[u8])> {
         match self.shown {
             Some(id) => Some((id, self.reader.spelled())),
@@ -106,6 +108,7 @@ impl<R: Source + Drop> RowCursor for StretchCursor<R> {
         }
     }
 
+    #[inline(always)]
     fn advance(&mut self) -> Result<(), StretchFault> {
         let Some(before) = self.shown else {
             return Ok(());

@@ -1,45 +1,15 @@
 //! Reading and writing facts.
 
-use crate::expecting::{equal, equal_at};
+use crate::expecting::equal;
 use hprof_devices::Device;
 use hprof_fixtures::Counting;
 use hprof_items::{
-    Basic, ConstantList, Fact, FieldList, HEAD_LEN, HeadKind, IdList, IdSize, Reason, Root,
-    StaticList, Stop, read_body, read_body_into, read_head, read_sub, read_sub_into,
+    Fact, HEAD_LEN, HeadKind, IdSize, read_body, read_body_into, read_head, read_sub,
 };
 use hprof_writing::{fits, spelled_len, write_fact};
 use std::alloc::Global;
 use std::process::Abort;
 use std::test::*;
-
-#[test]
-fn facts_in_one_place(rt: HostRuntime) {
-    let ids = IdSize::Four;
-    let mut fact = Fact::Unload { serial: 7 };
-    let root: &[u8] = b"\x05\0\0\0\x10\xff";
-    equal(&rt, read_sub_into(root, 5, 5, ids, &mut fact), Ok(5));
-    equal(&rt, fact, Fact::Root(Root::Sticky { id: 16 }));
-    let array: &[u8] = b"\x23\0\0\0\x10\0\0\0\x01\0\0\0\x02\x08\x01\x02\xff";
-    equal(&rt, read_sub_into(array, 16, 100, ids, &mut fact), Ok(16));
-    let same = Fact::PrimArray {
-        id: 16,
-        trace: 1,
-        elem: Basic::Byte,
-        bytes: &[1, 2],
-    };
-    equal(&rt, fact, same);
-    let stops = (
-        read_sub_into(array, 15, 100, ids, &mut fact),
-        read_sub_into(array, 16, 15, ids, &mut fact),
-        read_sub_into(b"\x23", 16, 100, ids, &mut fact),
-    );
-    let past = Stop::Fault(Reason::PastEnd);
-    equal(
-        &rt,
-        stops,
-        (Err(past), Err(Stop::TooLong), Err(Stop::Short)),
-    );
-}
 
 // The fact of a record, whose bytes these are. It is the same by itself and in a place.
 fn record_in<'a>(bytes: &'a [u8], ids: IdSize) -> Option<Fact<'a>> {
@@ -194,83 +164,6 @@ fn facts_are_written_as_they_are_read(rt: HostRuntime) -> Result<(), Fail> {
     }
     for (ids, bytes, pushes) in SUB_RECORDS {
         check_written(&rt, rt.alloc(), sub_in(bytes, ids), ids, bytes, pushes)?;
-    }
-    Ok(())
-}
-
-// A class with a constant 1 of type int, 7.
-fn class_of(ids: IdSize) -> Option<Fact<'static>> {
-    Some(Fact::Class {
-        id: 48,
-        trace: 9,
-        parent: 49,
-        loader: 50,
-        signers: 0,
-        domain: 0,
-        reserved1: 0,
-        reserved2: 0,
-        size: 12,
-        constants: ConstantList::new(b"\0\x01\x0a\0\0\0\x07", ids)?,
-        statics: StaticList::new(b"", ids)?,
-        fields: FieldList::new(b"", ids)?,
-    })
-}
-
-// An identifier past four bytes, or a list with identifiers of eight bytes.
-#[test]
-fn facts_that_fit_eight_bytes(rt: HostRuntime) -> Result<(), Fail> {
-    let great = 4294967296;
-    let list = IdList::new(b"", IdSize::Eight).ok_or("no list")?;
-    for fact in [
-        Fact::Name {
-            id: great,
-            text: b"A",
-        },
-        Fact::Load {
-            serial: 1,
-            class: 1,
-            trace: 1,
-            name: great,
-        },
-        Fact::Root(Root::Sticky { id: great }),
-        Fact::Instance {
-            id: 1,
-            trace: 1,
-            class: great,
-            bytes: b"",
-        },
-        Fact::Trace {
-            serial: 1,
-            thread: 1,
-            frames: list,
-        },
-        Fact::ObjArray {
-            id: 1,
-            trace: 1,
-            class: 1,
-            elements: list,
-        },
-    ] {
-        let found = (fits(&fact, IdSize::Four), fits(&fact, IdSize::Eight));
-        equal_at(&rt, fact, found, (false, true));
-    }
-    let class = class_of(IdSize::Four).ok_or("no class")?;
-    let found = (fits(&class, IdSize::Four), fits(&class, IdSize::Eight));
-    equal(&rt, found, (true, false));
-    // A type of elements that is none, and an element that is cut.
-    for (elem, bytes, fit) in [
-        (Basic::Object, b"".as_slice(), false),
-        (Basic::Array, b"", false),
-        (Basic::Int, b"abc", false),
-        (Basic::Int, b"abcd", true),
-    ] {
-        let array = Fact::PrimArray {
-            id: 1,
-            trace: 1,
-            elem,
-            bytes,
-        };
-        equal_at(&rt, array, fits(&array, IdSize::Four), fit);
     }
     Ok(())
 }

@@ -1,6 +1,5 @@
-//! Tests of the crates that read parts, and of hprof_tables, hprof_byte_tables and hprof_search, through public calls: types, lists and
-//! iterators, pushes and pulls, a reader that is fed in pieces, and tables of rows. Tests that fit one line are in the table of
-//! hprof_worked.
+//! Tests of the crates that read parts, and of hprof_tables and hprof_byte_tables, through public calls: types, lists, pushes and pulls, a
+//! reader that is fed in pieces, and tables. Tests that fit one line are in the table of hprof_worked.
 #![tactic(auto)]
 
 #[cfg(test)]
@@ -11,8 +10,6 @@ mod expecting;
 mod facts;
 #[cfg(test)]
 mod floats;
-#[cfg(test)]
-mod graphs;
 pub mod laws;
 #[cfg(test)]
 mod lengths;
@@ -22,8 +19,6 @@ mod lists;
 mod pieces;
 #[cfg(test)]
 mod samples;
-#[cfg(test)]
-mod searches;
 #[cfg(test)]
 mod sinks;
 #[cfg(test)]

@@ -17,6 +17,7 @@ pub struct Firsts<'a> {
 }
 
 /// Returns the places from the first one on whose key is above this one.
+#[inline(always)]
 fn places_above(places: &[Place], key: u64) -> &[Place]
     ensures { (bytes : List ℕ) → firsts_of (rows_lying bytes result.now) ≡ in_order_above key (rows_lying bytes places.now) }
 {
@@ -54,11 +55,13 @@ impl RowCursor for Firsts<'_> {
 
     type Fault = Infallible;
 
+    #[inline(always)]
     fn current(&self) -> Option<(u64, &[u8])> {
         let place = self.places.first()?;
         Some((place.key, bytes_at(self.bytes, *place)))
     }
 
+    #[inline(always)]
     fn advance(&mut self) -> Result<(), Infallible> {
         if let Some((place, rest)) = self.places.split_first() {
             self.places = places_above(rest, place.key);

@@ -21,6 +21,7 @@ pub(crate) struct Header {
 const HEADER_BYTES: usize = 12;
 
 /// Returns the header that bytes begin with.
+#[inline(always)]
 fn first_header(bytes: &[u8]) -> Header
     requires { 12 ≤ length bytes.now }
     ensures key { result.key ≡ spelled_key bytes.now }
@@ -66,6 +67,7 @@ impl Header {
     }
 
     /// Returns whether the next key, if there is one, is above the key.
+    #[inline(always)]
     pub(crate) fn is_below(self, next: Option<Self>) -> bool
         ensures { IsTrue result ↔ IsKeyAbove self.key next }
     {

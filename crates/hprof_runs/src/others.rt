@@ -79,11 +79,13 @@ impl RowCursor for Others<'_> {
 
     type Fault = Infallible;
 
+    #[inline(always)]
     fn current(&self) -> Option<(u64, &[u8])> {
         let place = self.shown?;
         Some((place.key, bytes_at(self.bytes, place)))
     }
 
+    #[inline(always)]
     fn advance(&mut self) -> Result<(), Infallible> {
         if let Some(place) = self.shown {
             let (shown, rest) = next_other(self.bytes, self.rest, place.key, None);

@@ -17,6 +17,7 @@ pub(crate) struct Place {
 
 impl Place {
     /// Returns the place of a row.
+    #[inline(always)]
     pub(crate) fn new(key: u64, at: usize, len: u32) -> Self
         ensures key { result.key ≡ key }
         ensures at { result.at ≡ at }
@@ -27,6 +28,7 @@ impl Place {
 }
 
 /// Returns the bytes that lie at a place.
+#[inline(always)]
 pub(crate) fn bytes_at(bytes: &[u8], place: Place) -> &[u8]
     ensures { result.now ≡ take place.len (drop place.at bytes.now) }
 {

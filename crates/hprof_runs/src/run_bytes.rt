@@ -44,6 +44,7 @@ impl<'a, S: Scratch> RunBytes<'a, S> {
     }
 
     /// Returns the bytes that were read already.
+    #[inline(always)]
     pub(crate) fn held(&self) -> &[u8]
         ensures { result.now ≡ held_bytes self.now }
     {
@@ -51,6 +52,7 @@ impl<'a, S: Scratch> RunBytes<'a, S> {
     }
 
     /// Returns whether no bytes are still to come.
+    #[inline(always)]
     pub(crate) fn is_empty(&self) -> bool
         ensures { IsTrue result ↔ ((held_bytes self.now ≡ []) × (self.now.left ≡ 0)) }
     {
@@ -58,6 +60,7 @@ impl<'a, S: Scratch> RunBytes<'a, S> {
     }
 
     /// Passes bytes that were read already.
+    #[inline(always)]
     pub(crate) fn pass(&mut self, count: usize)
         requires { count ≤ length (held_bytes self.old) }
         ensures held { held_bytes self.new ≡ drop count (held_bytes self.old) }

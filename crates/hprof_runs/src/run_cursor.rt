@@ -55,12 +55,14 @@ impl<S: Scratch> RowCursor for RunCursor<'_, S> {
 
     type Fault = RunFault;
 
+    #[inline(always)]
     fn current(&self) -> Option<(u64, &[u8])> {
         let header = self.shown?;
         let (row, _) = self.bytes.held().split_at(header.len as usize);
         Some((header.key, row))
     }
 
+    #[inline(always)]
     fn advance(&mut self) -> Result<(), RunFault> {
         let Some(header) = self.shown.take() else {
             return Ok(());

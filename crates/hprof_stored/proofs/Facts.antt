@@ -9,7 +9,8 @@ use Rattle.hprof_stream.specs.declared.sink.SinkFault.TheVariants as sinks
 use Rattle.hprof_stream.specs.Run.{FitsBegun, SpellsBegun}
 use Rattle.hprof_heap.specs.Gathering.{Gathered, LacksRow}
 use Rattle.hprof_runs.specs.declared.scratch_fault.ScratchFault.{ScratchFault}
-use Rattle.hprof_objects.specs.ObjectRows.{object_key, object_row}
+use Rattle.hprof_facts.specs.ObjectKeys.{object_key}
+use Rattle.hprof_objects.specs.ObjectRows.{object_row}
 use Rattle.hprof_objects.specs.Whole.{is_object}
 use Rattle.hprof_stored.specs.Storing.{HaveObject, IsStoredRefusal, TakesOther}
 

@@ -4,7 +4,7 @@ ghost use Rattle.std.specs.Prelude.{◌≡◌, ◌<◌, ◌+◌, ◌-◌, ◌^�
 ghost use Rattle.hprof_devices.specs.declared.health.Health.TheVariants.{Well};
 ghost use Rattle.hprof_items.specs.FactValue.{FactValue, value_of};
 ghost use Rattle.hprof_objects.specs.Log.{scratch_of_log};
-ghost use Rattle.hprof_objects.specs.ObjectRows.{object_key};
+ghost use Rattle.hprof_facts.specs.ObjectKeys.{object_key};
 ghost use Rattle.hprof_runs.specs.ReadBack.{HoldsNothing};
 ghost use Rattle.hprof_stream.specs.Run.{FitsBegun, ListsHaveBegun, SpellsBegun};
 ghost use Rattle.hprof_stream.specs.declared.limits.Limits.{Limits};

@@ -13,9 +13,9 @@ loop-init g c = record { can = c.requires; gone = λ reads rows has. record { ob
 pub returns-in-Some-clause-next : goal.returns-in-Some-clause-next
 returns-in-Some-clause-next g c = λ reads row rows has.
     let went : c.advance.result ≡ Ok true = search rules in
-    let some : c.current_id.result ≡ Some c.in-Some.id = search rules in
+    let some : c.object_id.result ≡ Some c.in-Some.id = search rules in
     shows_next g.R.Source.left g.R.Source.health g.R.Source.pulls c.loop.reader c.advance.new.self c.advance.result c.advance.ensures.from
-    c.advance.ensures.over reads c.current_id.result c.in-Some.id went c.current_id.ensures some row rows
+    c.advance.ensures.over reads c.object_id.result c.in-Some.id went c.object_id.ensures some row rows
     (c.loop.invariant.gone reads (row ∷ rows) has).objects
 
 pub returns-in-Ok-false-clause-fault : goal.returns-in-Ok-false-clause-fault
@@ -48,9 +48,9 @@ loop-preserved g c = record {
   can = c.advance.ensures.can;
   gone = λ reads rows has.
       let went : c.advance.result ≡ Ok true = search rules in
-      let none : c.current_id.result ≡ None = search rules in
+      let none : c.object_id.result ≡ None = search rules in
       passes g.R.Source.left g.R.Source.health g.R.Source.pulls c.loop.reader c.advance.new.self c.advance.result c.advance.ensures.from
-      c.advance.ensures.over reads c.current_id.result went c.current_id.ensures none c.loop.counter rows
+      c.advance.ensures.over reads c.object_id.result went c.object_id.ensures none c.loop.counter rows
       (c.loop.invariant.gone reads rows has);
 }
 

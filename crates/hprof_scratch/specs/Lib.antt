@@ -1,0 +1,4 @@
+pub mod Size
+pub mod Memory
+pub mod LateFile
+pub mod LateScratch
