@@ -1,6 +1,7 @@
 -- Reports that are made of passes over objects.
 use Rattle.hprof_ask.specs.declared.report.HeapReport.TheVariants as heaps
 use Rattle.hprof_ask.specs.declared.report.KindReport.TheVariants as kinds
+use Rattle.hprof_ask.specs.declared.report.Kinds.TheVariants as these
 use Rattle.hprof_ask.specs.declared.report.Report.{Report}
 use Rattle.hprof_ask.specs.declared.report.Report.TheVariants as reports
 use Rattle.hprof_large.specs.declared.passed_report.PassedReport.{PassedReport}
@@ -11,4 +12,4 @@ abbrev pub report_of : PassedReport → Report
 report_of passed.Check = reports.Heap heaps.Check
 report_of passed.Histogram = reports.Heap heaps.Histogram
 report_of passed.Classes = reports.Heap heaps.Classes
-report_of (passed.Objects objects) = reports.Kind kinds.Objects objects
+report_of (passed.Objects kind) = reports.Kind kinds.Objects (these.Of kind)

@@ -52,18 +52,14 @@ returns-in-Classes g c = λ summaries holds.
     c.args.target.now c.write_classes_over.new.target (λ all text make is. subst (λ (p : PassedReport). IsReportText (report_of p) summaries (heap_with (heap_of c.args.heap.now) all) text) (sym c.in-Classes.is) is)
     (λ refusal all. RefusesReport all report refusal) c.write_classes_over.result c.write_classes_over.ensures
 
-pub returns-in-Objects-Of : goal.returns-in-Objects-Of
+pub returns-in-Objects : goal.returns-in-Objects
 unfolding facts_of size_of
-returns-in-Objects-Of g c = λ summaries holds.
+returns-in-Objects g c = λ summaries holds.
     let ids = size_of c.args.heap.now in
     let facts = facts_of c.args.heap.now in
     let objects = c.args.objects.now in
     let report = report_of c.args.self.now in
     ends_over (g.O.Objects.make_up objects ids facts) (g.O.Objects.agree objects ids facts) (g.O.Objects.tells objects ids facts)
-    (λ all. IsObjectsText ids all c.in-Objects-Of.kind) (λ all. IsReportText report summaries (heap_with (heap_of c.args.heap.now) all)) g.W.Target.written g.W.Target.health
-    c.args.target.now c.write_objects_over.new.target (λ all text make is. subst (λ (p : PassedReport). IsReportText (report_of p) summaries (heap_with (heap_of c.args.heap.now) all) text) (sym ?) is)
+    (λ all. IsObjectsText ids all c.in-Objects.kind) (λ all. IsReportText report summaries (heap_with (heap_of c.args.heap.now) all)) g.W.Target.written g.W.Target.health
+    c.args.target.now c.write_objects_over.new.target (λ all text make is. subst (λ (p : PassedReport). IsReportText (report_of p) summaries (heap_with (heap_of c.args.heap.now) all) text) (sym c.in-Objects.is) is)
     (λ refusal all. RefusesReport all report refusal) c.write_objects_over.result c.write_objects_over.ensures
-
-pub returns-in-Objects-Named : goal.returns-in-Objects-Named
-unfolding facts_of size_of
-returns-in-Objects-Named g c = λ summaries holds. ?
