@@ -50,7 +50,7 @@ impl PassedReport {
 
     /// Returns the report.
     pub fn report(self) -> Report<'static>
-        ensures { result ≡ report_of self.entry }
+        ensures { result ≡ report_of self }
     {
         match self {
             PassedReport::Check => Report::Heap(HeapReport::Check),

@@ -1,5 +1,4 @@
-use Rattle.std.proofs.Common.{◌≡◌, ℕ, List, sym, subst, ◌∙◌}
-use Rattle.hprof_items.specs.FactValue.{FactValue}
+use Rattle.std.proofs.Common.{List, sym, subst, ◌∙◌}
 use Rattle.hprof_stream.specs.declared.summary.PartSummary.{PartSummary}
 use Rattle.hprof_heap.specs.Heap.{heap_of}
 use Rattle.hprof_heap.specs.HeapFacts.{facts_of, size_of}
@@ -9,10 +8,9 @@ use Rattle.hprof_reports.specs.HistogramText.{IsHistogramText}
 use Rattle.hprof_reports.specs.ObjectsText.{IsObjectsText}
 use Rattle.hprof_ask.specs.Summarised.{Holds}
 use Rattle.hprof_ask.specs.Report.{IsReportText, RefusesReport}
-use Rattle.hprof_making.specs.Over.{EndsOver, heap_with}
+use Rattle.hprof_making.specs.Over.{heap_with}
 use Rattle.hprof_making.proofs.Passed.{ends_over}
 use Rattle.hprof_large.specs.declared.passed_report.PassedReport.{PassedReport}
-use Rattle.hprof_large.specs.declared.passed_report.PassedReport.TheVariants as passed
 use Rattle.hprof_large.specs.PassedReport.{report_of}
 use Rattle.hprof_large.proofs.passed_report.PassedReportPassProduct.write_over.Goals as goal
 
