@@ -1,6 +1,6 @@
 //! Plain parts, joined with their objects stored, and in memory.
 
-use crate::storing::{ORDERED, OTHER_OBJECT, UNORDERED, keeping, readers_of};
+use crate::storing::{ORDERED, UNORDERED, keeping, readers_of};
 use hprof_devices::{Device, WriteFault};
 use hprof_engine::join_to;
 use hprof_objects::ObjectStop;
@@ -65,32 +65,6 @@ fn joined_in_memory(alloc: Global, parts: &[&[u8]]) -> Result<Vec<u8>, Fail> {
         Ok(_) => Ok(target.into_inner()),
         Err(_) => Err("not joined".into()),
     }
-}
-
-#[test]
-fn the_same_dump(rt: HostRuntime) -> Result<(), Fail> {
-    let alloc = rt.alloc();
-    let dump = joined_in_memory(alloc, &[ORDERED, UNORDERED])?;
-    let (outcome, bytes) = joined(alloc, &[ORDERED, UNORDERED], 1000)?;
-    assert!(rt; outcome == Ok(()));
-    assert!(rt; bytes.as_slice() == dump.as_slice());
-    let (outcome, bytes) = joined(alloc, &[UNORDERED, ORDERED, UNORDERED], 1000)?;
-    assert!(rt; outcome == Ok(()));
-    assert!(rt; bytes.as_slice() == dump.as_slice());
-
-    let dump = joined_in_memory(alloc, &[ORDERED])?;
-    let (outcome, bytes) = joined(alloc, &[ORDERED], 1000)?;
-    assert!(rt; outcome == Ok(()));
-    assert!(rt; bytes.as_slice() == dump.as_slice());
-    Ok(())
-}
-
-#[test]
-fn objects_with_two_contents(rt: HostRuntime) -> Result<(), Fail> {
-    let (outcome, bytes) = joined(rt.alloc(), &[ORDERED, OTHER_OBJECT, UNORDERED], 1000)?;
-    assert!(rt; outcome == Err(JoinStop::Objects(ObjectStop::TwoContents(8))));
-    assert!(rt; bytes.is_empty());
-    Ok(())
 }
 
 #[test]

@@ -95,40 +95,6 @@ fn merged(
 }
 
 #[test]
-fn merges_objects_twice(rt: HostRuntime) -> Result<(), Fail> {
-    let alloc = rt.alloc();
-    let objects = stored(alloc, 40, b"\x23\0\0\0\x28\0\0\0\x01\0\0\0\x01\x08e")?;
-    assert!(rt; !objects.is_one_stretch());
-    let first = FIRST;
-    let second = SECOND;
-    for _ in 0..2 {
-        let (outcome, sink) = merged(alloc, &objects, &[&first, &second]);
-        assert!(rt; outcome.is_ok());
-        assert_eq!(rt; sink.ids.as_slice(), [8, 16, 24, 32, 40].as_slice());
-        assert_eq!(rt;
-            sink.bytes.as_slice(),
-            b"\x23\0\0\0\x08\0\0\0\x01\0\0\0\x01\x08a\x23\0\0\0\x10\0\0\0\x01\0\0\0\x01\x08b\
-                \x23\0\0\0\x18\0\0\0\x01\0\0\0\x01\x08c\x23\0\0\0\x20\0\0\0\x01\0\0\0\x01\x08d\
-                \x23\0\0\0\x28\0\0\0\x01\0\0\0\x01\x08e"
-                .as_slice()
-        );
-    }
-    Ok(())
-}
-
-#[test]
-fn tells_two_contents(rt: HostRuntime) -> Result<(), Fail> {
-    let alloc = rt.alloc();
-    let objects = stored(alloc, 32, b"\x23\0\0\0\x20\0\0\0\x01\0\0\0\x01\x08x")?;
-    let first = FIRST;
-    let second = SECOND;
-    let (outcome, sink) = merged(alloc, &objects, &[&first, &second]);
-    assert!(rt; matches!(outcome, Err(ObjectStop::TwoContents(32))));
-    assert_eq!(rt; sink.ids.as_slice(), [8, 16, 24].as_slice());
-    Ok(())
-}
-
-#[test]
 fn tells_a_part_that_changed(rt: HostRuntime) -> Result<(), Fail> {
     let alloc = rt.alloc();
     let objects = stored(alloc, 40, b"\x23\0\0\0\x28\0\0\0\x01\0\0\0\x01\x08e")?;
@@ -157,28 +123,5 @@ fn tells_a_part_that_changed(rt: HostRuntime) -> Result<(), Fail> {
         )
     );
     assert!(rt; sink.ids.is_empty());
-    Ok(())
-}
-
-#[test]
-fn knows_one_stretch(rt: HostRuntime) -> Result<(), Fail> {
-    let alloc = rt.alloc();
-    let keeping = Keeping {
-        memory: 90,
-        stretch: 30,
-        stretches: 1,
-    };
-    let mut log = ObjectLog::new(alloc, MemoryScratch::new(alloc), keeping)?;
-    log.begin(0);
-    log.note(first_place(alloc));
-    log.take(16, b"\x23\0\0\0\x10\0\0\0\x01\0\0\0\x01\x08b")?;
-    log.take(32, b"\x23\0\0\0\x20\0\0\0\x01\0\0\0\x01\x08d")?;
-    log.end();
-    let objects = log.finish();
-    assert!(rt; objects.is_one_stretch());
-    let first = FIRST;
-    let (outcome, sink) = merged(alloc, &objects, &[&first]);
-    assert!(rt; outcome.is_ok());
-    assert_eq!(rt; sink.ids.as_slice(), [16, 32].as_slice());
     Ok(())
 }

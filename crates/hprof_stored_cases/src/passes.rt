@@ -2,7 +2,7 @@
 
 ghost use Rattle.std.specs.Prelude.{⊤};
 
-use crate::storing::{ORDERED, OTHER_OBJECT, UNORDERED, keeping, readers_of};
+use crate::storing::{ORDERED, UNORDERED, keeping, readers_of};
 use hprof_engine::NoSummaries;
 use hprof_items::Fact;
 use hprof_objects::{StretchFault, object_id};
@@ -78,23 +78,6 @@ fn pass_over<'a>(alloc: Global, parts: &[&'a [u8]], again: &[&'a [u8]]) -> Resul
 }
 
 #[test]
-fn each_object_once(rt: HostRuntime) -> Result<(), Fail> {
-    // A stretch stays in the part, 8 and 9 go to scratch, and 7 stays in memory.
-    let parts: &[&[u8]] = &[UNORDERED];
-    let it = pass_over(rt.alloc(), parts, parts)?;
-    assert!(rt; it.outcome == Ok(()));
-    assert_eq!(rt; it.ids.as_slice(), [7, 8, 9, 16, 32].as_slice());
-    assert!(rt; it.count == Ok(5));
-
-    let parts: &[&[u8]] = &[ORDERED, UNORDERED, ORDERED];
-    let it = pass_over(rt.alloc(), parts, parts)?;
-    assert!(rt; it.outcome == Ok(()));
-    assert_eq!(rt; it.ids.as_slice(), [7, 8, 9, 16, 32].as_slice());
-    assert!(rt; it.count == Ok(5));
-    Ok(())
-}
-
-#[test]
 fn a_part_that_changed(rt: HostRuntime) -> Result<(), Fail> {
     let (cut, _) = UNORDERED.split_at(60);
     let changed = PassFault::Part {
@@ -107,16 +90,6 @@ fn a_part_that_changed(rt: HostRuntime) -> Result<(), Fail> {
     let it = pass_over(rt.alloc(), &[ORDERED, UNORDERED], &[ORDERED])?;
     assert!(rt; it.outcome == Err(PassStop::Lost(changed)));
     assert!(rt; it.ids.is_empty());
-    Ok(())
-}
-
-#[test]
-fn two_contents(rt: HostRuntime) -> Result<(), Fail> {
-    let parts: &[&[u8]] = &[ORDERED, OTHER_OBJECT, UNORDERED];
-    let it = pass_over(rt.alloc(), parts, parts)?;
-    assert!(rt; it.outcome == Err(PassStop::Lost(PassFault::TwoContents(8))));
-    assert_eq!(rt; it.ids.as_slice(), [7].as_slice());
-    assert!(rt; it.count == Err(PassFault::TwoContents(8)));
     Ok(())
 }
 

@@ -1,4 +1,4 @@
-//! Plain parts, whose objects are in order and out of order, and parts that are refused.
+//! Plain parts, whose objects are in order and out of order.
 
 ghost use Rattle.std.specs.Prelude.{◌≡◌, All, IfOk, Some};
 ghost use Rattle.hprof_devices.specs.declared.health.Health.TheVariants.{Well};
@@ -7,12 +7,10 @@ ghost use Rattle.hprof_runs.specs.ReadBack.{HoldsNothing};
 
 use hprof_devices::{Device, Health, ReadFault, Target, WriteFault};
 use hprof_engine::{AllSummaries, Summaries};
-use hprof_heap::{Key, Table};
 use hprof_objects::Keeping;
-use hprof_runs::{MemoryScratch, Scratch, ScratchFault};
+use hprof_runs::{Scratch, ScratchFault};
 use hprof_stored::{StoredFault, read_stored};
-use hprof_stream::{Limits, PartFault};
-use hprof_values::Reason;
+use hprof_stream::Limits;
 use std::alloc::{AllocError, Global};
 use std::test::*;
 
@@ -33,18 +31,6 @@ pub(crate) const UNORDERED: &[u8; 120] = b"JAVA PROFILE 1.0.2\0\0\0\0\x04\0\0\0\
     \x23\0\0\0\x09\0\0\0\x01\0\0\0\x02\x08\x05\x06\
     \x23\0\0\0\x08\0\0\0\x01\0\0\0\x02\x08\x07\x08\
     \x23\0\0\0\x07\0\0\0\x01\0\0\0\x02\x08\x09\x0a";
-
-/// The byte array 8 of `UNORDERED` with other bytes.
-pub(crate) const OTHER_OBJECT: &[u8; 56] = b"JAVA PROFILE 1.0.2\0\0\0\0\x04\0\0\0\0\0\0\0\x01\
-    \x1c\0\0\0\0\0\0\0\x10\
-    \x23\0\0\0\x08\0\0\0\x01\0\0\0\x02\x08\x07\x09";
-
-/// The name 2 as another text.
-const OTHER: &[u8; 45] = b"JAVA PROFILE 1.0.2\0\0\0\0\x04\0\0\0\0\0\0\0\x03\
-    \x01\0\0\0\0\0\0\0\x05\0\0\0\x02C";
-
-/// The header of a part with identifiers of eight bytes.
-const WIDE: &[u8; 31] = b"JAVA PROFILE 1.0.2\0\0\0\0\x08\0\0\0\0\0\0\0\x01";
 
 /// A scratch that takes nothing.
 #[derive(Drop)]
@@ -126,18 +112,6 @@ fn read_with<S: Scratch + Drop>(
     Ok(answer.map(|it| (it.heap.count(), kept.len(), it.heap.millis())))
 }
 
-/// Reads the parts with scratch in memory.
-fn read(alloc: Global, parts: &[&[u8]]) -> Result<Outcome, AllocError> {
-    read_with(alloc, parts, MemoryScratch::new(alloc))
-}
-
-#[test]
-fn objects_stand_apart(rt: HostRuntime) -> Result<(), Fail> {
-    let outcome = read(rt.alloc(), &[ORDERED, UNORDERED])?;
-    assert!(rt; outcome == Ok((3, 2, 1)));
-    Ok(())
-}
-
 #[test]
 fn objects_in_order_stay(rt: HostRuntime) -> Result<(), Fail> {
     let broken = Broken {
@@ -150,23 +124,5 @@ fn objects_in_order_stay(rt: HostRuntime) -> Result<(), Fail> {
     };
     let outcome = read_with(rt.alloc(), &[ORDERED, UNORDERED], broken)?;
     assert!(rt; outcome == Err(StoredFault::Scratch(ScratchFault::Write(WriteFault::Failed))));
-    Ok(())
-}
-
-#[test]
-fn refusals(rt: HostRuntime) -> Result<(), Fail> {
-    let outcome = read(rt.alloc(), &[])?;
-    assert!(rt; outcome == Err(StoredFault::NoParts));
-    let outcome = read(rt.alloc(), &[ORDERED, WIDE])?;
-    assert!(rt; outcome == Err(StoredFault::IdSizes));
-    let outcome = read(rt.alloc(), &[ORDERED, OTHER])?;
-    assert!(rt; outcome == Err(StoredFault::Conflict(Key::Name(2))));
-    let (cut, _) = ORDERED.split_at(60);
-    let fault = PartFault::Malformed {
-        at: 54,
-        reason: Reason::Truncated,
-    };
-    let outcome = read(rt.alloc(), &[UNORDERED, cut])?;
-    assert!(rt; outcome == Err(StoredFault::Part { index: 1, fault }));
     Ok(())
 }

@@ -1,0 +1,63 @@
+use Rattle.std.proofs.Common.{List, sym, subst, ◌∙◌}
+use Rattle.hprof_stream.specs.declared.summary.PartSummary.{PartSummary}
+use Rattle.hprof_heap.specs.Heap.{heap_of}
+use Rattle.hprof_heap.specs.HeapFacts.{facts_of, size_of}
+use Rattle.hprof_reports.specs.Check.{IsCheck}
+use Rattle.hprof_reports.specs.ClassesText.{IsClassesText}
+use Rattle.hprof_reports.specs.HistogramText.{IsHistogramText}
+use Rattle.hprof_reports.specs.ObjectsText.{IsObjectsText}
+use Rattle.hprof_ask.specs.Summarised.{Holds}
+use Rattle.hprof_ask.specs.Report.{IsReportText, RefusesReport}
+use Rattle.hprof_making.specs.Over.{heap_with}
+use Rattle.hprof_making.proofs.Passed.{ends_over}
+use Rattle.hprof_large.specs.declared.passed_report.PassedReport.{PassedReport}
+use Rattle.hprof_large.specs.PassedReport.{report_of}
+use Rattle.hprof_large.proofs.passed_report.PassedReportPassProduct.write_over.Goals as goal
+
+pub returns-in-Check : goal.returns-in-Check
+unfolding facts_of size_of
+returns-in-Check g c = λ summaries holds.
+    let ids = size_of c.args.heap.now in
+    let facts = facts_of c.args.heap.now in
+    let objects = c.args.objects.now in
+    let report = report_of c.args.self.now in
+    ends_over (g.O.Objects.make_up objects ids facts) (g.O.Objects.agree objects ids facts) (g.O.Objects.tells objects ids facts)
+    (IsCheck c.deref.result.now) (λ all. IsReportText report summaries (heap_with (heap_of c.args.heap.now) all)) g.W.Target.written g.W.Target.health
+    c.args.target.now c.write_check.new.target (λ all text make is. subst (λ (p : PassedReport). IsReportText (report_of p) summaries (heap_with (heap_of c.args.heap.now) all) text) (sym c.in-Check.is) (subst (λ (l : List PartSummary). IsCheck l all text) (c.deref.ensures.value ∙ subst (λ (p : PassedReport). Holds (report_of p) c.args.kept.now summaries) c.in-Check.is holds) is))
+    (λ refusal all. RefusesReport all report refusal) c.write_check.result c.write_check.ensures
+
+pub returns-in-Histogram : goal.returns-in-Histogram
+unfolding facts_of size_of
+returns-in-Histogram g c = λ summaries holds.
+    let ids = size_of c.args.heap.now in
+    let facts = facts_of c.args.heap.now in
+    let objects = c.args.objects.now in
+    let report = report_of c.args.self.now in
+    ends_over (g.O.Objects.make_up objects ids facts) (g.O.Objects.agree objects ids facts) (g.O.Objects.tells objects ids facts)
+    (IsHistogramText ids) (λ all. IsReportText report summaries (heap_with (heap_of c.args.heap.now) all)) g.W.Target.written g.W.Target.health
+    c.args.target.now c.write_histogram_over.new.target (λ all text make is. subst (λ (p : PassedReport). IsReportText (report_of p) summaries (heap_with (heap_of c.args.heap.now) all) text) (sym c.in-Histogram.is) is)
+    (λ refusal all. RefusesReport all report refusal) c.write_histogram_over.result c.write_histogram_over.ensures
+
+pub returns-in-Classes : goal.returns-in-Classes
+unfolding facts_of size_of
+returns-in-Classes g c = λ summaries holds.
+    let ids = size_of c.args.heap.now in
+    let facts = facts_of c.args.heap.now in
+    let objects = c.args.objects.now in
+    let report = report_of c.args.self.now in
+    ends_over (g.O.Objects.make_up objects ids facts) (g.O.Objects.agree objects ids facts) (g.O.Objects.tells objects ids facts)
+    (IsClassesText ids) (λ all. IsReportText report summaries (heap_with (heap_of c.args.heap.now) all)) g.W.Target.written g.W.Target.health
+    c.args.target.now c.write_classes_over.new.target (λ all text make is. subst (λ (p : PassedReport). IsReportText (report_of p) summaries (heap_with (heap_of c.args.heap.now) all) text) (sym c.in-Classes.is) is)
+    (λ refusal all. RefusesReport all report refusal) c.write_classes_over.result c.write_classes_over.ensures
+
+pub returns-in-Objects : goal.returns-in-Objects
+unfolding facts_of size_of
+returns-in-Objects g c = λ summaries holds.
+    let ids = size_of c.args.heap.now in
+    let facts = facts_of c.args.heap.now in
+    let objects = c.args.objects.now in
+    let report = report_of c.args.self.now in
+    ends_over (g.O.Objects.make_up objects ids facts) (g.O.Objects.agree objects ids facts) (g.O.Objects.tells objects ids facts)
+    (λ all. IsObjectsText ids all c.in-Objects.kind) (λ all. IsReportText report summaries (heap_with (heap_of c.args.heap.now) all)) g.W.Target.written g.W.Target.health
+    c.args.target.now c.write_objects_over.new.target (λ all text make is. subst (λ (p : PassedReport). IsReportText (report_of p) summaries (heap_with (heap_of c.args.heap.now) all) text) (sym c.in-Objects.is) is)
+    (λ refusal all. RefusesReport all report refusal) c.write_objects_over.result c.write_objects_over.ensures

@@ -1,0 +1,112 @@
+//! Reports that are made of passes over objects.
+
+ghost use Rattle.std.specs.Prelude.{◌≡◌, ℕ, List};
+
+use crate::checked::write_check;
+use hprof_ask::{HeapReport, KindReport, Kinds, Report};
+use hprof_devices::Target;
+use hprof_engine::{Summaries, WriteStop};
+use hprof_heap::Heap;
+use hprof_histogram::Kind;
+use hprof_making::PassProduct;
+use hprof_passes::{Objects, PassStop};
+use hprof_reports::{write_classes_over, write_histogram_over, write_objects_over};
+use hprof_stream::PartSummary;
+use std::alloc::{AllocError, Global};
+
+/// A report that needs every object, and goes through all of them, wherever they are.
+#[derive(Clone, Copy, Debug, PartialEq, Eq)]
+pub enum PassedReport {
+    /// `check`: a summary of each part, and the numbers of facts.
+    Check,
+    /// `histo`: the class histogram.
+    Histogram,
+    /// `classes`: each class dump, with the objects of the class.
+    Classes,
+    /// `objects`: the objects of a class or a type, the largest first.
+    Objects(Kind),
+}
+
+impl PassedReport {
+    ghost use Rattle.std.specs.Prelude.{MatchOption, ◌≢◌};
+    ghost use Rattle.hprof_large.specs.PassedReport.{report_of};
+    ghost use Rattle.hprof_large.specs.declared.passed_report.PassedReport.{PassedReport};
+
+    /// Returns the report as one that is made of passes, or `None` if it is not.
+    pub fn of(report: Report<'_>) -> Option<PassedReport>
+        ensures { MatchOption result ((passed : PassedReport) → report_of passed ≢ report.entry) (λ passed. report_of passed ≡ report.entry) }
+    {
+        match report {
+            Report::Heap(HeapReport::Check) => Some(PassedReport::Check),
+            Report::Heap(HeapReport::Histogram) => Some(PassedReport::Histogram),
+            Report::Heap(HeapReport::Classes) => Some(PassedReport::Classes),
+            Report::Kind(KindReport::Objects, Kinds::Of(kind)) => Some(PassedReport::Objects(kind)),
+            Report::Heap(HeapReport::Threads | HeapReport::Suspects | HeapReport::Retained)
+            | Report::Kind(KindReport::Objects, Kinds::Named(_))
+            | Report::Kind(KindReport::Biggest, _)
+            | Report::Node(_, _) => None,
+        }
+    }
+
+    /// Returns the report.
+    pub fn report(self) -> Report<'static>
+        ensures { result ≡ report_of self }
+    {
+        match self {
+            PassedReport::Check => Report::Heap(HeapReport::Check),
+            PassedReport::Histogram => Report::Heap(HeapReport::Histogram),
+            PassedReport::Classes => Report::Heap(HeapReport::Classes),
+            PassedReport::Objects(kind) => Report::Kind(KindReport::Objects, Kinds::Of(kind)),
+        }
+    }
+}
+
+/// It wants the summaries that the report wants.
+impl Summaries for PassedReport {
+    ghost use Rattle.hprof_ask.specs.Report.{TakesRoom};
+    ghost use Rattle.hprof_ask.specs.Summarised.{HasRoom, Holds, no_room_for_none};
+    ghost use Rattle.hprof_large.specs.PassedReport.{report_of};
+
+    ghost has_room = { λ passed. HasRoom (report_of passed) };
+
+    ghost holds = { λ passed. Holds (report_of passed) };
+
+    ghost takes_room = { λ passed. TakesRoom (report_of passed) };
+
+    type Kept = Vec<PartSummary>;
+
+    fn with_room(&self, alloc: Global, parts: usize) -> Result<Vec<PartSummary>, AllocError> {
+        self.report().with_room(alloc, parts)
+    }
+
+    fn keep(&self, kept: &mut Vec<PartSummary>, summary: PartSummary) {
+        self.report().keep(kept, summary);
+    }
+
+    ghost no_room = { λ passed. no_room_for_none (report_of passed) };
+}
+
+impl PassProduct for PassedReport {
+    ghost use Rattle.hprof_ask.specs.Report.{IsReportText, RefusesReport};
+    ghost use Rattle.hprof_large.specs.PassedReport.{report_of};
+
+    ghost is_text = { λ passed. IsReportText (report_of passed) };
+
+    ghost refuses = { λ passed refusal heap. RefusesReport heap.facts (report_of passed) refusal };
+
+    fn write_over<O: Objects, W: Target>(
+        &self,
+        alloc: Global,
+        kept: &Vec<PartSummary>,
+        heap: &Heap,
+        objects: &O,
+        target: &mut W,
+    ) -> Result<(), PassStop<WriteStop, O::Fault>> {
+        match *self {
+            PassedReport::Check => write_check(alloc, kept, heap, objects, target),
+            PassedReport::Histogram => write_histogram_over(alloc, heap, objects, target),
+            PassedReport::Classes => write_classes_over(alloc, heap, objects, target),
+            PassedReport::Objects(kind) => write_objects_over(alloc, heap, objects, kind, target),
+        }
+    }
+}

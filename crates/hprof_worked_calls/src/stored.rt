@@ -1,0 +1,172 @@
+//! The same of parts whose objects stay in the parts, or go to scratch.
+
+ghost use Rattle.std.specs.Prelude.{◌≡◌, All};
+ghost use Rattle.hprof_devices.specs.declared.health.Health.TheVariants.{Well};
+ghost use Rattle.hprof_devices.specs.Device.{health_of};
+
+use crate::engine::{Call, Ways, outcome_of, plain, readers_of, target_of, text_of_fault};
+use crate::outcome::Outcome;
+use crate::streams::{Reader, Writer};
+use crate::trouble::Trouble;
+use hprof_devices::Device;
+use hprof_engine::ToolFault;
+use hprof_heap::Key;
+use hprof_large::PassedReport;
+use hprof_making::{MakeStop, make_stored};
+use hprof_objects::{Keeping, ObjectStop};
+use hprof_parts::Slices;
+use hprof_runs::MemoryScratch;
+use hprof_segments::SegmentFault;
+use hprof_stored::{JoinStop, PassFault, StoredFault, join_stored};
+use hprof_stream::Limits;
+use std::alloc::{AllocError, Global};
+
+/// How objects are kept: each alone in scratch; any two that ascend in their part, and others a few at a time in scratch; all in memory.
+const KEEPINGS: [Keeping; 3] = [
+    Keeping {
+        memory: 0,
+        stretch: u64::MAX,
+        stretches: 0,
+    },
+    Keeping {
+        memory: 100,
+        stretch: 1,
+        stretches: 64,
+    },
+    Keeping {
+        memory: u64::MAX,
+        stretch: u64::MAX,
+        stretches: 0,
+    },
+];
+
+/// Returns the fault of parts that are in memory, if it is one of these.
+fn fault_of_reading(fault: StoredFault) -> Option<ToolFault> {
+    match fault {
+        StoredFault::Part { index, fault } => Some(ToolFault::Part { index, fault }),
+        StoredFault::NoParts => Some(ToolFault::NoParts),
+        StoredFault::IdSizes => Some(ToolFault::IdSizes),
+        StoredFault::Conflict(key) => Some(ToolFault::Conflict(key)),
+        StoredFault::Scratch(_) => None,
+    }
+}
+
+/// Returns the fault of a report on parts that are in memory, if it is one of these.
+fn fault_of_making(stop: MakeStop) -> Option<ToolFault> {
+    match stop {
+        MakeStop::OutOfMemory | MakeStop::Objects(PassFault::OutOfMemory) => {
+            Some(ToolFault::OutOfMemory)
+        }
+        MakeStop::Reading(fault) => fault_of_reading(fault),
+        MakeStop::Objects(PassFault::TwoContents(id)) => Some(ToolFault::Conflict(Key::Object(id))),
+        MakeStop::Objects(_) => None,
+        MakeStop::Writing(stop) => Some(ToolFault::from(stop)),
+    }
+}
+
+/// Returns the fault of joining parts that are in memory, if it is one of these.
+fn fault_of_joining(stop: JoinStop) -> Option<ToolFault> {
+    match stop {
+        JoinStop::OutOfMemory => Some(ToolFault::OutOfMemory),
+        JoinStop::Reading(fault) => fault_of_reading(fault),
+        JoinStop::Objects(ObjectStop::TwoContents(id)) => {
+            Some(ToolFault::Conflict(Key::Object(id)))
+        }
+        JoinStop::Writing(ObjectStop::Sink(SegmentFault::Write(fault))) => {
+            Some(ToolFault::Write(fault))
+        }
+        JoinStop::Objects(_) | JoinStop::Writing(_) => None,
+    }
+}
+
+/// Returns the text of an answer, where `done` is that of a call that was done.
+fn text_of(
+    alloc: Global,
+    done: &str,
+    answer: Result<(), Option<ToolFault>>,
+) -> Result<String, AllocError> {
+    match answer {
+        Ok(()) => String::from_str(alloc, done),
+        Err(Some(fault)) => text_of_fault(alloc, fault),
+        Err(None) => String::from_str(alloc, "stored objects are lost"),
+    }
+}
+
+/// Makes the call of parts whose objects are kept so, and returns its answer, if it can be made so.
+fn answer_stored(
+    alloc: Global,
+    call: Call<'_>,
+    parts: &[&[u8]],
+    readers: &mut [Device<Reader<'_>>],
+    target: &mut Device<Writer>,
+    limits: Limits,
+    keeping: Keeping,
+) -> Option<Result<(), Option<ToolFault>>>
+    requires readers { All (λ reader. health_of reader ≡ Well) readers.old }
+    requires writer { health_of target.old ≡ Well }
+{
+    let again = Slices::new(parts);
+    let scratch = MemoryScratch::new(alloc);
+    match call {
+        Call::Join => Some(join_stored(
+            alloc, readers, &again, limits, keeping, scratch, target,
+        ).map_err(fault_of_joining)),
+        Call::Report(report) => {
+            let report = PassedReport::of(report)?;
+            Some(make_stored(
+                alloc, &report, readers, &again, limits, keeping, scratch, target,
+            )
+            .map_err(fault_of_making))
+        }
+        _ => None,
+    }
+}
+
+/// Makes the call of parts whose objects are kept so, and returns its result, if it can be made so. `done` is the answer of a call that was
+/// done.
+fn made_stored(
+    alloc: Global,
+    call: Call<'_>,
+    parts: &[&[u8]],
+    ways: Ways,
+    keeping: Keeping,
+    done: &str,
+) -> Result<Option<Outcome>, AllocError> {
+    let mut readers = readers_of(alloc, parts, ways.feed)?;
+    let mut target = target_of(alloc, ways.room);
+    let Some(answer) = answer_stored(
+        alloc,
+        call,
+        parts,
+        &mut readers,
+        &mut target,
+        ways.limits,
+        keeping,
+    ) else {
+        return Ok(None);
+    };
+    let text = text_of(alloc, done, answer)?;
+    let found = outcome_of(plain(alloc, text), readers, target.into_inner());
+    Ok(Some(found))
+}
+
+/// Makes the same call of parts whose objects are stored in several ways, if it can be made so, and checks that its result is the same.
+pub fn check_stored(
+    alloc: Global,
+    call: Call<'_>,
+    parts: &[&[u8]],
+    ways: Ways,
+    whole: &Outcome,
+) -> Result<(), Trouble> {
+    // Of that the lines of the case tell.
+    if whole.is_out_of_memory() {
+        return Ok(());
+    }
+    let done = whole.answer_text();
+    for keeping in &KEEPINGS {
+        if let Some(found) = made_stored(alloc, call, parts, ways, *keeping, done)? {
+            whole.check_same(alloc, &found)?;
+        }
+    }
+    Ok(())
+}
