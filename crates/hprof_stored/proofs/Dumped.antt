@@ -43,12 +43,12 @@ no_record_fact : (ids : IdSize) (fact : FactValue) (row : ByteRow) → object_ro
 no_record_fact ids fact row is = ap is_some (row_of ids fact row is).no_record
 
 -- objects are sub-records, and their bytes are those of the rows
-record AreSubs (ids : IdSize) (rows : List ByteRow) (objects : List FactValue) : Type 0 where
+pub record AreSubs (ids : IdSize) (rows : List ByteRow) (objects : List FactValue) : Type 0 where
   pub none : filter is_record_fact objects ≡ []
   pub all : sub_facts objects ≡ objects
   pub bytes : map (dump_bytes ids) objects ≡ bytes_of rows
 
-are_subs : (ids : IdSize) (rows : List ByteRow) (objects : List FactValue) → AreObjects ids rows objects → AreSubs ids rows objects
+pub are_subs : (ids : IdSize) (rows : List ByteRow) (objects : List FactValue) → AreObjects ids rows objects → AreSubs ids rows objects
 are_subs ids [] [] are = record { none = refl; all = refl; bytes = refl }
 are_subs ids [] (fact ∷ objects) are = absurd are
 are_subs ids (row ∷ rows) [] are = absurd are

@@ -4,11 +4,11 @@ mod Ended
 mod Fresh
 mod Read
 mod Answered
-mod Unchanged
-mod Subs
-mod Dumped
+pub mod Unchanged
+pub mod Subs
+pub mod Dumped
 mod Found
-mod Joined
+pub mod Joined
 mod ObjectSpelling
 mod ObjectTable
 mod Passed
