@@ -1,17 +1,15 @@
 -- The bytes of rows that are counted.
 use Rattle.std.proofs.Common.{◌≡◌, ℕ, ◌+◌, List, [], ◌∷◌, ◌++◌, length, Result, Ok, Err, sym, ap, ◌∙◌, arith}
-use Rattle.std.specs.Prelude.{IfErr, OnOk}
 use Rattle.std.specs.List.{flat_map}
 use Rattle.std.proofs.lemmas.List.{length-append}
 use Rattle.hprof_merge.specs.Rows.{ByteRow}
+use Rattle.hprof_merge.specs.Merging.{TakesAll}
 use Rattle.hprof_merge.specs.Run.{Runs}
 use Rattle.hprof_merge.specs.Union.{IsUnion}
 use Rattle.hprof_segments.specs.declared.segment_fault.SegmentFault.{SegmentFault}
 use Rattle.hprof_objects.specs.declared.object_stop.ObjectStop.{ObjectStop}
 use Rattle.hprof_objects.specs.declared.object_stop.ObjectStop.TheVariants as stops
 use Rattle.hprof_objects.specs.MergedObjects.{MergesLists}
-use Rattle.hprof_objects.specs.PartsRead.{PartRead}
-use Rattle.hprof_objects.specs.StoredObjects.{objects_of}
 use Rattle.hprof_stored.specs.Dumping.{FindsLeast}
 use Rattle.hprof_stored101.specs.declared.byte_counter.ByteCounter.{ByteCounter}
 use Rattle.hprof_stored101.specs.ByteCounter.{Counts, capped}
@@ -31,7 +29,7 @@ run_counted from old (row ∷ rows) new is run =
     rest ∙ ap capped (omega (arith, bytes))
 
 -- why a merge stops, whose sink refuses no row
-finds : (lists : List (List ByteRow)) (stop : ObjectStop SegmentFault) (old new : ByteCounter)
+pub finds : (lists : List (List ByteRow)) (stop : ObjectStop SegmentFault) (old new : ByteCounter)
     → MergesLists Counts {A = Unit {0}} {G = SegmentFault} (λ old key bytes fault new. ⊥) lists (Err stop) old new → FindsLeast lists stop
 finds lists stops.OutOfMemory old new merged = tt
 finds lists (stops.TwoContents key) old new merged = merged.0
@@ -39,14 +37,7 @@ finds lists (stops.Scratch fault) old new merged = tt
 finds lists (stops.Part part fault) old new merged = tt
 finds lists (stops.Sink fault) old new merged = merged.1.refused
 
-module _ (Told : List PartRead → Type 0) (old new : ByteCounter) where
-  pub all_counted : (from : ℕ) → old.count ≡ capped from → (reads : List PartRead)
-      → MergesLists Counts {G = SegmentFault} (λ old key bytes fault new. ⊥) (objects_of reads) (Ok tt) old new
-      → (rows : List ByteRow) × IsUnion (objects_of reads) rows × (new.count ≡ capped (from + length (rows_bytes rows)))
-  all_counted from is reads merged = (merged.all, merged.union, run_counted from old merged.all new is merged.run)
-
-  pub least_found : (r : Result (Unit {0}) (ObjectStop SegmentFault)) → ((reads : List PartRead) → Told reads
-      → MergesLists Counts {G = SegmentFault} (λ old key bytes fault new. ⊥) (objects_of reads) r old new)
-      → IfErr r (λ stop. (reads : List PartRead) → Told reads → FindsLeast (objects_of reads) stop)
-  least_found (Ok done) merged = tt
-  least_found (Err stop) merged = λ reads told. finds (objects_of reads) stop old new (merged reads told)
+-- all rows of lists are counted
+pub all_counted : (from : ℕ) (lists : List (List ByteRow)) (old new : ByteCounter) → old.count ≡ capped from → TakesAll Counts lists old new
+    → (rows : List ByteRow) × IsUnion lists rows × (new.count ≡ capped (from + length (rows_bytes rows)))
+all_counted from lists old new is taken = (taken.all, taken.union, run_counted from old taken.all new is taken.run)

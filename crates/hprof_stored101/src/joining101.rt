@@ -23,8 +23,8 @@ use hprof_stored::{StoredHeap, read_stored};
 use hprof_stream::Limits;
 use std::alloc::Global;
 
-/// Reads all parts, and writes the 1.0.1 dump of their facts. Objects stay in the parts or go to scratch, as `keeping` says, and are read
-/// twice again, to be counted and to be written: `parts` opens the same parts as the readers.
+/// Reads all parts, and writes the 1.0.1 dump of their facts. Objects stay in the parts or go to scratch, as `keeping` says. They are read
+/// two more times, to add up their bytes and to write them: `parts` opens the same parts as the readers.
 ///
 /// # Errors
 ///

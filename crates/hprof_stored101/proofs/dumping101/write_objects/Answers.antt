@@ -11,7 +11,7 @@ returns-clause-bytes g c = λ reads rows told union.
     let m = c.merge in
     let writer = c.new-writer.result in
     let same = same_lists g.W.Target.written g.W.Target.health m.ensures.rows.0 m.result writer m.new.sink m.ensures.rows.1 in
-    written_into g.W.Target.written g.W.Target.health m.new.sink c.target-1.given.0 (search rules) m.result
+    written_into g.W.Target.written g.W.Target.health m.new.sink _ (search rules) m.result
     (g.W.Target.written c.args.target.now) (rows_bytes rows)
     (subst (λ (t : g.row.W.Denot). WritesOrStops (g.W.Target.written t) (g.W.Target.written m.new.sink.target.now) m.result (rows_bytes rows))
     c.new-writer.ensures.target
@@ -23,7 +23,7 @@ returns-clause-health g c =
     let m = c.merge in
     let writer = c.new-writer.result in
     let same = same_lists g.W.Target.written g.W.Target.health m.ensures.rows.0 m.result writer m.new.sink m.ensures.rows.1 in
-    left_in g.W.Target.written g.W.Target.health m.new.sink c.target-1.given.0 (search rules) m.result
+    left_in g.W.Target.written g.W.Target.health m.new.sink _ (search rules) m.result
     (target_left g.W.Target.written g.W.Target.health m.ensures.rows.0 m.result writer m.new.sink m.ensures.rows.1 m.ensures.well)
 
 pub returns-clause-stops : goal.returns-clause-stops
