@@ -12,7 +12,7 @@ use Rattle.hprof_objects.specs.declared.object_stop.ObjectStop.TheVariants as st
 use Rattle.hprof_objects.specs.MergedObjects.{MergesLists}
 use Rattle.hprof_stored.specs.Dumping.{FindsLeast}
 use Rattle.hprof_stored101.specs.declared.byte_counter.ByteCounter.{ByteCounter}
-use Rattle.hprof_stored101.specs.ByteCounter.{Counts, capped}
+use Rattle.hprof_stored101.specs.ByteCounter.{Counts, IsUnrefused, capped}
 use Rattle.hprof_stored101.specs.Dumping101.{rows_bytes}
 use Rattle.hprof_stored101.proofs.Pieces.{capped_more}
 
@@ -36,6 +36,14 @@ finds lists (stops.TwoContents key) old new merged = merged.0
 finds lists (stops.Scratch fault) old new merged = tt
 finds lists (stops.Part part fault) old new merged = tt
 finds lists (stops.Sink fault) old new merged = merged.1.refused
+
+pub unrefused : (lists : List (List ByteRow)) (stop : ObjectStop SegmentFault) (old new : ByteCounter)
+    → MergesLists Counts {A = Unit {0}} {G = SegmentFault} (λ old key bytes fault new. ⊥) lists (Err stop) old new → IsUnrefused stop
+unrefused lists stops.OutOfMemory old new merged = tt
+unrefused lists (stops.TwoContents key) old new merged = tt
+unrefused lists (stops.Scratch fault) old new merged = tt
+unrefused lists (stops.Part part fault) old new merged = tt
+unrefused lists (stops.Sink fault) old new merged = merged.1.refused
 
 -- all rows of lists are counted
 pub all_counted : (from : ℕ) (lists : List (List ByteRow)) (old new : ByteCounter) → old.count ≡ capped from → TakesAll Counts lists old new

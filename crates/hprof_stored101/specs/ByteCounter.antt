@@ -1,5 +1,8 @@
 -- Counting the bytes of rows.
-use Rattle.std.specs.Prelude.{◌≡◌, ◌+◌, ◌-◌, ◌^◌, ℕ, List, length, min}
+use Rattle.std.specs.Prelude.{◌≡◌, ◌+◌, ◌-◌, ◌^◌, ℕ, List, length, min, ⊤}
+use Rattle.hprof_segments.specs.declared.segment_fault.SegmentFault.{SegmentFault}
+use Rattle.hprof_objects.specs.declared.object_stop.ObjectStop.{ObjectStop}
+use Rattle.hprof_objects.specs.declared.object_stop.ObjectStop.TheVariants as stops
 use Rattle.hprof_stored101.specs.declared.byte_counter.ByteCounter.{ByteCounter}
 
 -- a number, or 2^64 - 1 if it is greater
@@ -9,3 +12,8 @@ capped number = min number (2 ^ 64 - 1)
 -- the bytes of a row were counted
 abbrev pub Counts : ByteCounter → ℕ → List ℕ → ByteCounter → Type 0
 Counts old key bytes new = new.count ≡ capped (old.count + length bytes)
+
+-- it is not that a row was refused
+abbrev pub IsUnrefused : ObjectStop SegmentFault → Type 0
+IsUnrefused (stops.Sink fault) = ⊥
+IsUnrefused stop = ⊤

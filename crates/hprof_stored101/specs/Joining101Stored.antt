@@ -13,6 +13,7 @@ use Rattle.hprof_stored.specs.JoiningStored.{IsFound, IsHinderedStop, IsTwoConte
 use Rattle.hprof_stored.specs.Reading.{IsHinderedStored, IsOkOrConflictStored}
 use Rattle.hprof_stored101.specs.declared.join101_stop.Join101Stop.{Join101Stop}
 use Rattle.hprof_stored101.specs.declared.join101_stop.Join101Stop.TheVariants as joins
+use Rattle.hprof_stored101.specs.ByteCounter.{IsUnrefused}
 use Rattle.hprof_stored101.specs.Dumping101.{LeavesTarget101}
 
 -- the parts agree, and these bytes are the 1.0.1 dump of the heap that they state, which is not too long
@@ -35,11 +36,11 @@ EndsJoin101 parts before after (Err (joins.Objects stop)) = IsFound parts stop
 EndsJoin101 parts before after (Err joins.TooLong) = AreTooLong parts
 EndsJoin101 parts before after (Err (joins.Writing stop)) = WritesFront IsDump101 parts before after
 
--- what becomes of the target: it is unchanged where nothing was to be written yet
+-- what becomes of the target: it is unchanged where nothing was to be written yet; no object is refused as it is counted
 abbrev pub LeavesJoined101 : {W : Type 0} → (W → Health) → (before after : W) → Result (Unit {0}) Join101Stop → Type 0
 LeavesJoined101 health before after (Ok done) = health after ≡ Well
 LeavesJoined101 health before after (Err (joins.Reading fault)) = after ≡ before
-LeavesJoined101 health before after (Err (joins.Objects stop)) = after ≡ before
+LeavesJoined101 health before after (Err (joins.Objects stop)) = IsUnrefused stop × (after ≡ before)
 LeavesJoined101 health before after (Err joins.TooLong) = after ≡ before
 LeavesJoined101 health before after (Err (joins.Writing stop)) = LeavesTarget101 {A = Unit {0}} (Err stop) (health after)
 

@@ -7,7 +7,7 @@ ghost use Rattle.hprof_merge.specs.Union.{IsUnion};
 ghost use Rattle.hprof_objects.specs.PartsRead.{PartRead};
 ghost use Rattle.hprof_objects.specs.StoredObjects.{AreToldAgain, objects_of};
 ghost use Rattle.hprof_stored.specs.Dumping.{FindsLeast};
-ghost use Rattle.hprof_stored101.specs.ByteCounter.{capped};
+ghost use Rattle.hprof_stored101.specs.ByteCounter.{IsUnrefused, capped};
 ghost use Rattle.hprof_stored101.specs.Dumping101.{body_with, own_bytes};
 
 use crate::byte_counter::ByteCounter;
@@ -51,6 +51,7 @@ pub(crate) fn body_len<S: Scratch + Drop, R: Source + Drop, P: Parts<Reader = R>
         → (rows : List ByteRow) × IsUnion (objects_of reads) rows × (len ≡ capped (length (body_with (heap_of heap.now) rows)))) }
     ensures least { IfErr result (λ stop. (reads : List PartRead)
         → AreToldAgain S.written S.health limits (P.bytes parts.now) reads objects.now → FindsLeast (objects_of reads) stop) }
+    ensures unrefused { IfErr result IsUnrefused }
 {
     let mut counter = ByteCounter {
         count: own_len(heap),

@@ -4,7 +4,7 @@ use Rattle.hprof_heap.specs.Heap.{heap_of}
 use Rattle.hprof_objects.specs.StoredObjects.{objects_of}
 use Rattle.hprof_stored101.specs.ByteCounter.{capped}
 use Rattle.hprof_stored101.specs.Dumping101.{own_bytes, rows_bytes}
-use Rattle.hprof_stored101.proofs.Counted.{all_counted, finds}
+use Rattle.hprof_stored101.proofs.Counted.{all_counted, finds, unrefused}
 use Rattle.hprof_stored101.proofs.body_len.body_len.Goals as goal
 
 pub returns-in-Ok-clause-len : goal.returns-in-Ok-clause-len
@@ -15,3 +15,6 @@ returns-in-Ok-clause-len g c = λ reads told.
 
 pub returns-in-Err-clause-least : goal.returns-in-Err-clause-least
 returns-in-Err-clause-least g c = λ reads told. finds (objects_of reads) c.in-Err.stop _ _ (c.in-Err.ensures.objects reads told)
+
+pub returns-in-Err-clause-unrefused : goal.returns-in-Err-clause-unrefused
+returns-in-Err-clause-unrefused g c = unrefused c.in-Err.ensures.rows.0 c.in-Err.stop _ _ c.in-Err.ensures.rows.1
