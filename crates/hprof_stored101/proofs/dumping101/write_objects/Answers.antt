@@ -1,4 +1,4 @@
-use Rattle.std.proofs.Common.{rules, ℕ, List, Option, sym, subst}
+use Rattle.std.proofs.Common.{rules, List, subst}
 use Rattle.hprof_objects.specs.PartsRead.{PartRead}
 use Rattle.hprof_objects.specs.StoredObjects.{AreToldAgain, objects_of}
 use Rattle.hprof_stored.specs.Dumping.{WritesOrStops}

@@ -1,6 +1,5 @@
-use Rattle.std.proofs.Common.{◌≡◌, ◌≤◌, ◌<◌, length, subst, arith}
+use Rattle.std.proofs.Common.{◌≡◌, ◌≤◌, Err, length, arith}
 use Rattle.hprof_items.specs.Spelling.{longest_body}
-use Rattle.hprof_engine.specs.Joining.{AreReadOut}
 use Rattle.hprof_heap.specs.Heap.{heap_of}
 use Rattle.hprof_stored.specs.Parts.{all_read}
 use Rattle.hprof_stored.proofs.Joined.{by_parts, found_other, is_found, told_again, written_other}
@@ -11,8 +10,8 @@ use Rattle.hprof_stored101.proofs.joining101.join101_stored.Goals as goal
 
 pub returns-in-Err-body_len-clause-joins : goal.returns-in-Err-body_len-clause-joins
 returns-in-Err-body_len-clause-joins g c = λ parts told same some.
-    let holds = c.in-Ok-read_stored.ensures.ok in
-    let heap = heap_of c.in-Ok-read_stored.stored.heap in
+    let holds = c.in-Ok.ensures.ok in
+    let heap = heap_of c.in-Ok.stored.heap in
     let objects = c.finish-objects.result in
     let old = c.args.readers.now in
     let are = by_parts g.R.Source.left c.args.limits old holds.parts holds.stored holds.given heap holds.tells parts told in
@@ -23,8 +22,8 @@ returns-in-Err-body_len-clause-joins g c = λ parts told same some.
 
 pub returns-then-len-from-clause-joins : goal.returns-then-len-from-clause-joins
 returns-then-len-from-clause-joins g c = λ parts told same some.
-    let holds = c.in-Ok-read_stored.ensures.ok in
-    let heap = heap_of c.in-Ok-read_stored.stored.heap in
+    let holds = c.in-Ok.ensures.ok in
+    let heap = heap_of c.in-Ok.stored.heap in
     let objects = c.finish-objects.result in
     let old = c.args.readers.now in
     let are = by_parts g.R.Source.left c.args.limits old holds.parts holds.stored holds.given heap holds.tells parts told in
@@ -37,8 +36,8 @@ returns-then-len-from-clause-joins g c = λ parts told same some.
 
 pub returns-in-Ok-write_stored101-clause-joins : goal.returns-in-Ok-write_stored101-clause-joins
 returns-in-Ok-write_stored101-clause-joins g c = λ parts told same some.
-    let holds = c.in-Ok-read_stored.ensures.ok in
-    let heap = heap_of c.in-Ok-read_stored.stored.heap in
+    let holds = c.in-Ok.ensures.ok in
+    let heap = heap_of c.in-Ok.stored.heap in
     let objects = c.finish-objects.result in
     let old = c.args.readers.now in
     let are = by_parts g.R.Source.left c.args.limits old holds.parts holds.stored holds.given heap holds.tells parts told in
@@ -56,8 +55,8 @@ returns-in-Ok-write_stored101-clause-joins g c = λ parts told same some.
 
 pub returns-clause-joins : goal.returns-clause-joins
 returns-clause-joins g c = λ parts told same some.
-    let holds = c.in-Ok-read_stored.ensures.ok in
-    let heap = heap_of c.in-Ok-read_stored.stored.heap in
+    let holds = c.in-Ok.ensures.ok in
+    let heap = heap_of c.in-Ok.stored.heap in
     let objects = c.finish-objects.result in
     let old = c.args.readers.now in
     let are = by_parts g.R.Source.left c.args.limits old holds.parts holds.stored holds.given heap holds.tells parts told in
@@ -83,8 +82,8 @@ returns-in-Err-clause-no_other g c = λ parts ids millis facts told state same s
 
 pub returns-in-Err-body_len-clause-no_other : goal.returns-in-Err-body_len-clause-no_other
 returns-in-Err-body_len-clause-no_other g c = λ parts ids millis facts told state same some fine well unhindered.
-    let holds = c.in-Ok-read_stored.ensures.ok in
-    let heap = heap_of c.in-Ok-read_stored.stored.heap in
+    let holds = c.in-Ok.ensures.ok in
+    let heap = heap_of c.in-Ok.stored.heap in
     let objects = c.finish-objects.result in
     let old = c.args.readers.now in
     let are = by_parts g.R.Source.left c.args.limits old holds.parts holds.stored holds.given heap holds.tells parts told in
@@ -97,8 +96,8 @@ returns-in-Err-body_len-clause-no_other g c = λ parts ids millis facts told sta
 
 pub returns-clause-no_other : goal.returns-clause-no_other
 returns-clause-no_other g c = λ parts ids millis facts told state same some fine well unhindered.
-    let holds = c.in-Ok-read_stored.ensures.ok in
-    let heap = heap_of c.in-Ok-read_stored.stored.heap in
+    let holds = c.in-Ok.ensures.ok in
+    let heap = heap_of c.in-Ok.stored.heap in
     let objects = c.finish-objects.result in
     let old = c.args.readers.now in
     let are = by_parts g.R.Source.left c.args.limits old holds.parts holds.stored holds.given heap holds.tells parts told in
@@ -119,20 +118,20 @@ returns-in-Err-clause-read_out g c =
 
 pub returns-in-Err-body_len-clause-read_out : goal.returns-in-Err-body_len-clause-read_out
 returns-in-Err-body_len-clause-read_out g c =
-    let first = c.in-Ok-read_stored.ensures.first in
+    let first = c.in-Ok.ensures.first in
     (first.count, first.so_many, first.read_out)
 
 pub returns-then-len-from-clause-read_out : goal.returns-then-len-from-clause-read_out
 returns-then-len-from-clause-read_out g c =
-    let first = c.in-Ok-read_stored.ensures.first in
+    let first = c.in-Ok.ensures.first in
     (first.count, first.so_many, first.read_out)
 
 pub returns-in-Ok-write_stored101-clause-read_out : goal.returns-in-Ok-write_stored101-clause-read_out
 returns-in-Ok-write_stored101-clause-read_out g c =
-    let first = c.in-Ok-read_stored.ensures.first in
+    let first = c.in-Ok.ensures.first in
     (first.count, first.so_many, first.read_out)
 
 pub returns-clause-read_out : goal.returns-clause-read_out
 returns-clause-read_out g c =
-    let first = c.in-Ok-read_stored.ensures.first in
+    let first = c.in-Ok.ensures.first in
     (first.count, first.so_many, first.read_out)
