@@ -1,5 +1,6 @@
 -- The 1.0.1 dump of a heap, whose objects are rows.
-use Rattle.std.proofs.Common.{◌≡◌, ℕ, zero, List, [], ◌∷◌, ◌++◌, length, Option, Result, Ok, Err, refl, sym, ap, subst, ◌∙◌, append_assoc, append-nil, arith}
+use Rattle.std.proofs.Common.{◌≡◌, ℕ, zero, List, [], ◌∷◌, ◌++◌, length, Option, Result, Ok, Err, refl, sym, ap, subst, ◌∙◌}
+use Rattle.std.proofs.Common.{append_assoc, append-nil, arith}
 use Rattle.std.specs.List.{filter, flat_map}
 use Rattle.std.specs.Io.KnownBytes.{Appends}
 use Rattle.std.proofs.KnownBytes.{Appends-trans}
@@ -53,8 +54,8 @@ front_and_rows heap rows len is =
     ∙ head_and_body (body_with heap rows)))
 
 -- the header was written, and then the rest as far as it went
-pub front_after_header : {B : Type 0} (heap : HeapValue) (len : ℕ) (header : Header) (old mid new : Option (List ℕ)) (r : Result B WriteFault)
-    → header ≡ dump_header heap.ids heap.millis → Appends old mid (header_bytes header)
+pub front_after_header : {B : Type 0} (heap : HeapValue) (len : ℕ) (header : Header) (old mid new : Option (List ℕ))
+    (r : Result B WriteFault) → header ≡ dump_header heap.ids heap.millis → Appends old mid (header_bytes header)
     → Writes mid new r (record_facts_bytes heap.ids heap.facts ++ (dump_head len ++ own_bytes heap))
     → Writes old new r (front101 heap len)
 front_after_header heap len header old mid new r is first rest =

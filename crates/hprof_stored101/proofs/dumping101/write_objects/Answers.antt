@@ -10,10 +10,11 @@ pub returns-clause-bytes : goal.returns-clause-bytes
 returns-clause-bytes g c = λ reads rows told union.
     let m = c.merge in
     let writer = c.new-writer.result in
+    let new = g.W.Target.written m.new.sink.target.now in
     let same = same_lists g.W.Target.written g.W.Target.health m.ensures.rows.0 m.result writer m.new.sink m.ensures.rows.1 in
     written_into g.W.Target.written g.W.Target.health m.new.sink _ (search rules) m.result
     (g.W.Target.written c.args.target.now) (rows_bytes rows)
-    (subst (λ (t : g.row.W.Denot). WritesOrStops (g.W.Target.written t) (g.W.Target.written m.new.sink.target.now) m.result (rows_bytes rows))
+    (subst (λ (t : g.row.W.Denot). WritesOrStops (g.W.Target.written t) new m.result (rows_bytes rows))
     c.new-writer.ensures.target
     (rows_written g.W.Target.written g.W.Target.health (objects_of reads) rows union m.result writer m.new.sink
     (m.ensures.objects reads told)))
