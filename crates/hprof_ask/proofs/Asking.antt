@@ -13,7 +13,7 @@ use Rattle.hprof_stream.specs.declared.summary.PartSummary.{PartSummary}
 use Rattle.hprof_rows.specs.HeapValue.{HeapValue}
 use Rattle.hprof_heap.specs.State.{IsState}
 use Rattle.hprof_engine.specs.declared.tool_fault.ToolFault.{ToolFault}
-use Rattle.hprof_engine.specs.Joining.{Tell, Agree, IsHindered, IsOfReading, IsOkOrConflict}
+use Rattle.hprof_engine.specs.Joining.{Tell, Agree, IsHindered, IsOfReading, IsOkOrConflict, none_known}
 use Rattle.hprof_engine.specs.Makes.{Reads}
 use Rattle.hprof_engine.specs.Summaries.{AreSummaries}
 use Rattle.hprof_ask.specs.declared.ask_fault.AskFault.{AskFault}
@@ -41,7 +41,7 @@ module _ {R Q W : Type 0} (left : R → Option (List ℕ)) (health : R → Healt
     (asking : Q → Health) (turns : Q → ℕ) (written : W → Option (List ℕ)) (well : W → Health) (limits : Limits) (old new : List R)
     (was : Q) (before : W) where
   -- the parts were refused
-  pub refuses : (fault : ToolFault) → IsOfReading (Some fault) → Reads left health pulls limits old new (Some fault)
+  pub refuses : (fault : ToolFault) → IsOfReading (Some fault) → Reads left health pulls none_known limits old new (Some fault)
       → ((parts : List (List ℕ)) (ids : IdSize) (millis : ℕ) (facts : List FactValue) → Tell left old parts
       → IsState parts ids millis facts → All (λ reader. health reader ≡ healths.Well) new → (IsHindered (Some fault) → ⊥)
       → IsOkOrConflict (Some fault))
@@ -66,7 +66,7 @@ module _ {R Q W : Type 0} (left : R → Option (List ℕ)) (health : R → Healt
   -- the parts were read, and the dialogue ended
   module _ (heap : HeapValue) (agree : (parts : List (List ℕ)) → Tell left old parts → Agree parts heap.ids heap.millis heap.facts)
       (summaries : List PartSummary) (of_parts : (parts : List (List ℕ)) → Tell left old parts → AreSummaries parts summaries)
-      (reads : Reads left health pulls limits old new None) (is : Q) (after : W) where
+      (reads : Reads left health pulls none_known limits old new None) (is : Q) (after : W) where
     pub asks : (r : Result (Unit {0}) DialogueStop)
         → EndsDialogue (IsHeapAnswer summaries heap.ids heap.facts) asked asking turns written well was is before after r
         → Asks left health pulls asked asking turns written well limits old new was is before after (fault_of_dialogue r)

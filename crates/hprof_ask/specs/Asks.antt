@@ -14,7 +14,7 @@ use Rattle.hprof_rows.specs.HeapValue.{HeapValue}
 use Rattle.hprof_heap.specs.State.{IsState}
 use Rattle.hprof_engine.specs.declared.tool_fault.ToolFault.{ToolFault}
 use Rattle.hprof_engine.specs.declared.tool_fault.ToolFault.TheVariants as tool
-use Rattle.hprof_engine.specs.Joining.{Tell, Agree, IsHindered, IsOfReading, IsOkOrConflict}
+use Rattle.hprof_engine.specs.Joining.{Tell, Agree, IsHindered, IsOfReading, IsOkOrConflict, none_known}
 use Rattle.hprof_engine.specs.Makes.{Reads}
 use Rattle.hprof_engine.specs.Summaries.{AreSummaries}
 use Rattle.hprof_ask.specs.declared.question.Question.{Question}
@@ -71,7 +71,7 @@ pub record Asks {R Q W : Type 0} (left : R → Option (List ℕ)) (health : R �
     (asking : Q → Health) (turns : Q → ℕ) (written : W → Option (List ℕ)) (well : W → Health) (limits : Limits) (old new : List R)
     (was is : Q) (before after : W) (ended : Option AskFault) : Type 0 where
   -- what is answered of the parts, which are all read before the first question is
-  pub reads : Reads left health pulls limits old new (fault_of_parts ended)
+  pub reads : Reads left health pulls none_known limits old new (fault_of_parts ended)
   -- where they are refused, nothing was read of the questions, and nothing was written
   pub refused : (fault : ToolFault) → ended ≡ Some (faults.Parts fault) → (is ≡ was) × (after ≡ before)
   -- parts are refused for a fault of reading, or no memory was left for the summaries of parts, of which there are some: nothing was read

@@ -9,7 +9,7 @@ use Rattle.hprof_heap.specs.State.{IsState}
 use Rattle.hprof_diff.specs.Counts.{Totals}
 use Rattle.hprof_engine.specs.declared.tool_fault.ToolFault.{ToolFault}
 use Rattle.hprof_engine.specs.declared.tool_fault.ToolFault.TheVariants as tool
-use Rattle.hprof_engine.specs.Joining.{AreReadOut, IsHindered, IsOfReading, IsOkOrConflict, Tell}
+use Rattle.hprof_engine.specs.Joining.{AreReadOut, IsHindered, IsOfReading, IsOkOrConflict, Tell, none_known}
 use Rattle.hprof_engine.specs.Makes.{Makes, Reads}
 use Rattle.hprof_diff.specs.declared.fault.DiffFault.{DiffFault}
 use Rattle.hprof_diff.specs.declared.fault.DiffFault.TheVariants as faults
@@ -20,7 +20,7 @@ use Rattle.hprof_diff.specs.DifferenceText.{AreTotalsOf, growth_making}
 --   old, new: the readers, before and afterwards;  ended: the fault that the call ended with, if any
 pub record Counts {R : Type 0} (left : R → Option (List ℕ)) (health : R → Health) (pulls : R → ℕ) (limits : Limits) (old new : List R)
     (ended : Option ToolFault) : Type 0 where
-  pub reads : Reads left health pulls limits old new ended
+  pub reads : Reads left health pulls none_known limits old new ended
   -- a fault of reading, or memory ran out when all were read
   pub kind : IsOfReading ended ⊎ ((ended ≡ Some tool.OutOfMemory) × AreReadOut left health pulls limits old new (length old))
   -- no other answer where the parts state something together, readers stay well, and nothing hindered it

@@ -32,7 +32,7 @@ use Rattle.hprof_engine.specs.declared.tool_fault.ToolFault.{ToolFault}
 use Rattle.hprof_engine.specs.declared.tool_fault.ToolFault.TheVariants as tool
 use Rattle.hprof_engine.specs.Summaries.{AreSummaries, AreSummarised, HoldsFirst}
 use Rattle.hprof_engine.specs.Joining.{Tell, Agree, Disagree, IsPartFault, IsOfPart, IsAccepted, RefusesPart, AreGiven}
-use Rattle.hprof_engine.specs.Joining.{RefusesReader, AreReadOut, fault_of, read_count, ReadsAll, is_want, IsHindered, IsOkOrConflict, IsOfReading}
+use Rattle.hprof_engine.specs.Joining.{RefusesReader, AreReadOut, fault_of, read_count, ReadsAll, is_want, IsHindered, IsOkOrConflict, IsOfReading, none_known}
 use Rattle.hprof_engine.specs.Makes.{Reads}
 use Rattle.hprof_engine.specs.Through.{TellsHeap}
 use Rattle.hprof_engine.proofs.PartFaults.{of_part}
@@ -105,27 +105,27 @@ never_malformed limits bytes ids millis facts at reason le part first =
     ]
 
 -- with what a part is not refused where its reader is well, no limit was met and memory was there
-unexpected : {R : Type 0} (left : R → Option (List ℕ)) (health : R → Health) (pulls : R → ℕ) (limits : Limits) (earlier : List Given)
-    (bytes came : List ℕ) (was is : R) (ids : IdSize) (millis : ℕ) (facts : List FactValue) (fault : PartFault)
+unexpected : {R : Type 0} (left : R → Option (List ℕ)) (health : R → Health) (pulls : R → ℕ) (TakesKnown : List FactValue → Type 0)
+    (limits : Limits) (earlier : List Given) (bytes came : List ℕ) (was is : R) (ids : IdSize) (millis : ℕ) (facts : List FactValue) (fault : PartFault)
     → limits.max_item ≤ longest_body → IsPart bytes ids millis facts → IsOfPart limits bytes fault
-    → IsPartFault left health pulls limits earlier was came is fault → health is ≡ healths.Well → (is_want fault ≡ true → ⊥) → ⊥
-unexpected left health pulls limits earlier bytes came was is ids millis facts (faults.Malformed at reason) le part of_part why well
+    → IsPartFault left health pulls TakesKnown limits earlier was came is fault → health is ≡ healths.Well → (is_want fault ≡ true → ⊥) → ⊥
+unexpected left health pulls TakesKnown limits earlier bytes came was is ids millis facts (faults.Malformed at reason) le part of_part why well
     unhindered = never_malformed limits bytes ids millis facts at reason le part of_part
-unexpected left health pulls limits earlier bytes came was is ids millis facts (faults.ItemTooLong at) le part of_part why well
+unexpected left health pulls TakesKnown limits earlier bytes came was is ids millis facts (faults.ItemTooLong at) le part of_part why well
     unhindered = unhindered refl
-unexpected left health pulls limits earlier bytes came was is ids millis facts faults.BytesExceeded le part of_part why well
+unexpected left health pulls TakesKnown limits earlier bytes came was is ids millis facts faults.BytesExceeded le part of_part why well
     unhindered = unhindered refl
-unexpected left health pulls limits earlier bytes came was is ids millis facts faults.Read le part of_part why well unhindered =
+unexpected left health pulls TakesKnown limits earlier bytes came was is ids millis facts faults.Read le part of_part why well unhindered =
     let no : healths.Failed ≡ healths.Well = sym why.1 ∙ well in cc
-unexpected left health pulls limits earlier bytes came was is ids millis facts faults.ReadsExceeded le part of_part why well
+unexpected left health pulls TakesKnown limits earlier bytes came was is ids millis facts faults.ReadsExceeded le part of_part why well
     unhindered = unhindered refl
-unexpected left health pulls limits earlier bytes came was is ids millis facts faults.OutOfMemory le part of_part why well unhindered =
+unexpected left health pulls TakesKnown limits earlier bytes came was is ids millis facts faults.OutOfMemory le part of_part why well unhindered =
     unhindered refl
-unexpected left health pulls limits earlier bytes came was is ids millis facts (faults.Sink sinks.OutOfMemory) le part of_part why well
+unexpected left health pulls TakesKnown limits earlier bytes came was is ids millis facts (faults.Sink sinks.OutOfMemory) le part of_part why well
     unhindered = unhindered refl
-unexpected left health pulls limits earlier bytes came was is ids millis facts (faults.Sink sinks.Failed) le part of_part why well
+unexpected left health pulls TakesKnown limits earlier bytes came was is ids millis facts (faults.Sink sinks.Failed) le part of_part why well
     unhindered = why
-unexpected left health pulls limits earlier bytes came was is ids millis facts faults.Failed le part of_part why well unhindered = why
+unexpected left health pulls TakesKnown limits earlier bytes came was is ids millis facts faults.Failed le part of_part why well unhindered = why
 
 -- parts of one size do not have two
 pub not_two_sizes : (parts : List (List ℕ)) (ids : IdSize) (millis : ℕ) (facts : List FactValue) → IsState parts ids millis facts
@@ -211,7 +211,8 @@ summaries_held {R} left holds old kept first parts told =
 module _ {R : Type 0} (left : R → Option (List ℕ)) (health : R → Health) (pulls : R → ℕ) where
   pub refuses_part : (limits : Limits) (parts : List (List ℕ)) (old new : List R) (index : ℕ) (fault : PartFault) (from : Gathered)
       → Tell left old parts
-      → RefusesReader left health pulls limits old new index fault from → RefusesPart left health pulls limits parts old new index fault
+      → RefusesReader left health pulls limits old new index fault from
+      → RefusesPart left health pulls none_known limits parts old new index fault
   refuses_part limits parts old new index fault from told is =
       let place = placed left old parts index is.at.was told is.at.was_there in
       let stated = subst (λ (ls : List (Option (List ℕ))). AreGiven limits ls is.before.given) place.told_before is.before.of_readers in
@@ -226,7 +227,7 @@ module _ {R : Type 0} (left : R → Option (List ℕ)) (health : R → Health) (
         stated = stated;
         at = is.at;
         told = place.told;
-        of_part = of_part left health pulls limits is.before.given is.at.was place.bytes is.at.came is.at.is fault place.told
+        of_part = of_part left health pulls none_known limits is.before.given is.at.was place.bytes is.at.came is.at.is fault place.told
             is.at.consumed is.at.refused;
       }
 
@@ -238,13 +239,13 @@ module _ {R : Type 0} (left : R → Option (List ℕ)) (health : R → Health) (
       (well index is (slice_get_within new index is there))
 
   -- a part is refused only by a failed reader, by a limit, or for want of memory
-  pub never_refused : (limits : Limits) (parts : List (List ℕ)) (ids : IdSize) (millis : ℕ) (facts : List FactValue) (old new : List R)
-      (index : ℕ) (fault : PartFault) → limits.max_item ≤ longest_body
-      → IsState parts ids millis facts → RefusesPart left health pulls limits parts old new index fault
+  pub never_refused : (TakesKnown : List FactValue → Type 0) (limits : Limits) (parts : List (List ℕ)) (ids : IdSize) (millis : ℕ)
+      (facts : List FactValue) (old new : List R) (index : ℕ) (fault : PartFault) → limits.max_item ≤ longest_body
+      → IsState parts ids millis facts → RefusesPart left health pulls TakesKnown limits parts old new index fault
       → All (λ reader. health reader ≡ healths.Well) new → (is_want fault ≡ true → ⊥) → ⊥
-  never_refused limits parts ids millis facts old new index fault le state is well unhindered =
+  never_refused TakesKnown limits parts ids millis facts old new index fault le state is well unhindered =
       let part = part_at state.states is.before is.bytes is.after (state.of_parts ∙ is.in_order) state.each in
-      unexpected left health pulls limits is.given is.bytes is.at.came is.at.was is.at.is part.0 part.1 part.2 fault le part.3
+      unexpected left health pulls TakesKnown limits is.given is.bytes is.at.came is.at.was is.at.is part.0 part.1 part.2 fault le part.3
       is.of_part is.at.refused
       (well_at new index is.at.is well is.at.is_there) unhindered
 
@@ -256,7 +257,7 @@ module _ {R : Type 0} (left : R → Option (List ℕ)) (health : R → Health) (
   -- what reading answers where it ended with a fault
   pub stopped : (limits : Limits) (old new : List R) (fault : ToolFault) (from to : Gathered)
       → ReadsAll left health pulls limits old from (Err fault) new to → IsOfReading (Some fault)
-      × Reads left health pulls limits old new (Some fault)
+      × Reads left health pulls none_known limits old new (Some fault)
       × (limits.max_item ≤ longest_body → (parts : List (List ℕ)) (ids : IdSize) (millis : ℕ) (facts : List FactValue) → Tell left old parts
       → IsState parts ids millis facts → All (λ reader. health reader ≡ healths.Well) new → (IsHindered (Some fault) → ⊥)
       → IsOkOrConflict (Some fault))
@@ -273,7 +274,7 @@ module _ {R : Type 0} (left : R → Option (List ℕ)) (health : R → Health) (
       accepted = λ all. absurd all;
       read_out = reads.out;
     },
-    λ le parts ids millis facts told state well unhindered. absurd (never_refused limits parts ids millis facts old new index fault le state
+    λ le parts ids millis facts told state well unhindered. absurd (never_refused none_known limits parts ids millis facts old new index fault le state
         (refuses_part limits parts old new index fault from told reads) well unhindered),
   )
   stopped limits old new tool.NoParts from to reads = absurd reads
@@ -281,6 +282,7 @@ module _ {R : Type 0} (left : R → Option (List ℕ)) (health : R → Health) (
   stopped limits old new (tool.Conflict key) from to reads = absurd reads
   stopped limits old new (tool.Refused refusal) from to reads = absurd reads
   stopped limits old new (tool.Write fault) from to reads = absurd reads
+  stopped limits old new (tool.Lost loss) from to reads = absurd reads
   stopped limits old new tool.OutOfMemory from to reads = absurd reads
 
 -- parts that state something together are some
@@ -306,7 +308,7 @@ module _ {R : Type 0} (left : R → Option (List ℕ)) (health : R → Health) (
       → (ended ≡ Some tool.IdSizes → (parts : List (List ℕ)) → Tell left old parts → HaveTwoSizes parts)
       → ((key : Key) → ended ≡ Some (tool.Conflict key) → (parts : List (List ℕ)) → Tell left old parts → Disagree parts key)
       → ((index : ℕ) (fault : PartFault) → ended ≡ Some (tool.Part index fault) → ⊥) → read_count ended (length old) ≡ length old
-      → Reads left health pulls limits old new ended
+      → Reads left health pulls none_known limits old new ended
   reads_as ended none sizes conflicts part all = record {
     no_parts = none;
     id_sizes = sizes;
@@ -318,7 +320,7 @@ module _ {R : Type 0} (left : R → Option (List ℕ)) (health : R → Health) (
 
   module _ {F : Type 0} (heap_in : F → HeapValue) where
     pub answered : (answer : Result F ToolFault) → TellsHeap heap_in given answer
-        → Reads left health pulls limits old new (fault_of answer)
+        → Reads left health pulls none_known limits old new (fault_of answer)
         × ((parts : List (List ℕ)) (ids : IdSize) (millis : ℕ) (facts : List FactValue) → Tell left old parts
         → IsState parts ids millis facts → IsOkOrConflict (fault_of answer))
     answered (Ok found) tells = (
@@ -360,6 +362,7 @@ module _ {R : Type 0} (left : R → Option (List ℕ)) (health : R → Health) (
     answered (Err (tool.Part index fault)) tells = absurd tells
     answered (Err (tool.Refused refusal)) tells = absurd tells
     answered (Err (tool.Write fault)) tells = absurd tells
+    answered (Err (tool.Lost loss)) tells = absurd tells
     answered (Err tool.OutOfMemory) tells = absurd tells
 
 --   given: what these gave
@@ -374,6 +377,7 @@ module _ {F : Type 0} (given : List Given) (heap_in : F → HeapValue) where
   reads_alone (Err (tool.Part index fault)) tells = absurd tells
   reads_alone (Err (tool.Refused refusal)) tells = absurd tells
   reads_alone (Err (tool.Write fault)) tells = absurd tells
+  reads_alone (Err (tool.Lost loss)) tells = absurd tells
   reads_alone (Err tool.OutOfMemory) tells = absurd tells
 
   module _ {R : Type 0} (left : R → Option (List ℕ)) (limits : Limits) (old : List R)

@@ -133,4 +133,5 @@ module _ {R : Type 0} (left : R → Option (List ℕ)) (health : R → Health) (
       ends_at (tool.Conflict key) unlisted = absurd unlisted
       ends_at (tool.Refused refusal) unlisted = absurd unlisted
       ends_at (tool.Write write) unlisted = absurd unlisted
+      ends_at (tool.Lost loss) unlisted = absurd unlisted
       ends_at tool.OutOfMemory unlisted = wants_to_list unlisted

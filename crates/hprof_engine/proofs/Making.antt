@@ -17,14 +17,14 @@ use Rattle.hprof_engine.specs.declared.product_refusal.ProductRefusal.{ProductRe
 use Rattle.hprof_engine.specs.declared.product.WriteStop.{WriteStop}
 use Rattle.hprof_engine.specs.declared.product.WriteStop.TheVariants as stops
 use Rattle.hprof_engine.specs.Summaries.{AreSummaries}
-use Rattle.hprof_engine.specs.Joining.{Tell, Agree, IsOfReading, IsHindered, IsOkOrConflict}
+use Rattle.hprof_engine.specs.Joining.{Tell, Agree, IsOfReading, IsHindered, IsOkOrConflict, none_known}
 use Rattle.hprof_engine.specs.Makes.{Reads, Making, Makes, EndsWriting, IsMadeOf, making_of, fault_of_stop}
 
 -- ---- reading was refused
 
 module _ {R W : Type 0} (left : R → Option (List ℕ)) (health : R → Health) (pulls : R → ℕ) (written : W → Option (List ℕ))
     (well : W → Health) (limits : Limits) (making : Making) (old new : List R) (target : W) where
-  pub refused : (fault : ToolFault) → IsOfReading (Some fault) → Reads left health pulls limits old new (Some fault)
+  pub refused : (fault : ToolFault) → IsOfReading (Some fault) → Reads left health pulls making.TakesKnown limits old new (Some fault)
       → ((parts : List (List ℕ)) (ids : IdSize) (millis : ℕ) (facts : List FactValue) → Tell left old parts
       → IsState parts ids millis facts → All (λ reader. health reader ≡ healths.Well) new → (IsHindered (Some fault) → ⊥)
       → IsOkOrConflict (Some fault))
@@ -35,6 +35,7 @@ module _ {R W : Type 0} (left : R → Option (List ℕ)) (health : R → Health)
     unwritten = λ _. refl;
     refused = λ why e. absurd (subst IsOfReading e kind);
     write = λ why e. absurd (subst IsOfReading e kind);
+    lost = λ loss e. absurd (subst IsOfReading e kind);
     memory = λ e. absurd (subst IsOfReading e kind);
     no_other = λ parts ids millis facts told state are_well _ unhindered. no_other parts ids millis facts told state are_well unhindered;
   }
@@ -53,8 +54,9 @@ ill health faults.Stuck is was = cc
 
 module _ {R : Type 0} (left : R → Option (List ℕ)) (health : R → Health) (pulls : R → ℕ) (limits : Limits) (old new : List R) where
   -- where all parts were read, a stop says nothing else of them
-  stopped : (stop : WriteStop) → Reads left health pulls limits old new None → Reads left health pulls limits old new (Some (fault_of_stop stop))
-  stopped (stops.Write fault) reads = record {
+  pub stopped : (TakesKnown : List FactValue → Type 0) (stop : WriteStop) → Reads left health pulls TakesKnown limits old new None
+      → Reads left health pulls TakesKnown limits old new (Some (fault_of_stop stop))
+  stopped TakesKnown (stops.Write fault) reads = record {
     no_parts = (λ e. absurd cc, λ none. let no = reads.no_parts.1 none in absurd cc);
     id_sizes = λ e. absurd cc;
     conflict = λ key e. absurd cc;
@@ -62,7 +64,7 @@ module _ {R : Type 0} (left : R → Option (List ℕ)) (health : R → Health) (
     accepted = reads.accepted;
     read_out = reads.read_out;
   }
-  stopped (stops.Refused refusal) reads = record {
+  stopped TakesKnown (stops.Refused refusal) reads = record {
     no_parts = (λ e. absurd cc, λ none. let no = reads.no_parts.1 none in absurd cc);
     id_sizes = λ e. absurd cc;
     conflict = λ key e. absurd cc;
@@ -70,7 +72,7 @@ module _ {R : Type 0} (left : R → Option (List ℕ)) (health : R → Health) (
     accepted = reads.accepted;
     read_out = reads.read_out;
   }
-  stopped stops.OutOfMemory reads = record {
+  stopped TakesKnown stops.OutOfMemory reads = record {
     no_parts = (λ e. absurd cc, λ none. let no = reads.no_parts.1 none in absurd cc);
     id_sizes = λ e. absurd cc;
     conflict = λ key e. absurd cc;
@@ -93,7 +95,7 @@ module _ {R : Type 0} (left : R → Option (List ℕ)) (health : R → Health) (
       is = is;
     }
 
-    pub ended : Reads left health pulls limits old new None → (result : Result (Unit {0}) WriteStop)
+    pub ended : Reads left health pulls none_known limits old new None → (result : Result (Unit {0}) WriteStop)
         → EndsWriting written well (IsText summaries heap) (λ refusal. Refuses refusal heap) TakesMemory before after result
         → Makes left health pulls written well limits (making_of IsText Refuses TakesRoom TakesMemory) old new before after
         (fault_of_end result)
@@ -103,11 +105,12 @@ module _ {R : Type 0} (left : R → Option (List ℕ)) (health : R → Health) (
       unwritten = λ none. absurd none;
       refused = λ refusal e. absurd cc;
       write = λ fault e. absurd cc;
+      lost = λ loss e. absurd cc;
       memory = λ e. absurd cc;
       no_other = λ parts ids millis facts told state are_well is_well unhindered. tt;
     }
     ended reads (Err (stops.Write fault)) ends = record {
-      reads = stopped (stops.Write fault) reads;
+      reads = stopped none_known (stops.Write fault) reads;
       ok = λ e. absurd cc;
       unwritten = λ none. absurd none;
       refused = λ refusal e. absurd cc;
@@ -116,33 +119,38 @@ module _ {R : Type 0} (left : R → Option (List ℕ)) (health : R → Health) (
             subst (λ (f : WriteFault). well after ≡ health_after f) one ends.0,
             λ parts told. (ends.1.0, ends.1.1, made parts told ends.1.0 ends.1.2, ends.1.3),
           );
+      lost = λ loss e. absurd cc;
       memory = λ e. absurd cc;
       no_other = λ parts ids millis facts told state are_well is_well unhindered. absurd (ill (well after) fault ends.0 is_well);
     }
     ended reads (Err stops.OutOfMemory) ends = record {
-      reads = stopped stops.OutOfMemory reads;
+      reads = stopped none_known stops.OutOfMemory reads;
       ok = λ e. absurd cc;
       unwritten = λ none. absurd none;
       refused = λ refusal e. absurd cc;
       write = λ fault e. absurd cc;
+      lost = λ loss e. absurd cc;
       memory = λ e. inr (
         ends.0,
         reads.read_out,
         ends.1,
         elim ends.2 [
           | inl front ↦ inl (λ parts told. (front.0, front.1, made parts told front.0 front.2, front.3))
-          | inr refused ↦ inr ((refused.0.0, (heap, refused.0.1, agree)), refused.1)
+          | inr refused ↦ inr (inr (refused.0.0, (heap, refused.0.1, agree)), refused.1)
         ],
       );
       no_other = λ parts ids millis facts told state are_well is_well unhindered. absurd (unhindered tt);
     }
     ended reads (Err (stops.Refused refusal)) ends = record {
-      reads = stopped (stops.Refused refusal) reads;
+      reads = stopped none_known (stops.Refused refusal) reads;
       ok = λ e. absurd cc;
       unwritten = λ _. ends.1;
       refused = λ other e.
-          let same : refusal ≡ other = cc in (heap, subst (λ (r : ProductRefusal). Refuses r heap) same ends.0, agree);
+          let same : refusal ≡ other = cc in
+          let is = subst (λ (r : ProductRefusal). Refuses r heap) same ends.0 in
+          (inr (heap, is, agree), λ parts told. (heap, is, agree parts told));
       write = λ fault e. absurd cc;
+      lost = λ loss e. absurd cc;
       memory = λ e. absurd cc;
       no_other = λ parts ids millis facts told state are_well is_well unhindered. absurd (unhindered tt);
     }

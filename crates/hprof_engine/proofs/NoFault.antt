@@ -27,6 +27,7 @@ use Rattle.hprof_engine.specs.declared.tool_fault.ToolFault.TheVariants as tool
 use Rattle.hprof_engine.specs.declared.product.WriteStop.{WriteStop}
 use Rattle.hprof_engine.specs.declared.product.WriteStop.TheVariants as stops
 use Rattle.hprof_engine.specs.Joining.{Tell, Agree, IsAccepted, AreGiven, AreReadOut, RefusesPart, fault_of, is_want, IsOfReading, IsHindered, IsOkOrConflict}
+use Rattle.hprof_engine.specs.Joining.{none_known}
 use Rattle.hprof_engine.specs.Makes.{Reads, Makes, dump_making, IsDumpText, EndsWriting}
 use Rattle.hprof_engine.specs.Summaries.{AreSummaries}
 use Rattle.hprof_engine.proofs.Answers.{agree, answered}
@@ -122,6 +123,7 @@ module _ {R : Type 0} (left : R → Option (List ℕ)) (health : R → Health) (
   reading_ended (tool.Conflict key) wants = absurd wants
   reading_ended (tool.Refused refusal) wants = absurd wants
   reading_ended (tool.Write fault) wants = absurd wants
+  reading_ended (tool.Lost loss) wants = absurd wants
 
   -- and where what was saved comes to no heap
   module _ (so : GathersSaved left health pulls limits old new (length old) gathered parts listed) where
@@ -141,6 +143,7 @@ module _ {R : Type 0} (left : R → Option (List ℕ)) (health : R → Health) (
     no_heap tool.OutOfMemory tells = absurd tells
     no_heap (tool.Refused refusal) tells = absurd tells
     no_heap (tool.Write fault) tells = absurd tells
+    no_heap (tool.Lost loss) tells = absurd tells
 
 module _ {R : Type 0} (left : R → Option (List ℕ)) (health : R → Health) (pulls : R → ℕ) (limits : Limits) where
   -- a part that is accepted was read with no fault by a reader that is well, where it has few bytes
@@ -213,7 +216,7 @@ module _ {R : Type 0} (left : R → Option (List ℕ)) (health : R → Health) (
     -- ---- memory was wanted for a part
 
     module _ (index : ℕ) (fault : PartFault) (wants : WantsAt left health pulls limits old new index fault) (sound : AreSound wants.reads) where
-      wants_part : (parts : List (List ℕ)) → Tell left old parts → RefusesPart left health pulls limits parts old new index fault
+      wants_part : (parts : List (List ℕ)) → Tell left old parts → RefusesPart left health pulls none_known limits parts old new index fault
       wants_part parts told =
           let place = placed left old parts index wants.at.was told wants.at.was_there in
           let front = sound_front left health pulls limits old new wants.reads parts wants.each sound told in
@@ -232,11 +235,11 @@ module _ {R : Type 0} (left : R → Option (List ℕ)) (health : R → Health) (
             stated = sound_given limits place.before wants.given accepted saved;
             at = wants.at;
             told = place.told;
-            of_part = of_part left health pulls limits wants.given wants.at.was place.bytes wants.at.came wants.at.is fault place.told
+            of_part = of_part left health pulls none_known limits wants.given wants.at.was place.bytes wants.at.came wants.at.is fault place.told
                 wants.at.consumed wants.at.refused;
           }
 
-      wants_reads : Reads left health pulls limits old new (Some (tool.Part index fault))
+      wants_reads : Reads left health pulls none_known limits old new (Some (tool.Part index fault))
       wants_reads = record {
         no_parts = (λ e. absurd cc, λ none. absurd (some_reader old index wants.at.was wants.at.was_there none));
         id_sizes = λ e. absurd cc;
@@ -244,8 +247,8 @@ module _ {R : Type 0} (left : R → Option (List ℕ)) (health : R → Health) (
         part = λ other why e parts told.
             let one : index ≡ other = cc in
             let its : fault ≡ why = cc in
-            subst (λ (i : ℕ). RefusesPart left health pulls limits parts old new i why) one
-            (subst (λ (f : PartFault). RefusesPart left health pulls limits parts old new index f) its (wants_part parts told));
+            subst (λ (i : ℕ). RefusesPart left health pulls none_known limits parts old new i why) one
+            (subst (λ (f : PartFault). RefusesPart left health pulls none_known limits parts old new index f) its (wants_part parts told));
         accepted = λ all. absurd all;
         read_out = subst (λ (n : ℕ). AreReadOut left health pulls limits old new n) wants.place (read_out old new wants.reads wants.each sound);
       }
@@ -265,7 +268,7 @@ module _ {R : Type 0} (left : R → Option (List ℕ)) (health : R → Health) (
       out : AreReadOut left health pulls limits old new (length old)
       out = subst (λ (n : ℕ). AreReadOut left health pulls limits old new n) through.all (read_out old new reads through.each sound)
 
-      all_read : Reads left health pulls limits old new (fault_of (as_fault answer))
+      all_read : Reads left health pulls none_known limits old new (fault_of (as_fault answer))
           × ((others : List (List ℕ)) (ids : IdSize) (millis : ℕ) (facts : List FactValue) → Tell left old others
           → IsState others ids millis facts → IsOkOrConflict (fault_of (as_fault answer)))
       all_read = answered left health pulls limits old new through.saves.given of_readers out (λ (heap : HeapValue). heap) (as_fault answer)
@@ -274,7 +277,7 @@ module _ {R : Type 0} (left : R → Option (List ℕ)) (health : R → Health) (
     module _ {W : Type 0} (written : W → Option (List ℕ)) (well : W → Health) (before after : W) (parts : List (List ℕ))
         (have : HaveNoFault left health limits old new parts) where
       -- what is answered before writing
-      unwritten : (fault : ToolFault) → after ≡ before → IsOfReading (Some fault) → Reads left health pulls limits old new (Some fault)
+      unwritten : (fault : ToolFault) → after ≡ before → IsOfReading (Some fault) → Reads left health pulls none_known limits old new (Some fault)
           → ((others : List (List ℕ)) (ids : IdSize) (millis : ℕ) (facts : List FactValue) → Tell left old others
           → IsState others ids millis facts → All (λ reader. health reader ≡ healths.Well) new → (IsHindered (Some fault) → ⊥)
           → IsOkOrConflict (Some fault))
@@ -288,7 +291,7 @@ module _ {R : Type 0} (left : R → Option (List ℕ)) (health : R → Health) (
           → Makes left health pulls written well limits dump_making old new before after (Some fault)
       refuses refusal fault is kind all =
           let read = all_read parts have.told all.reads (Err refusal) all.through (none_of parts all.reads have all.through.each) in
-          unwritten fault all.unwritten kind (subst (λ (f : Option ToolFault). Reads left health pulls limits old new f) is read.0)
+          unwritten fault all.unwritten kind (subst (λ (f : Option ToolFault). Reads left health pulls none_known limits old new f) is read.0)
           (λ others ids millis facts told state are_well unhindered. subst IsOkOrConflict is (read.1 others ids millis facts told state))
 
       -- what is answered of a heap that is written
@@ -353,3 +356,4 @@ module _ {R : Type 0} (left : R → Option (List ℕ)) (health : R → Health) (
           let none = sound_last its.before its.last (none_of parts (its.before ++ its.last ∷ []) have its.each) in
           absurd (let no : IsSome {T = PartFault} None = subst IsSome none its.faulty in cc)
       as_join (Err (tool.Refused refusal)) none = absurd none
+      as_join (Err (tool.Lost loss)) none = absurd none

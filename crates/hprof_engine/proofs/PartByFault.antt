@@ -16,7 +16,7 @@ use Rattle.hprof_stream.specs.Run.{Run, Steps}
 use Rattle.hprof_stream.specs.Fault.{StatesSoFar}
 use Rattle.hprof_stream.specs.Reader.{RanOver, ReadsPart}
 use Rattle.hprof_heap.specs.Gathering.{Gathered, Given, nothing_gathered, Begins, Takes, LacksRow, Gathers}
-use Rattle.hprof_engine.specs.Joining.{IsPartFault}
+use Rattle.hprof_engine.specs.Joining.{IsPartFault, none_known}
 use Rattle.hprof_engine.proofs.Gathered.{Run-shown, Run-sound}
 use Rattle.hprof_engine.proofs.PartFaults.{fault_of_came, of_part}
 use Rattle.hprof_engine.specs.Salvaging.{EndsPart, is_want_of_memory, IsReadSo}
@@ -101,12 +101,12 @@ module _ {G : Type 0} (gathered : G → Gathered) (parts : G → ℕ) where
       -- with which fault it is refused
       pub refused_so : (fault : PartFault)
           → ReadsPart left health pulls begins steps refuses has_failed limits was came is old (Err fault) new
-          → IsPartFault left health pulls limits earlier was came is fault
+          → IsPartFault left health pulls none_known limits earlier was came is fault
       refused_so fault reads = fault_of_came gathered begins steps refuses has_failed (λ from head to it. it.0) (λ from fact to it. it.0)
           (λ from given why to it. it) left health pulls limits earlier was came is old new fault sound gathers reads
 
       ran_over : (fault : PartFault) → is_want_of_memory fault ≡ false
-          → IsPartFault left health pulls limits earlier was came is fault
+          → IsPartFault left health pulls none_known limits earlier was came is fault
           → ReadsPart left health pulls begins steps refuses has_failed limits was came is old (Err fault) new
           → (header : Option Header) × RanOver begins steps limits.max_item (take limits.max_bytes came) [] None header old new
       ran_over (faults.Malformed at reason) other why reads = reads.1
@@ -121,7 +121,7 @@ module _ {G : Type 0} (gathered : G → Gathered) (parts : G → ℕ) where
 
       -- how reading it ended: no gatherer that was not refused memory fails
       ended_so : (fault : PartFault) → is_want_of_memory fault ≡ false
-          → IsPartFault left health pulls limits earlier was came is fault → IsReadingFault left health pulls limits was came is fault
+          → IsPartFault left health pulls none_known limits earlier was came is fault → IsReadingFault left health pulls limits was came is fault
           → EndsPart left health pulls limits was came is (Some fault)
       ended_so (faults.Sink sinks.OutOfMemory) other why reading = absurd cc
       ended_so (faults.Sink sinks.Failed) other why reading = absurd why
@@ -146,7 +146,7 @@ module _ {G : Type 0} (gathered : G → Gathered) (parts : G → ℕ) where
               consumed = consumed;
               spared = spared;
               ends = ended_so fault other why reads.0;
-              whole = λ bytes told. of_part left health pulls limits earlier was bytes came is fault told consumed why;
+              whole = λ bytes told. of_part left health pulls none_known limits earlier was bytes came is fault told consumed why;
             },
             takes_saved limits.max_item (take limits.max_bytes came) old new over.0 over.1.handed sound over.1.states over.1.ran,
           )

@@ -1,5 +1,5 @@
 -- With which fault a part is refused, by the bytes that its reader had to tell.
-use Rattle.std.proofs.Common.{◌≡◌, ℕ, ◌≤◌, Bool, true, false, List, [], ◌++◌, length, take, drop, Option, Some, None, Err, refl}
+use Rattle.std.proofs.Common.{◌≡◌, inr, ℕ, ◌≤◌, Bool, true, false, List, [], ◌++◌, length, take, drop, Option, Some, None, Err, refl}
 use Rattle.std.proofs.Common.{sym, ap, subst, ◌∙◌, append_assoc, append-nil, arith}
 use Rattle.std.proofs.lemmas.List.{take-append-drop, length-append}
 use Rattle.std.specs.Io.KnownBytes.{Consumes, IsAtEnd}
@@ -19,7 +19,7 @@ use Rattle.hprof_stream.specs.Fault.{IsFirstFault, is_settled}
 use Rattle.hprof_stream.specs.Reader.{Pulled, none, once_more, BeginsWhole, RanUpTo, ReadsPart}
 use Rattle.hprof_heap.specs.Gathering.{Gathered, Given, nothing_gathered, Begins, Takes, Gathers, LacksRow, IsNewBehind}
 use Rattle.hprof_heap.proofs.Told.{new_behind}
-use Rattle.hprof_engine.specs.Joining.{IsPartFault, IsOfPart}
+use Rattle.hprof_engine.specs.Joining.{IsPartFault, IsOfPart, none_known}
 use Rattle.hprof_engine.proofs.Gathered.{Run-shown, Run-sound}
 use Rattle.hprof_stream.proofs.Longer.{longer_input}
 
@@ -74,12 +74,12 @@ module _ {G : Type 0} (gathered : G → Gathered) (begins : G → Header → G �
     pub fault_of_came : (limits : Limits) (earlier : List Given) (was : R) (came : List ℕ) (is : R) (old new : G)
         (fault : PartFault) → (gathered old).failed ≡ false → Gathers nothing_gathered earlier (gathered old)
         → ReadsPart left health pulls begins steps refuses failed limits was came is old (Err fault) new
-        → IsPartFault left health pulls limits earlier was came is fault
+        → IsPartFault left health pulls none_known limits earlier was came is fault
     fault_of_came limits earlier was came is old new (faults.Sink sinks.OutOfMemory) sound gathers reads =
         let item = reads.0.1 in (
           reads.0,
-          new_then limits.max_item (take limits.max_bytes came) item.told item.whole old reads.1.mid sound reads.1.ran earlier new gathers
-              reads.1.refused.0,
+          inr (new_then limits.max_item (take limits.max_bytes came) item.told item.whole old reads.1.mid sound reads.1.ran earlier new gathers
+              reads.1.refused.0),
         )
     fault_of_came limits earlier was came is old new (faults.Sink sinks.Failed) sound gathers reads =
         let item = reads.0.1 in
@@ -87,10 +87,10 @@ module _ {G : Type 0} (gathered : G → Gathered) (begins : G → Header → G �
         item.whole.last.facts new reads.1.refused.0)
     fault_of_came limits earlier was came is old new fault sound gathers reads = reads.0
 
-module _ {R : Type 0} (left : R → Option (List ℕ)) (health : R → Health) (pulls : R → ℕ) where
+module _ {R : Type 0} (left : R → Option (List ℕ)) (health : R → Health) (pulls : R → ℕ) (TakesKnown : List FactValue → Type 0) where
   -- a fault of an item that came is the first of the whole part
   of_rest : (limits : Limits) (earlier : List Given) (was : R) (came rest : List ℕ) (is : R) (fault : PartFault) → left is ≡ Some rest
-      → IsPartFault left health pulls limits earlier was came is fault → IsOfPart limits (came ++ rest) fault
+      → IsPartFault left health pulls TakesKnown limits earlier was came is fault → IsOfPart limits (came ++ rest) fault
   of_rest limits earlier was came rest is (faults.Malformed at Truncated) told why =
       let ends : rest ≡ [] = subst IsAtEnd told why.1 in
       subst (λ (b : List ℕ). IsFirstFault limits.max_item b (faults.Malformed at Truncated))
@@ -105,7 +105,8 @@ module _ {R : Type 0} (left : R → Option (List ℕ)) (health : R → Health) (
   of_rest limits earlier was came rest is fault told why = tt
 
   pub of_part : (limits : Limits) (earlier : List Given) (was : R) (bytes came : List ℕ) (is : R) (fault : PartFault)
-      → left was ≡ Some bytes → Consumes (left was) (left is) came → IsPartFault left health pulls limits earlier was came is fault
+      → left was ≡ Some bytes → Consumes (left was) (left is) came
+      → IsPartFault left health pulls TakesKnown limits earlier was came is fault
       → IsOfPart limits bytes fault
   of_part limits earlier was bytes came is fault told consumed why = by (left is) refl
     where

@@ -1,5 +1,5 @@
 -- What joining parts answers, and what it writes.
-use Rattle.std.specs.Prelude.{◌≡◌, ℕ, ◌+◌, ◌<◌, ◌≤◌, Bool, true, false, List, [], ◌∷◌, ◌++◌, length, take, map, Option, Some, None}
+use Rattle.std.specs.Prelude.{◌≡◌, ◌⊎◌, ℕ, ◌+◌, ◌<◌, ◌≤◌, Bool, true, false, List, [], ◌∷◌, ◌++◌, length, take, map, Option, Some, None}
 use Rattle.std.specs.Prelude.{Result, Ok, Err, ⊤, slice_get}
 use Rattle.std.specs.List.{AllByRecursion}
 use Rattle.std.specs.Io.KnownBytes.{Consumes, IsAtEnd}
@@ -22,6 +22,7 @@ use Rattle.hprof_heap.specs.Gathering.{Gathered, Given, Gathers, IsNewBehind}
 use Rattle.hprof_heap.specs.State.{IsState}
 use Rattle.hprof_engine.specs.declared.tool_fault.ToolFault.{ToolFault}
 use Rattle.hprof_engine.specs.declared.tool_fault.ToolFault.TheVariants as tool
+use Rattle.hprof_engine.specs.declared.loss.Loss.TheVariants as losses
 use Rattle.hprof_engine.specs.declared.joined.Joined.{Joined}
 
 -- the readers tell these parts, and no more
@@ -67,14 +68,20 @@ AreGiven limits (left ∷ lefts) (part ∷ parts) = IsGiven limits left part × 
 AreGiven limits [] (part ∷ parts) = ⊥
 AreGiven limits (left ∷ lefts) [] = ⊥
 
-module _ {R : Type 0} (left : R → Option (List ℕ)) (health : R → Health) (pulls : R → ℕ) where
+-- memory is taken for no fact that is known
+abbrev pub none_known : List FactValue → Type 0
+none_known facts = ⊥
+
+module _ {R : Type 0} (left : R → Option (List ℕ)) (health : R → Health) (pulls : R → ℕ) (TakesKnown : List FactValue → Type 0) where
   -- with which fault a part is refused of which these bytes came: an item is refused for want of memory alone, and states
-  -- a fact that is new behind what the parts before it gave
+  -- a fact that is new behind what the parts before it gave, or facts for which memory is taken also where they are known
+  --   TakesKnown: memory is taken for the facts of an item, also where all of them are known
   --   earlier: what these gave;  was, is: the reader, before and afterwards
   abbrev pub IsPartFault : Limits → List Given → R → List ℕ → R → PartFault → Type 0
   IsPartFault limits earlier was came is (faults.Sink sinks.OutOfMemory) =
       (why : IsReadingFault left health pulls limits was came is (faults.Sink sinks.OutOfMemory))
-      × IsNewBehind earlier (header_before why.1.whole.before) (all_facts why.1.whole.items) why.1.whole.last.facts
+      × (TakesKnown why.1.whole.last.facts
+      ⊎ IsNewBehind earlier (header_before why.1.whole.before) (all_facts why.1.whole.items) why.1.whole.last.facts)
   IsPartFault limits earlier was came is (faults.Sink sinks.Failed) = ⊥
   IsPartFault limits earlier was came is fault = IsReadingFault left health pulls limits was came is fault
 
@@ -104,6 +111,7 @@ module _ {R : Type 0} (left : R → Option (List ℕ)) (health : R → Health) (
   AreReadOut limits old new count =
       (k : ℕ) → k < count → (was : R) × (is : R) × (slice_get old k ≡ Some was) × (slice_get new k ≡ Some is) × IsReadOut limits was is
 
+module _ {R : Type 0} (left : R → Option (List ℕ)) (health : R → Health) (pulls : R → ℕ) (TakesKnown : List FactValue → Type 0) where
   -- the reader at that place was read over these bytes and was refused with the fault; those behind it were not touched
   --   earlier: what the parts before it gave
   pub record RefusesAt (limits : Limits) (earlier : List Given) (old new : List R) (index : ℕ) (fault : PartFault) : Type 0 where
@@ -114,7 +122,7 @@ module _ {R : Type 0} (left : R → Option (List ℕ)) (health : R → Health) (
     pub came : List ℕ
     pub consumed : Consumes (left was) (left is) came
     pub spared : pulls is ≤ pulls was + limits.max_reads
-    pub refused : IsPartFault left health pulls limits earlier was came is fault
+    pub refused : IsPartFault left health pulls TakesKnown limits earlier was came is fault
     pub unread : (k : ℕ) → index < k → slice_get new k ≡ slice_get old k
 
   -- the part at that place was refused with the fault; all parts before it were read to their ends
@@ -146,7 +154,7 @@ module _ {R : Type 0} (left : R → Option (List ℕ)) (health : R → Health) (
     pub mid : Gathered
     pub before : GathersFirst left limits old index from mid
     pub out : AreReadOut left health pulls limits old new index
-    pub at : RefusesAt left health pulls limits before.given old new index fault
+    pub at : RefusesAt left health pulls none_known limits before.given old new index fault
 
   -- all readers were read to their ends, or one was refused
   abbrev pub ReadsAll : Limits → List R → Gathered → Result (Unit {0}) ToolFault → List R → Gathered → Type 0
@@ -163,16 +171,18 @@ fault_of (Ok done) = None
 fault_of (Err fault) = Some fault
 
 -- how many of the readers were read to their ends: all, or those before the one that was refused; of want of memory that is
--- not a part's own this says nothing
+-- not a part's own, and of scratch that failed, this says nothing
 abbrev pub read_count : Option ToolFault → ℕ → ℕ
 read_count (Some (tool.Part index fault)) all = index
 read_count (Some tool.OutOfMemory) all = 0
+read_count (Some (tool.Lost losses.Scratch)) all = 0
 read_count other all = all
 
 -- all parts were read
 abbrev pub AreRead : Option ToolFault → Type 0
 AreRead (Some (tool.Part index fault)) = ⊥
 AreRead (Some tool.OutOfMemory) = ⊥
+AreRead (Some (tool.Lost losses.Scratch)) = ⊥
 AreRead other = ⊤
 
 -- want of memory was answered, or a limit was met
@@ -191,6 +201,7 @@ abbrev pub IsHindered : Option ToolFault → Type 0
 IsHindered (Some (tool.Part index fault)) = is_want fault ≡ true
 IsHindered (Some tool.OutOfMemory) = ⊤
 IsHindered (Some (tool.Refused refusal)) = ⊤
+IsHindered (Some (tool.Lost loss)) = ⊤
 IsHindered other = ⊥
 
 abbrev pub IsOkOrConflict : Option ToolFault → Type 0
@@ -203,6 +214,7 @@ abbrev pub IsBeforeWriting : Option ToolFault → Type 0
 IsBeforeWriting None = ⊥
 IsBeforeWriting (Some (tool.Write fault)) = ⊥
 IsBeforeWriting (Some tool.OutOfMemory) = ⊥
+IsBeforeWriting (Some (tool.Lost loss)) = ⊥
 IsBeforeWriting (Some other) = ⊤
 
 -- what reading alone answers
@@ -210,4 +222,5 @@ abbrev pub IsOfReading : Option ToolFault → Type 0
 IsOfReading (Some (tool.Write fault)) = ⊥
 IsOfReading (Some tool.OutOfMemory) = ⊥
 IsOfReading (Some (tool.Refused refusal)) = ⊥
+IsOfReading (Some (tool.Lost loss)) = ⊥
 IsOfReading other = ⊤

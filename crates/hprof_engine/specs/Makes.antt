@@ -1,5 +1,5 @@
 -- What a call answers that reads parts, and writes something that is made of them.
-use Rattle.std.specs.Prelude.{◌≡◌, ◌⊎◌, ◌↔◌, ℕ, List, [], length, take, All, Option, Some, None, Result, Ok, Err}
+use Rattle.std.specs.Prelude.{◌≡◌, ◌⊎◌, ◌↔◌, ℕ, List, [], length, take, All, Option, Some, None, Result, Ok, Err, ⊤}
 use Rattle.std.specs.List.{AllByRecursion}
 use Rattle.std.specs.Io.KnownBytes.{Appends}
 use Rattle.hprof_devices.specs.declared.health.Health.{Health}
@@ -17,18 +17,21 @@ use Rattle.hprof_rows.specs.HeapValue.{HeapValue}
 use Rattle.hprof_heap.specs.State.{IsState, HaveTwoSizes}
 use Rattle.hprof_engine.specs.declared.tool_fault.ToolFault.{ToolFault}
 use Rattle.hprof_engine.specs.declared.tool_fault.ToolFault.TheVariants as tool
+use Rattle.hprof_engine.specs.declared.loss.Loss.{Loss}
+use Rattle.hprof_engine.specs.declared.loss.Loss.TheVariants as losses
 use Rattle.hprof_engine.specs.declared.product_refusal.ProductRefusal.{ProductRefusal}
 use Rattle.hprof_engine.specs.declared.product.WriteStop.{WriteStop}
 use Rattle.hprof_engine.specs.declared.product.WriteStop.TheVariants as stops
 use Rattle.hprof_engine.specs.Joining.{Tell, Agree, Disagree, IsAccepted, RefusesPart, AreReadOut, read_count, AreRead, IsHindered}
-use Rattle.hprof_engine.specs.Joining.{IsOkOrConflict, IsBeforeWriting}
+use Rattle.hprof_engine.specs.Joining.{IsOkOrConflict, IsBeforeWriting, none_known}
 use Rattle.hprof_engine.specs.Summaries.{AreSummaries}
 
 -- what a call answers of the parts that it reads
 --   left, health, pulls: what a reader has left to tell, how it is doing, how often it was pulled
+--   TakesKnown: memory is taken for the facts of an item, also where all of them are known
 --   old, new: the readers, before and afterwards;  ended: the fault that the call ended with, if any
-pub record Reads {R : Type 0} (left : R → Option (List ℕ)) (health : R → Health) (pulls : R → ℕ) (limits : Limits) (old new : List R)
-    (ended : Option ToolFault) : Type 0 where
+pub record Reads {R : Type 0} (left : R → Option (List ℕ)) (health : R → Health) (pulls : R → ℕ) (TakesKnown : List FactValue → Type 0)
+    (limits : Limits) (old new : List R) (ended : Option ToolFault) : Type 0 where
   -- there are no parts
   pub no_parts : (ended ≡ Some tool.NoParts) ↔ (old ≡ [])
   -- two parts have different sizes
@@ -37,11 +40,18 @@ pub record Reads {R : Type 0} (left : R → Option (List ℕ)) (health : R → H
   pub conflict : (key : Key) → ended ≡ Some (tool.Conflict key) → (parts : List (List ℕ)) → Tell left old parts → Disagree parts key
   -- that part was refused with that fault
   pub part : (index : ℕ) (fault : PartFault) → ended ≡ Some (tool.Part index fault) → (parts : List (List ℕ)) → Tell left old parts
-      → RefusesPart left health pulls limits parts old new index fault
+      → RefusesPart left health pulls TakesKnown limits parts old new index fault
   -- where all were read, all were accepted
   pub accepted : AreRead ended → (parts : List (List ℕ)) → Tell left old parts → AllByRecursion (IsAccepted limits) parts
   -- of each that was read to its end, which are all, or those before the one that was refused, nothing was read behind the end
   pub read_out : AreReadOut left health pulls limits old new (read_count ended (length old))
+
+-- the loss is a change of what was read
+abbrev pub IsChange : Loss → Type 0
+IsChange (losses.Changed part) = ⊤
+IsChange losses.Objects = ⊤
+IsChange (losses.Read part) = ⊥
+IsChange losses.Scratch = ⊥
 
 -- what was made of the parts was written
 abbrev pub WritesAll : (IsMade : List (List ℕ) → List ℕ → Type 0) (parts : List (List ℕ)) (old new : Option (List ℕ)) → Type 0
@@ -61,6 +71,10 @@ pub record Making : Type 1 where
   pub TakesRoom : ℕ → Type 0
   -- memory is taken while it is written
   pub TakesMemory : Type 0
+  -- memory is taken for the facts of an item, also where all of them are known
+  pub TakesKnown : List FactValue → Type 0
+  -- objects are read again, or go to scratch
+  pub ReadsAgain : Type 0
 
 -- the heap that the parts state is one that is refused
 abbrev pub RefusesHeap : {R : Type 0} → (left : R → Option (List ℕ)) → (old : List R) → (Refuses : HeapValue → Type 0) → Type 0
@@ -72,22 +86,30 @@ RefusesHeap left old Refuses = (heap : HeapValue) × Refuses heap
 --   before, after: the writer, before and afterwards
 pub record Makes {R W : Type 0} (left : R → Option (List ℕ)) (health : R → Health) (pulls : R → ℕ) (written : W → Option (List ℕ))
     (well : W → Health) (limits : Limits) (making : Making) (old new : List R) (before after : W) (ended : Option ToolFault) : Type 0 where
-  pub reads : Reads left health pulls limits old new ended
+  pub reads : Reads left health pulls making.TakesKnown limits old new ended
   -- Ok: all of it was written, and the writer is well
   pub ok : ended ≡ None → (well after ≡ healths.Well)
       × ((parts : List (List ℕ)) → Tell left old parts → WritesAll making.IsMade parts (written before) (written after))
   -- a refusal before writing leaves the writer as it was
   pub unwritten : IsBeforeWriting ended → after ≡ before
-  -- the heap that the parts state is refused for that reason
-  pub refused : (refusal : ProductRefusal) → ended ≡ Some (tool.Refused refusal) → RefusesHeap left old (making.Refuses refusal)
+  -- the heap that the parts state is refused for that reason; where they tell nothing, some heap is, unless objects are read again
+  pub refused : (refusal : ProductRefusal) → ended ≡ Some (tool.Refused refusal)
+      → (making.ReadsAgain ⊎ RefusesHeap left old (making.Refuses refusal))
+      × ((parts : List (List ℕ)) → Tell left old parts → (heap : HeapValue) × making.Refuses refusal heap
+      × Agree parts heap.ids heap.millis heap.facts)
   -- the writer failed or stuck, and a front was written
   pub write : (fault : WriteFault) → ended ≡ Some (tool.Write fault) → (well after ≡ health_after fault)
       × ((parts : List (List ℕ)) → Tell left old parts → WritesFront making.IsMade parts (written before) (written after))
-  -- memory was wanted before anything was read or written, or when all was read, and a front was written; of a heap that is refused, nothing
+  -- objects were lost: they are read again, or go to scratch, and nothing was written, or a front; a part that is told did not change
+  pub lost : (loss : Loss) → ended ≡ Some (tool.Lost loss) → making.ReadsAgain
+      × ((after ≡ before) ⊎ ((parts : List (List ℕ)) → Tell left old parts → WritesFront making.IsMade parts (written before) (written after)))
+      × ((parts : List (List ℕ)) → Tell left old parts → IsChange loss → ⊥)
+  -- memory was wanted before anything was read or written, or when all was read, and a front was written; of a heap that is refused, nothing,
+  -- nor where objects were being read again
   pub memory : ended ≡ Some tool.OutOfMemory → (making.TakesRoom (length old) × (new ≡ old) × (after ≡ before))
       ⊎ (making.TakesMemory × AreReadOut left health pulls limits old new (length old) × (well after ≡ healths.Well)
       × (((parts : List (List ℕ)) → Tell left old parts → WritesFront making.IsMade parts (written before) (written after))
-      ⊎ (((refusal : ProductRefusal) × RefusesHeap left old (making.Refuses refusal)) × (after ≡ before))))
+      ⊎ ((making.ReadsAgain ⊎ ((refusal : ProductRefusal) × RefusesHeap left old (making.Refuses refusal))) × (after ≡ before))))
   -- no other answer where the parts state something together, readers and writer stay well, and nothing hindered it
   pub no_other : (parts : List (List ℕ)) (ids : IdSize) (millis : ℕ) (facts : List FactValue) → Tell left old parts
       → IsState parts ids millis facts → All (λ reader. health reader ≡ healths.Well) new → well after ≡ healths.Well
@@ -125,6 +147,8 @@ making_of IsText Refuses TakesRoom TakesMemory = record {
   Refuses = Refuses;
   TakesRoom = TakesRoom;
   TakesMemory = TakesMemory;
+  TakesKnown = none_known;
+  ReadsAgain = ⊥;
 }
 
 -- the fault that a product's stop is

@@ -18,7 +18,7 @@ use Rattle.hprof_heap.specs.declared.standing.Refusal.TheVariants as refusals
 use Rattle.hprof_heap.specs.Gathering.{Given}
 use Rattle.hprof_engine.specs.declared.tool_fault.ToolFault.{ToolFault}
 use Rattle.hprof_engine.specs.declared.tool_fault.ToolFault.TheVariants as tool
-use Rattle.hprof_engine.specs.Joining.{IsAccepted, IsOfPart, RefusesAt}
+use Rattle.hprof_engine.specs.Joining.{IsAccepted, IsOfPart, RefusesAt, none_known}
 use Rattle.hprof_engine.specs.declared.salvaged.FaultedPart.{FaultedPart}
 use Rattle.hprof_engine.specs.declared.salvaged.Salvaged.{Salvaged}
 use Rattle.hprof_engine.specs.Saved.{AreSaved, SavesTo}
@@ -104,7 +104,7 @@ module _ {R : Type 0} (left : R → Option (List ℕ)) (health : R → Health) (
     pub place : length reads ≡ index
     pub given : List Given
     pub saved : AreSaved limits.max_item (all_handled limits reads) given
-    pub at : RefusesAt left health pulls limits given old new index fault
+    pub at : RefusesAt left health pulls none_known limits given old new index fault
     pub memory : is_want_of_memory fault ≡ true
 
   -- memory was wanted for listing the fault of the last of the parts that were read so; those behind it were not touched
@@ -156,3 +156,4 @@ module _ {R : Type 0} (left : R → Option (List ℕ)) (health : R → Health) (
     Salvages (Err (tool.Part index fault)) = WantsAt index fault × (after ≡ before)
     Salvages (Err tool.OutOfMemory) = WantsToList × (after ≡ before)
     Salvages (Err (tool.Refused refusal)) = ⊥
+    Salvages (Err (tool.Lost loss)) = ⊥

@@ -6,7 +6,7 @@ ghost use Rattle.hprof_values.specs.declared.ids.IdSize.{IdSize};
 ghost use Rattle.hprof_items.specs.FactValue.{FactValue};
 ghost use Rattle.hprof_heap.specs.Gathering.{Given, nothing_gathered, Gathers};
 ghost use Rattle.hprof_heap.specs.State.{IsState};
-ghost use Rattle.hprof_engine.specs.Joining.{Tell, Agree, fault_of, read_count, IsOfReading, IsHindered, IsOkOrConflict};
+ghost use Rattle.hprof_engine.specs.Joining.{Tell, Agree, fault_of, read_count, IsOfReading, IsHindered, IsOkOrConflict, none_known};
 ghost use Rattle.hprof_engine.specs.Makes.{Reads};
 ghost use Rattle.hprof_engine.specs.Summaries.{HoldsFirst};
 ghost use Rattle.hprof_engine.specs.Through.{TellsHeap};
@@ -56,7 +56,7 @@ pub fn read_heap<R: Source, G: Gather + Drop, S: Summaries>(
     ensures listed { IfOk result (λ found. (id : ℕ) → G.watches gatherer id → G.lists found id) }
 
     // What a refusal says of the parts, which reading alone answers.
-    ensures reads { Reads R.left R.health R.pulls limits readers.old readers.new (fault_of result) }
+    ensures reads { Reads R.left R.health R.pulls none_known limits readers.old readers.new (fault_of result) }
     ensures kind { IsOfReading (fault_of result) }
 
     // At a refusal too, the summary was told of each that was read to its end, and of no other.

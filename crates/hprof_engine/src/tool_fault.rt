@@ -4,6 +4,7 @@ ghost use Rattle.std.specs.Prelude.{◌≡◌, ◌++◌, IfOk, codes, decimal, s
 ghost use Rattle.hprof_text.specs.Identifier.{id_digits};
 ghost use Rattle.hprof_engine.specs.FaultText.{IsFaultText, IsPartText, conflict_text};
 
+use crate::loss::Loss;
 use crate::product_refusal::ProductRefusal;
 use hprof_devices::WriteFault;
 use hprof_heap::Key;
@@ -30,6 +31,8 @@ pub enum ToolFault {
     Conflict(Key),
     /// The heap was refused before anything was written.
     Refused(ProductRefusal),
+    /// The objects of the parts are lost. Only calls that read parts again answer this.
+    Lost(Loss),
     /// The writer failed or stuck.
     Write(WriteFault),
     /// Memory ran out, but not while a part was read.
@@ -47,6 +50,7 @@ impl ToolFault {
             ToolFault::IdSizes => String::from_str(alloc, "identifier sizes differ"),
             ToolFault::Conflict(key) => text_of_conflict(alloc, key),
             ToolFault::Refused(refusal) => String::from_str(alloc, refusal.text()),
+            ToolFault::Lost(loss) => loss.text(alloc),
             ToolFault::Write(_) => String::from_str(alloc, "write failed"),
             ToolFault::OutOfMemory => String::from_str(alloc, "out of memory"),
         }
@@ -61,8 +65,8 @@ fn text_of_part(alloc: Global, index: usize, fault: PartFault) -> Result<String,
     text_with(alloc, index, &why)
 }
 
-/// Returns the text that a part was refused, and why.
-fn text_with(alloc: Global, index: usize, why: &str) -> Result<String, AllocError>
+/// Returns the text of a part: its number, and why it was refused or lost.
+pub(crate) fn text_with(alloc: Global, index: usize, why: &str) -> Result<String, AllocError>
     ensures { IfOk result (λ text. string_bytes text ≡ codes "part " ++ (decimal index ++ (codes ": " ++ why.now))) }
 {
     format!(in alloc; "part {index}: {why}")

@@ -28,15 +28,16 @@ use Rattle.hprof_heap.specs.State.{HaveTwoSizes, IsState}
 use Rattle.hprof_heap.proofs.Least.{no_least}
 use Rattle.hprof_runs.specs.declared.scratch_fault.ScratchFault.{ScratchFault}
 use Rattle.hprof_runs.specs.declared.scratch_fault.ScratchFault.TheVariants as scratches
-use Rattle.hprof_engine.specs.Joining.{AreGiven, Disagree, IsOfPart, Tell, is_want}
+use Rattle.hprof_engine.specs.Joining.{AreGiven, Disagree, RefusesPart, Tell}
 use Rattle.hprof_engine.proofs.Answers.{all_accepted, disagree, never_refused, no_parts, no_readers, not_two_sizes, some_parts, two_sizes}
 use Rattle.hprof_engine.proofs.PartFaults.{of_part}
 use Rattle.hprof_engine.proofs.Stated.{given_sound, placed}
 use Rattle.hprof_stored.specs.declared.stored_fault.StoredFault.{StoredFault}
 use Rattle.hprof_stored.specs.declared.stored_fault.StoredFault.TheVariants as stops
 use Rattle.hprof_stored.specs.Parts.{AreStored, PartStored, given_of, others_of}
-use Rattle.hprof_stored.specs.Reading.{IsHinderedStored, IsOkOrConflictStored, IsStoredFault, ReadsStored, StopsForScratch, StopsPart}
-use Rattle.hprof_stored.specs.Reading.{StopsReader, StoresAll, TellsStored, stopped_by}
+use Rattle.hprof_stored.specs.Reading.{IsHinderedStored, IsOkOrConflictStored, ReadsStored, StopsForScratch, StopsReader}
+use Rattle.hprof_stored.specs.Reading.{StoresAll, TellsStored, stopped_by}
+use Rattle.hprof_stored.specs.Storing.{HaveObject}
 
 -- what holds at a fault holds of an answer that is this fault
 pub of_fault : {A : Type 0} (P : Result A StoredFault → Type 0) (answer : Result A StoredFault) (fault : StoredFault)
@@ -57,14 +58,9 @@ some_reader (reader ∷ old) index was there none = cc
 -- ---- a part was refused
 
 module _ {R : Type 0} (left : R → Option (List ℕ)) (health : R → Health) (pulls : R → ℕ) (limits : Limits) where
-  fault_of_part : (earlier : List Given) (was : R) (bytes came : List ℕ) (is : R) (fault : PartFault) → left was ≡ Some bytes
-      → Consumes (left was) (left is) came → IsStoredFault left health pulls limits earlier was came is fault → IsOfPart limits bytes fault
-  fault_of_part earlier was bytes came is (faults.Sink sinks.OutOfMemory) told consumed why = tt
-  fault_of_part earlier was bytes came is fault told consumed why =
-      of_part left health pulls limits earlier was bytes came is fault told consumed why
-
   stops_part : (parts : List (List ℕ)) (old new : List R) (index : ℕ) (fault : PartFault) → Tell left old parts
-      → StopsReader left health pulls limits old new index fault → StopsPart left health pulls limits parts old new index fault
+      → StopsReader left health pulls limits old new index fault
+      → RefusesPart left health pulls HaveObject limits parts old new index fault
   stops_part parts old new index fault told is =
       let place = placed left old parts index is.at.was told is.at.was_there in
       let stated = subst (λ (ls : List (Option (List ℕ))). AreGiven limits ls is.given) place.told_before is.of_readers in
@@ -79,38 +75,9 @@ module _ {R : Type 0} (left : R → Option (List ℕ)) (health : R → Health) (
         stated = stated;
         at = is.at;
         told = place.told;
-        of_part = fault_of_part is.given is.at.was place.bytes is.at.came is.at.is fault place.told is.at.consumed is.at.refused;
+        of_part = of_part left health pulls HaveObject limits is.given is.at.was place.bytes is.at.came is.at.is fault place.told
+            is.at.consumed is.at.refused;
       }
-
-  never_stopped : (parts : List (List ℕ)) (ids : IdSize) (millis : ℕ) (facts : List FactValue) (old new : List R) (index : ℕ)
-      (fault : PartFault) → limits.max_item ≤ longest_body → IsState parts ids millis facts
-      → StopsPart left health pulls limits parts old new index fault
-      → All (λ reader. health reader ≡ healths.Well) new → (is_want fault ≡ true → ⊥) → ⊥
-  never_stopped parts ids millis facts old new index (faults.Sink sinks.OutOfMemory) le state is well unhindered = unhindered refl
-  never_stopped parts ids millis facts old new index fault le state is well unhindered =
-      never_refused left health pulls limits parts ids millis facts old new index fault le state (record {
-        before = is.before;
-        bytes = is.bytes;
-        after = is.after;
-        in_order = is.in_order;
-        place = is.place;
-        accepted = is.accepted;
-        given = is.given;
-        stated = is.stated;
-        at = record {
-          was = is.at.was;
-          is = is.at.is;
-          was_there = is.at.was_there;
-          is_there = is.at.is_there;
-          came = is.at.came;
-          consumed = is.at.consumed;
-          spared = is.at.spared;
-          refused = is.at.refused;
-          unread = is.at.unread;
-        };
-        told = is.told;
-        of_part = is.of_part;
-      }) well unhindered
 
   none_for_scratch : (old new : List R) (why : ScratchFault) → StopsForScratch old new why → old ≡ []
       → (Some (stops.Scratch why) ≡ Some (stops.Scratch scratches.OutOfMemory)) ⊎ (Some (stops.Scratch why) ≡ Some stops.NoParts)
@@ -136,7 +103,8 @@ module _ {R : Type 0} (left : R → Option (List ℕ)) (health : R → Health) (
       scratch = λ why e. absurd cc;
       accepted = λ all. absurd all;
     },
-    λ parts ids millis facts told state fine unhindered. absurd (never_stopped parts ids millis facts old new index fault le state
+    λ parts ids millis facts told state fine unhindered. absurd (never_refused left health pulls HaveObject limits parts ids millis facts old new
+        index fault le state
         (stops_part parts old new index fault told reads) fine unhindered),
   )
   stopped g written well scratch old new (stops.Scratch why) reads le = (

@@ -19,7 +19,10 @@ use Rattle.hprof_segments.specs.declared.segment_fault.SegmentFault.{SegmentFaul
 use Rattle.hprof_objects.specs.declared.object_stop.ObjectStop.{ObjectStop}
 use Rattle.hprof_objects.specs.declared.object_stop.ObjectStop.TheVariants as stops
 use Rattle.hprof_objects.specs.declared.stored_objects.StoredObjects.{StoredObjects}
+use Rattle.hprof_objects.specs.declared.stretch_fault.StretchFault.TheVariants as stretches
+use Rattle.hprof_objects.specs.MergedObjects.{TellsChange}
 use Rattle.hprof_objects.specs.PartsRead.{PartRead}
+use Rattle.hprof_runs.specs.declared.run_fault.RunFault.TheVariants as runs
 use Rattle.hprof_objects.specs.ReadAgain.{IsSame, IsSameAt}
 use Rattle.hprof_objects.specs.StoredObjects.{AreToldAgain, HoldsObjects, objects_of}
 use Rattle.hprof_objects.specs.Whole.{AreObjects, FitGiven, rows_given, with_objects, without_objects}
@@ -34,8 +37,8 @@ use Rattle.hprof_devices.specs.declared.health.Health.{Health}
 use Rattle.hprof_devices.specs.declared.health.Health.TheVariants as healths
 use Rattle.hprof_devices.specs.declared.health.WriteFault.TheVariants as writes
 use Rattle.hprof_segments.specs.declared.segment_fault.SegmentFault.TheVariants as segments
-use Rattle.hprof_stored.specs.Dumping.{AreSubRecords, IsOfDevices, LeavesTarget, FindsLeast, dump_with}
-use Rattle.hprof_stored.specs.JoiningStored.{IsFound, IsHinderedStop, IsTwoContents}
+use Rattle.hprof_stored.specs.Dumping.{AreSubRecords, IsOfDevices, IsOfTarget, LeavesTarget, FindsLeast, dump_with}
+use Rattle.hprof_stored.specs.JoiningStored.{IsFound, IsHinderedStop, IsSameStop, IsTwoContents}
 use Rattle.hprof_stored.specs.Parts.{AreStored, PartStored, all_read, given_of, others_of, read_of}
 use Rattle.hprof_stored.proofs.Dumped.{dump_of_all, rows_are_subs}
 
@@ -78,6 +81,30 @@ module _ (limits : Limits) where
     part_fits first.bytes first.given.header.ids first.given.header.millis first.given.facts are.0.states,
     fits parts stored are.1,
   )
+
+-- want of memory and a fault of the target tell of no change
+pub no_change : {S : Type 0} (written : S → Option (List ℕ)) (health : S → Health) (limits : Limits) (told : List (Option (List ℕ)))
+    (objects : StoredObjects S) (stop : ObjectStop SegmentFault) → IsOfTarget stop → TellsChange written health limits told objects stop
+no_change written health limits told objects stops.OutOfMemory is = tt
+no_change written health limits told objects (stops.TwoContents key) is = absurd is
+no_change written health limits told objects (stops.Scratch fault) is = absurd is
+no_change written health limits told objects (stops.Part part fault) is = absurd is
+no_change written health limits told objects (stops.Sink fault) is = tt
+
+-- where the parts are told again, none has changed, and no scratch is damaged
+pub same_stop : {S : Type 0} (written : S → Option (List ℕ)) (health : S → Health) (limits : Limits) (told : List (Option (List ℕ)))
+    (reads : List PartRead) (objects : StoredObjects S) → AreToldAgain written health limits told reads objects
+    → (stop : ObjectStop SegmentFault) → TellsChange written health limits told objects stop → IsSameStop stop
+same_stop written health limits told reads objects again stops.OutOfMemory tells = tt
+same_stop written health limits told reads objects again (stops.TwoContents key) tells = tt
+same_stop written health limits told reads objects again (stops.Scratch runs.OutOfMemory) tells = tt
+same_stop written health limits told reads objects again (stops.Scratch runs.Read) tells = tt
+same_stop written health limits told reads objects again (stops.Scratch runs.Damaged) tells = tells reads again.holds
+same_stop written health limits told reads objects again (stops.Part part stretches.OutOfMemory) tells = tt
+same_stop written health limits told reads objects again (stops.Part part stretches.Read) tells = tt
+same_stop written health limits told reads objects again (stops.Part part stretches.Changed) tells =
+    tells reads again.holds (again.same part)
+same_stop written health limits told reads objects again (stops.Sink fault) tells = tt
 
 pub rows_same : (stored : List PartStored) → objects_of (all_read stored) ≡ map rows_given (given_of stored)
 rows_same [] = refl

@@ -29,7 +29,8 @@ use Rattle.hprof_placed.proofs.Listing.{handed_up_to, handed_whole}
 use Rattle.hprof_stored.specs.declared.stored_sink.StoredSink.{StoredSink}
 use Rattle.hprof_stored.specs.Holding.{Earlier, HoldsAll, HoldsHeader, HoldsStored}
 use Rattle.hprof_stored.specs.Parts.{given_of, others_of}
-use Rattle.hprof_stored.specs.Reading.{AreSoMany, IsStoredFault, StopsForScratch, StopsReader, StoresAll, stop_of}
+use Rattle.hprof_engine.specs.Joining.{IsPartFault}
+use Rattle.hprof_stored.specs.Reading.{AreSoMany, StopsForScratch, StopsReader, StoresAll, stop_of}
 use Rattle.hprof_stored.specs.Storing.{HaveObject, IsFull, IsStoredRefusal, RefusesStored, Storing, storing}
 use Rattle.hprof_stored.proofs.Fresh.{new_behind_all}
 
@@ -133,7 +134,7 @@ module _ {S : Type 0} (written : S → Option (List ℕ)) (well : S → Health) 
     -- with which fault the part is refused
     pub is_fault : (fault : PartFault) → (fault ≡ faults.Sink sinks.Failed → ⊥)
         → ListsPart left health pulls limits was came is (Err fault) handed → Comes fault
-        → IsStoredFault left health pulls limits (given_of earlier.parts) was came is fault
+        → IsPartFault left health pulls HaveObject limits (given_of earlier.parts) was came is fault
     is_fault (faults.Sink sinks.OutOfMemory) other reads comes =
         let up = handed_up_to left health pulls limits was is came sinks.OutOfMemory handed reads in
         let bare = bare_item sinks.OutOfMemory reads in

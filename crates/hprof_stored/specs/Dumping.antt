@@ -80,3 +80,11 @@ IsOfDevices (stops.Scratch fault) = ⊤
 IsOfDevices (stops.Part part fault) = ⊤
 IsOfDevices (stops.Sink segments.NoSubRecord) = ⊥
 IsOfDevices (stops.Sink (segments.Write fault)) = ⊤
+
+-- memory or the target is the reason
+abbrev pub IsOfTarget : ObjectStop SegmentFault → Type 0
+IsOfTarget stops.OutOfMemory = ⊤
+IsOfTarget (stops.TwoContents key) = ⊥
+IsOfTarget (stops.Scratch fault) = ⊥
+IsOfTarget (stops.Part part fault) = ⊥
+IsOfTarget (stops.Sink fault) = ⊤

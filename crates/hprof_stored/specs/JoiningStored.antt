@@ -5,13 +5,15 @@ use Rattle.hprof_devices.specs.declared.health.Health.TheVariants.{Well}
 use Rattle.hprof_stream.specs.declared.limits.Limits.{Limits}
 use Rattle.hprof_rows.specs.declared.key.Key.TheVariants as keys
 use Rattle.hprof_segments.specs.declared.segment_fault.SegmentFault.{SegmentFault}
+use Rattle.hprof_runs.specs.RunFault.{IfDamaged}
+use Rattle.hprof_objects.specs.StretchFault.{ByFault}
 use Rattle.hprof_objects.specs.declared.object_stop.ObjectStop.{ObjectStop}
 use Rattle.hprof_objects.specs.declared.object_stop.ObjectStop.TheVariants as stops
 use Rattle.hprof_engine.specs.Joining.{AreReadOut, Disagree}
 use Rattle.hprof_engine.specs.Makes.{IsDump, WritesAll, WritesFront}
 use Rattle.hprof_stored.specs.declared.join_stop.JoinStop.{JoinStop}
 use Rattle.hprof_stored.specs.declared.join_stop.JoinStop.TheVariants as joins
-use Rattle.hprof_stored.specs.Dumping.{LeavesTarget}
+use Rattle.hprof_stored.specs.Dumping.{IsOfDevices, LeavesTarget}
 use Rattle.hprof_stored.specs.Reading.{AreSoMany, IsHinderedStored, IsOkOrConflictStored, ReadsStored}
 
 -- why nothing was written, where all parts were read: two objects of the parts have this identifier and different contents, and this is the
@@ -23,14 +25,22 @@ IsFound parts (stops.Scratch fault) = ⊤
 IsFound parts (stops.Part part fault) = ⊤
 IsFound parts (stops.Sink fault) = ⊥
 
+-- no part has changed, and no scratch is damaged
+abbrev pub IsSameStop : ObjectStop SegmentFault → Type 0
+IsSameStop stops.OutOfMemory = ⊤
+IsSameStop (stops.TwoContents id) = ⊤
+IsSameStop (stops.Scratch fault) = IfDamaged fault ⊥
+IsSameStop (stops.Part part fault) = ByFault fault ⊤ ⊥
+IsSameStop (stops.Sink fault) = ⊤
+
 -- what was written of the parts: all of their canonical dump, or a front of it where writing stopped
 --   before, after: what the target held
 abbrev pub EndsJoin : List (List ℕ) → (before after : Option (List ℕ)) → Result (Unit {0}) JoinStop → Type 0
 EndsJoin parts before after (Ok done) = WritesAll IsDump parts before after
 EndsJoin parts before after (Err joins.OutOfMemory) = ⊤
 EndsJoin parts before after (Err (joins.Reading fault)) = ⊤
-EndsJoin parts before after (Err (joins.Objects stop)) = IsFound parts stop
-EndsJoin parts before after (Err (joins.Writing stop)) = WritesFront IsDump parts before after
+EndsJoin parts before after (Err (joins.Objects stop)) = IsFound parts stop × IsSameStop stop
+EndsJoin parts before after (Err (joins.Writing stop)) = WritesFront IsDump parts before after × IsOfDevices stop × IsSameStop stop
 
 -- what becomes of the target: it is unchanged where nothing was to be written yet
 abbrev pub LeavesJoined : {W : Type 0} → (W → Health) → (before after : W) → Result (Unit {0}) JoinStop → Type 0

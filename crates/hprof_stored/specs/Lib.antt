@@ -8,3 +8,4 @@ pub mod JoiningStored
 pub mod RowDecoder
 pub mod ObjectCounter
 pub mod InParts
+pub mod StoredMaking

@@ -23,7 +23,7 @@ use Rattle.hprof_heap.specs.State.{HaveTwoSizes}
 use Rattle.hprof_runs.specs.declared.scratch_fault.ScratchFault.{ScratchFault}
 use Rattle.hprof_runs.specs.declared.scratch_fault.ScratchFault.TheVariants as scratches
 use Rattle.hprof_objects.specs.Log.{HoldsParts, scratch_of_log}
-use Rattle.hprof_engine.specs.Joining.{AreGiven, AreReadOut, Disagree, IsAccepted, IsOfPart, IsPartFault, Tell, is_want}
+use Rattle.hprof_engine.specs.Joining.{AreGiven, AreReadOut, Disagree, IsAccepted, RefusesAt, RefusesPart, Tell, is_want}
 use Rattle.hprof_engine.specs.Summaries.{HoldsFirst}
 use Rattle.hprof_stored.specs.declared.stored_fault.StoredFault.{StoredFault}
 use Rattle.hprof_stored.specs.declared.stored_fault.StoredFault.TheVariants as stops
@@ -74,47 +74,11 @@ pub record ReadsFirst {R S : Type 0} (left : R → Option (List ℕ)) (health : 
 -- ---- a part that is refused
 
 module _ {R : Type 0} (left : R → Option (List ℕ)) (health : R → Health) (pulls : R → ℕ) where
-  -- with which fault a part is refused of which these bytes came, as `IsPartFault`; but memory may also be wanted for an object that is
-  -- not new
-  --   earlier: what the parts before it gave
-  abbrev pub IsStoredFault : Limits → List Given → R → List ℕ → R → PartFault → Type 0
-  IsStoredFault limits earlier was came is (faults.Sink sinks.OutOfMemory) =
-      (why : IsReadingFault left health pulls limits was came is (faults.Sink sinks.OutOfMemory))
-      × (HaveObject why.1.whole.last.facts
-      ⊎ IsNewBehind earlier (header_before why.1.whole.before) (all_facts why.1.whole.items) why.1.whole.last.facts)
-  IsStoredFault limits earlier was came is fault = IsPartFault left health pulls limits earlier was came is fault
-
-  -- the reader at that place was read over these bytes and was refused with the fault; those behind it were not touched
-  pub record StopsAt (limits : Limits) (earlier : List Given) (old new : List R) (index : ℕ) (fault : PartFault) : Type 0 where
-    pub was : R
-    pub is : R
-    pub was_there : slice_get old index ≡ Some was
-    pub is_there : slice_get new index ≡ Some is
-    pub came : List ℕ
-    pub consumed : Consumes (left was) (left is) came
-    pub spared : pulls is ≤ pulls was + limits.max_reads
-    pub refused : IsStoredFault limits earlier was came is fault
-    pub unread : (k : ℕ) → index < k → slice_get new k ≡ slice_get old k
-
   -- the reader at that place was refused, and those before it gave their parts
   pub record StopsReader (limits : Limits) (old new : List R) (index : ℕ) (fault : PartFault) : Type 0 where
     pub given : List Given
     pub of_readers : AreGiven limits (map left (take index old)) given
-    pub at : StopsAt limits given old new index fault
-
-  -- the part at that place was refused with the fault; all parts before it were read to their ends
-  pub record StopsPart (limits : Limits) (parts : List (List ℕ)) (old new : List R) (index : ℕ) (fault : PartFault) : Type 0 where
-    pub before : List (List ℕ)
-    pub bytes : List ℕ
-    pub after : List (List ℕ)
-    pub in_order : parts ≡ before ++ bytes ∷ after
-    pub place : length before ≡ index
-    pub accepted : AllByRecursion (IsAccepted limits) before
-    pub given : List Given
-    pub stated : AreGiven limits (map Some before) given
-    pub at : StopsAt limits given old new index fault
-    pub told : left at.was ≡ Some bytes
-    pub of_part : IsOfPart limits bytes fault
+    pub at : RefusesAt left health pulls HaveObject limits given old new index fault
 
 -- ---- scratch
 
@@ -158,7 +122,7 @@ AreAllRead (Some (stops.Part index fault)) = ⊥
 AreAllRead (Some (stops.Scratch why)) = ⊥
 AreAllRead other = ⊤
 
--- what reading answers of the parts, as `Reads` says it; a conflict of objects is not among the answers
+-- what reading answers of the parts, as `Reads` says it, and memory is taken for each object; a conflict of objects is not among the answers
 --   old, new: the readers, before and afterwards;  ended: the fault that reading ended with, if any
 pub record ReadsStored {R : Type 0} (left : R → Option (List ℕ)) (health : R → Health) (pulls : R → ℕ) (limits : Limits) (old new : List R)
     (ended : Option StoredFault) : Type 0 where
@@ -171,7 +135,7 @@ pub record ReadsStored {R : Type 0} (left : R → Option (List ℕ)) (health : R
   pub conflict : (key : Key) → ended ≡ Some (stops.Conflict key) → (parts : List (List ℕ)) → Tell left old parts → Disagree parts key
   -- that part was refused with that fault
   pub part : (index : ℕ) (fault : PartFault) → ended ≡ Some (stops.Part index fault) → (parts : List (List ℕ)) → Tell left old parts
-      → StopsPart left health pulls limits parts old new index fault
+      → RefusesPart left health pulls HaveObject limits parts old new index fault
   -- the scratch took no more
   pub scratch : (why : ScratchFault) → ended ≡ Some (stops.Scratch why) → StopsForScratch old new why
   -- where all were read, all were accepted

@@ -12,12 +12,13 @@ ghost use Rattle.hprof_dump.specs.Dump.{record_facts_bytes};
 ghost use Rattle.hprof_heap.specs.Heap.{heap_of};
 ghost use Rattle.hprof_merge.specs.Rows.{ByteRow};
 ghost use Rattle.hprof_merge.specs.Union.{IsUnion};
+ghost use Rattle.hprof_objects.specs.MergedObjects.{TellsChange};
 ghost use Rattle.hprof_objects.specs.PartsRead.{PartRead};
 ghost use Rattle.hprof_objects.specs.StoredObjects.{AreToldAgain, objects_of};
 ghost use Rattle.hprof_segments.specs.ByteSegments.{segment_records};
 ghost use Rattle.hprof_segments.specs.Taking.{HasTaken};
 ghost use Rattle.hprof_segments.specs.Writer.{held_bytes};
-ghost use Rattle.hprof_stored.specs.Dumping.{AreSubRecords, IsOfDevices, LeavesTarget, TakesSubs, WritesOrStops};
+ghost use Rattle.hprof_stored.specs.Dumping.{AreSubRecords, IsOfDevices, IsOfTarget, LeavesTarget, TakesSubs, WritesOrStops};
 ghost use Rattle.hprof_stored.specs.Dumping.{bytes_of, dump_with, subs_of};
 
 use crate::sub_buffer::SubBuffer;
@@ -49,6 +50,7 @@ fn take_sub<W: Target>(
     ensures taken { (start : Option (List ℕ)) (subs : List (List ℕ)) → HasTaken start (W.written target.old) (held_bytes writer.old) subs
         → TakesSubs start (W.written target.new) (held_bytes writer.new) (subs ++ dump_bytes ids (sub_fact ids row.entry) ∷ []) result }
     ensures stops { IfErr result IsOfDevices }
+    ensures target { IfErr result IsOfTarget }
     ensures buffer { OnOk result (buffer.new.health ≡ Well) }
     ensures health { LeavesTarget result (W.health target.new) }
 {
@@ -76,6 +78,7 @@ fn take_subs<W: Target>(
     requires empty { held_bytes writer.old ≡ [] }
     ensures taken { TakesSubs (W.written target.old) (W.written target.new) (held_bytes writer.new) (subs_of (heap_of heap.now)) result }
     ensures stops { IfErr result IsOfDevices }
+    ensures target { IfErr result IsOfTarget }
     ensures health { LeavesTarget result (W.health target.new) }
 {
     let mut buffer = SubBuffer::new(alloc);
@@ -107,6 +110,7 @@ fn take_objects<S: Scratch + Drop, R: Source + Drop, P: Parts<Reader = R>, W: Ta
     ensures stops { IfErr result (λ stop. (reads : List PartRead) (rows : List ByteRow)
         → AreToldAgain S.written S.health limits (P.bytes parts.now) reads objects.now → IsUnion (objects_of reads) rows
         → AreSubRecords rows → IsOfDevices stop) }
+    ensures again { IfErr result (TellsChange S.written S.health limits (P.bytes parts.now) objects.now) }
     ensures health { LeavesTarget result (W.health target.new) }
 {
     let mut sink = SegmentSink::new(writer, target);
@@ -170,6 +174,7 @@ pub fn write_stored_dump<S: Scratch + Drop, R: Source + Drop, P: Parts<Reader = 
     ensures stops { IfErr result (λ stop. (reads : List PartRead) (rows : List ByteRow)
         → AreToldAgain S.written S.health limits (P.bytes parts.now) reads objects.now → IsUnion (objects_of reads) rows
         → AreSubRecords rows → IsOfDevices stop) }
+    ensures again { IfErr result (TellsChange S.written S.health limits (P.bytes parts.now) objects.now) }
     ensures health { LeavesTarget result (W.health target.new) }
 {
     if let Err(fault) = write_front(heap, target) {

@@ -5,9 +5,11 @@ ghost use Rattle.hprof_devices.specs.declared.health.Health.TheVariants.{Well};
 ghost use Rattle.hprof_values.specs.declared.ids.IdSize.{IdSize};
 ghost use Rattle.hprof_items.specs.FactValue.{FactValue};
 ghost use Rattle.hprof_heap.specs.State.{IsState};
-ghost use Rattle.hprof_engine.specs.Joining.{Tell};
+ghost use Rattle.hprof_engine.specs.Joining.{Tell, fault_of};
+ghost use Rattle.hprof_engine.specs.Makes.{Makes};
 ghost use Rattle.hprof_runs.specs.ReadBack.{HoldsNothing};
 ghost use Rattle.hprof_stored.specs.JoiningStored.{EndsJoin, IsHinderedJoin, IsJoinedOrConflict, LeavesJoined, ReadsJoined, ReadsOut};
+ghost use Rattle.hprof_stored.specs.StoredMaking.{CanBeReadAgain, stored_dump_making};
 
 use crate::dumping::write_stored_dump;
 use crate::finding::find_conflict;
@@ -15,7 +17,7 @@ use crate::join_stop::JoinStop;
 use crate::reading::read_stored;
 use crate::stored_heap::StoredHeap;
 use hprof_devices::{Source, Target};
-use hprof_engine::NoSummaries;
+use hprof_engine::{NoSummaries, ToolFault};
 use hprof_objects::Keeping;
 use hprof_objects::laws::{conflicts_of_objects_come_last, objects_stand_behind};
 use hprof_parts::Parts;
@@ -24,18 +26,8 @@ use hprof_segments::SegmentWriter;
 use hprof_stream::Limits;
 use std::alloc::Global;
 
-/// Reads all parts, and writes the canonical dump of their facts. Objects stay in the parts or go to scratch, as `keeping` says, and are
-/// read again to be written: `parts` opens the same parts as the readers.
-///
-/// # Errors
-///
-/// The first of these that applies is the fault.
-///
-/// - `OutOfMemory`: memory ran out before any part was read.
-/// - `Reading`: the parts were refused, as `read_stored` says. Nothing was written.
-/// - `Objects`: objects have two contents, or cannot be read again. Nothing was written.
-/// - `Writing`: the target failed, or the objects cannot be read again. A prefix of the dump was written.
-pub fn join_stored<R: Source, S: Scratch + Drop, Q: Source + Drop, P: Parts<Reader = Q>, W: Target>(
+/// Reads all parts, and writes the canonical dump of their facts, as [`join_stored`] does. Why it stopped tells whether writing had begun.
+fn join_or_stop<R: Source, S: Scratch + Drop, Q: Source + Drop, P: Parts<Reader = Q>, W: Target>(
     alloc: Global,
     readers: &mut [R],
     parts: &P,
@@ -91,5 +83,43 @@ pub fn join_stored<R: Source, S: Scratch + Drop, Q: Source + Drop, P: Parts<Read
     match write_stored_dump(alloc, &heap, &objects, parts, limits, &mut writer, target) {
         Ok(()) => Ok(()),
         Err(stop) => Err(JoinStop::Writing(stop)),
+    }
+}
+
+/// Reads all parts, and writes the canonical dump of their facts. Objects stay in the parts or go to scratch, as `keeping` says, and are
+/// read again to be written: `parts` opens the same parts as the readers.
+///
+/// # Errors
+///
+/// The first of these that applies is the fault.
+///
+/// - `Part`, `NoParts`, `IdSizes`: a part was refused, there are no parts, or they have two sizes of identifiers. Nothing was written.
+/// - `Conflict`: two facts have one key and different contents. This is the least such key, and nothing was written.
+/// - `Lost`: the objects cannot be read again, or the scratch failed. A prefix of the dump was written, or nothing.
+/// - `Write`: the target failed. A prefix of the dump was written.
+/// - `OutOfMemory`: memory ran out, but not while a part was read. A prefix of the dump was written, or nothing.
+pub fn join_stored<R: Source, S: Scratch + Drop, Q: Source + Drop, P: Parts<Reader = Q>, W: Target>(
+    alloc: Global,
+    readers: &mut [R],
+    parts: &P,
+    limits: Limits,
+    keeping: Keeping,
+    scratch: S,
+    target: &mut W,
+) -> Result<(), ToolFault>
+    requires readers { All (λ reader. R.health reader ≡ Well) readers.old }
+    requires nothing { HoldsNothing (S.written scratch) }
+    requires well { S.health scratch ≡ Well }
+    requires target { W.health target.old ≡ Well }
+    requires again { CanBeReadAgain R.left readers.old (P.bytes parts.now) (S.written scratch) }
+    ensures { Makes R.left R.health R.pulls W.written W.health limits stored_dump_making readers.old readers.new target.old target.new
+        (fault_of result) }
+{
+    if readers.is_empty() {
+        return Err(ToolFault::NoParts);
+    }
+    match join_or_stop(alloc, readers, parts, limits, keeping, scratch, target) {
+        Ok(()) => Ok(()),
+        Err(stop) => Err(ToolFault::from(stop)),
     }
 }

@@ -21,7 +21,6 @@ mod sub_buffer;
 pub use dumping::write_stored_dump;
 pub use finding::find_conflict;
 pub use in_parts::InParts;
-pub use join_stop::JoinStop;
 pub use joining::join_stored;
 pub use pass_fault::PassFault;
 pub use reading::read_stored;

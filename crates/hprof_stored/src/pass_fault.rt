@@ -1,5 +1,7 @@
 //! Why the objects of parts cannot be gone through.
 
+use hprof_engine::{Loss, ToolFault};
+use hprof_heap::Key;
 use hprof_objects::StretchFault;
 use hprof_runs::RunFault;
 
@@ -23,4 +25,36 @@ pub enum PassFault {
     NoObject,
     /// There are more objects than a `u64` can count: 2^64. Only `count` answers it.
     TooMany,
+}
+
+impl From<PassFault> for ToolFault {
+    ghost use Rattle.std.specs.Prelude.{◌≡◌};
+    ghost use Rattle.hprof_stored.specs.StoredMaking.{fault_of_pass};
+
+    ghost from_gives = { λ fault given. given ≡ fault_of_pass fault };
+
+    fn from(fault: PassFault) -> ToolFault {
+        match fault {
+            PassFault::OutOfMemory
+            | PassFault::TooMany
+            | PassFault::Scratch(RunFault::OutOfMemory)
+            | PassFault::Part {
+                fault: StretchFault::OutOfMemory,
+                ..
+            } => ToolFault::OutOfMemory,
+            PassFault::TwoContents(id) => ToolFault::Conflict(Key::Object(id)),
+            PassFault::Scratch(RunFault::Read | RunFault::Damaged) => {
+                ToolFault::Lost(Loss::Scratch)
+            }
+            PassFault::Part {
+                part,
+                fault: StretchFault::Read,
+            } => ToolFault::Lost(Loss::Read(part)),
+            PassFault::Part {
+                part,
+                fault: StretchFault::Changed,
+            } => ToolFault::Lost(Loss::Changed(part)),
+            PassFault::NoObject => ToolFault::Lost(Loss::Objects),
+        }
+    }
 }

@@ -1,5 +1,6 @@
 //! Reasons why parts are refused.
 
+use hprof_engine::{Loss, ToolFault};
 use hprof_heap::Key;
 use hprof_runs::ScratchFault;
 use hprof_stream::PartFault;
@@ -22,4 +23,24 @@ pub enum StoredFault {
     Conflict(Key),
     /// The scratch took no more objects. `OutOfMemory`: memory ran out before any part was read.
     Scratch(ScratchFault),
+}
+
+impl From<StoredFault> for ToolFault {
+    ghost use Rattle.std.specs.Prelude.{◌≡◌};
+    ghost use Rattle.hprof_stored.specs.StoredMaking.{fault_of_reading};
+
+    ghost from_gives = { λ fault given. given ≡ fault_of_reading fault };
+
+    fn from(fault: StoredFault) -> ToolFault {
+        match fault {
+            StoredFault::Part { index, fault } => ToolFault::Part { index, fault },
+            StoredFault::NoParts => ToolFault::NoParts,
+            StoredFault::IdSizes => ToolFault::IdSizes,
+            StoredFault::Conflict(key) => ToolFault::Conflict(key),
+            StoredFault::Scratch(ScratchFault::OutOfMemory) => ToolFault::OutOfMemory,
+            StoredFault::Scratch(ScratchFault::Full | ScratchFault::Write(_)) => {
+                ToolFault::Lost(Loss::Scratch)
+            }
+        }
+    }
 }

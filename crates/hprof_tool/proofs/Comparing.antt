@@ -14,7 +14,7 @@ use Rattle.hprof_tool.specs.Comparing.{IsFrontOfBoth, IsOfComparing, IsOfOpening
 use Rattle.hprof_tool.specs.Comparing.{SaysOfTwo, StopsComparing}
 use Rattle.hprof_tool.specs.Folder.{Answered}
 use Rattle.hprof_tool.specs.Program.{IsOfMaking, IsRefusal, of_dump, refused_of, usual_limits}
-use Rattle.hprof_tool.specs.Streams.{Leaves}
+use Rattle.hprof_tool.specs.Streams.{Leaves, LeavesFront}
 use Rattle.hprof_tool.proofs.Files.{one_told}
 use Rattle.hprof_tool.proofs.Making.{no_parts_told, none_added}
 
@@ -27,6 +27,7 @@ old_kind tool.IdSizes = tt
 old_kind (tool.Conflict key) = tt
 old_kind (tool.Write fault) = tt
 old_kind (tool.Refused refusal) = tt
+old_kind (tool.Lost loss) = tt
 old_kind tool.OutOfMemory = tt
 
 pub new_kind : (why : Refused) → IsOfMaking why → IsOfComparing (of_dump 1 why)
@@ -36,6 +37,7 @@ new_kind (refusals.Engine tool.IdSizes) kind = tt
 new_kind (refusals.Engine (tool.Conflict key)) kind = tt
 new_kind (refusals.Engine (tool.Write fault)) kind = tt
 new_kind (refusals.Engine (tool.Refused refusal)) kind = tt
+new_kind (refusals.Engine (tool.Lost loss)) kind = tt
 new_kind (refusals.Engine tool.OutOfMemory) kind = absurd kind
 new_kind (refusals.Dump place fault) kind = absurd kind
 new_kind (refusals.Open index) kind = absurd kind
@@ -68,6 +70,7 @@ module _ {R : Type 0} (left : R → Option (List ℕ)) (health : R → Health) (
   old_says others (tool.Conflict key) counts olds news told = inl (refl, refl, counts.reads.conflict key refl olds told)
   old_says others (tool.Write fault) counts olds news told = absurd (never counts.kind (λ k. k) (λ same. cc))
   old_says others (tool.Refused refusal) counts olds news told = absurd (never counts.kind (λ k. k) (λ same. cc))
+  old_says others (tool.Lost loss) counts olds news told = absurd (never counts.kind (λ k. k) (λ same. cc))
   old_says others tool.OutOfMemory counts olds news told = tt
 
   -- the stream is as it was
@@ -80,6 +83,7 @@ module _ {R : Type 0} (left : R → Option (List ℕ)) (health : R → Health) (
   old_leaves contents IsFront before (tool.Write fault) counts =
       absurd (never counts.kind (λ k. k) (λ same. cc))
   old_leaves contents IsFront before (tool.Refused refusal) counts = refl
+  old_leaves contents IsFront before (tool.Lost loss) counts = absurd (never counts.kind (λ k. k) (λ same. cc))
   old_leaves contents IsFront before tool.OutOfMemory counts = ([], inl (none_added (contents before)))
 
 -- ---- the newer parts were
@@ -121,6 +125,7 @@ module _ (totals : Totals) (olds : List (List ℕ)) (are : AreTotalsOf olds tota
   new_says left health pulls others others_then old new (refusals.Engine (tool.Write fault)) kind news says =
       (says.0, difference_made news says.0 says.1)
   new_says left health pulls others others_then old new (refusals.Engine (tool.Refused refusal)) kind news says = absurd says.1
+  new_says left health pulls others others_then old new (refusals.Engine (tool.Lost loss)) kind news says = absurd says.0
   new_says left health pulls others others_then old new (refusals.Engine tool.OutOfMemory) kind news says = absurd kind
   new_says left health pulls others others_then old new (refusals.Dump place fault) kind news says = absurd kind
   new_says left health pulls others others_then old new (refusals.Open index) kind news says = absurd kind
@@ -138,6 +143,8 @@ dump_leaves contents IsFront before (refusals.Engine (tool.Conflict key)) after 
 dump_leaves contents IsFront before (refusals.Engine (tool.Write fault)) (Some after) leaves = leaves
 dump_leaves contents IsFront before (refusals.Engine (tool.Write fault)) None leaves = leaves
 dump_leaves contents IsFront before (refusals.Engine (tool.Refused refusal)) after leaves = leaves
+dump_leaves contents IsFront before (refusals.Engine (tool.Lost loss)) (Some after) leaves = leaves
+dump_leaves contents IsFront before (refusals.Engine (tool.Lost loss)) None leaves = leaves
 dump_leaves contents IsFront before (refusals.Engine tool.OutOfMemory) after leaves = leaves
 dump_leaves contents IsFront before (refusals.Dump place fault) after leaves = leaves
 dump_leaves contents IsFront before (refusals.Open index) after leaves = leaves
@@ -190,6 +197,15 @@ module _ {P W O : Type 0} (answered : Answered P W) (tells : P → Option (List 
     front_of_dumps : (held holds : Option (List ℕ)) → IsFrontOfBoth tells olds news held holds → FrontOfDumps held holds
     front_of_dumps held holds front = over_dumps (λ one other. WritesFront (IsDifferenceOf one) other held holds) front
 
+    some_left : (after : O) → LeavesFront contents (IsFrontOfBoth tells olds news) before after → LeavesFront contents FrontOfDumps before after
+    some_left after leaves = (
+      leaves.0,
+      elim leaves.1 [
+        | inl none ↦ inl none
+        | inr front ↦ inr (front_of_dumps _ _ front)
+      ],
+    )
+
     dumps_left : (why : Refused) (after : Option O) → IsOfComparing why → Leaves contents (IsFrontOfBoth tells olds news) why before after
         → Leaves contents FrontOfDumps why before after
     dumps_left (refusals.Engine (tool.Write fault)) (Some after) kind leaves = (leaves.0, front_of_dumps _ _ leaves.1)
@@ -199,18 +215,14 @@ module _ {P W O : Type 0} (answered : Answered P W) (tells : P → Option (List 
     dumps_left (refusals.Engine tool.IdSizes) after kind leaves = absurd kind
     dumps_left (refusals.Engine (tool.Conflict key)) after kind leaves = absurd kind
     dumps_left (refusals.Engine (tool.Refused refusal)) after kind leaves = absurd kind
+    dumps_left (refusals.Engine (tool.Lost loss)) after kind leaves = absurd kind
     dumps_left (refusals.Engine tool.OutOfMemory) after kind leaves = absurd kind
+    dumps_left (refusals.Dump place (tool.Lost loss)) (Some after) kind leaves = some_left after leaves
     dumps_left (refusals.Dump place fault) after kind leaves = leaves
     dumps_left (refusals.Open index) after kind leaves = absurd kind
     dumps_left refusals.Create after kind leaves = absurd kind
     dumps_left refusals.Questions after kind leaves = absurd kind
-    dumps_left refusals.OutOfMemory (Some after) kind leaves = (
-      leaves.0,
-      elim leaves.1 [
-        | inl none ↦ inl none
-        | inr front ↦ inr (front_of_dumps _ _ front)
-      ],
-    )
+    dumps_left refusals.OutOfMemory (Some after) kind leaves = some_left after leaves
     dumps_left refusals.OutOfMemory None kind leaves = leaves
 
     pub dumps_refused : (olds_then news_then : List P) (why : Refused) (after : Option O)
@@ -222,6 +234,7 @@ module _ {P W O : Type 0} (answered : Answered P W) (tells : P → Option (List 
     dumps_refused olds_then news_then (refusals.Engine tool.IdSizes) after stops = absurd stops.0
     dumps_refused olds_then news_then (refusals.Engine (tool.Conflict key)) after stops = absurd stops.0
     dumps_refused olds_then news_then (refusals.Engine (tool.Refused refusal)) after stops = absurd stops.0
+    dumps_refused olds_then news_then (refusals.Engine (tool.Lost loss)) after stops = absurd stops.0
     dumps_refused olds_then news_then (refusals.Engine tool.OutOfMemory) after stops = absurd stops.0
     dumps_refused olds_then news_then (refusals.Dump place fault) after stops = (
       record {

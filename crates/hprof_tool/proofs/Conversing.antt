@@ -152,6 +152,7 @@ module _ {R Q W O : Type 0} (left : R → Option (List ℕ)) (health : R → Hea
           ((tt, λ parts told. a.reads.conflict key refl parts told), refused_parts (tool.Conflict key) a)
       of_parts_refused (tool.Write fault) a kind = absurd kind
       of_parts_refused (tool.Refused refusal) a kind = absurd kind
+      of_parts_refused (tool.Lost loss) a kind = absurd kind
       of_parts_refused tool.OutOfMemory a kind = absurd kind
 
       -- nothing is left behind
@@ -188,6 +189,7 @@ cannot_read_on state turns is (faults.Parts tool.IdSizes) cannot same = absurd c
 cannot_read_on state turns is (faults.Parts (tool.Conflict key)) cannot same = absurd cc
 cannot_read_on state turns is (faults.Parts (tool.Refused refusal)) cannot same = absurd cc
 cannot_read_on state turns is (faults.Parts (tool.Write why)) cannot same = absurd cc
+cannot_read_on state turns is (faults.Parts (tool.Lost loss)) cannot same = absurd cc
 cannot_read_on state turns is (faults.Parts tool.OutOfMemory) cannot same = absurd cc
 
 -- ---- of files
@@ -233,6 +235,7 @@ module _ {O : Type 0} (contents : O → Option (List ℕ)) (old : O) (From To : 
   leaves_over (refusals.Engine tool.IdSizes) new leaves = (says (refusals.Engine tool.IdSizes) leaves.0, leaves.1)
   leaves_over (refusals.Engine (tool.Conflict key)) new leaves = (says (refusals.Engine (tool.Conflict key)) leaves.0, leaves.1)
   leaves_over (refusals.Engine (tool.Refused refusal)) new leaves = leaves
+  leaves_over (refusals.Engine (tool.Lost loss)) new leaves = leaves
   leaves_over (refusals.Engine tool.OutOfMemory) new leaves = leaves
   leaves_over (refusals.Dump place fault) new leaves = leaves
   leaves_over (refusals.Open index) new leaves = (says (refusals.Open index) leaves.0, leaves.1)

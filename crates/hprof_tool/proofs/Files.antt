@@ -112,6 +112,7 @@ module _ {P W : Type 0} (making : Making) (answered : Answered P W) (left : P â†
     of_reporting (refusals.Engine (tool.Conflict key)) kind says = record { old = old; new = new; opened = opened; holds = says }
     of_reporting (refusals.Engine (tool.Refused refusal)) kind says = record { old = old; new = new; opened = opened; holds = says }
     of_reporting (refusals.Engine (tool.Write fault)) kind says = record { old = old; new = new; opened = opened; holds = says }
+    of_reporting (refusals.Engine (tool.Lost loss)) kind says = record { old = old; new = new; opened = opened; holds = says }
     of_reporting (refusals.Engine tool.OutOfMemory) kind says = absurd kind
     of_reporting (refusals.Dump place fault) kind says = absurd kind
     of_reporting (refusals.Open index) kind says = absurd kind

@@ -11,13 +11,10 @@ use Rattle.hprof_devices.specs.declared.health.WriteFault.{WriteFault}
 use Rattle.hprof_devices.specs.declared.health.WriteFault.TheVariants as write_faults
 use Rattle.hprof_devices.specs.Device.{health_after}
 use Rattle.hprof_stream.specs.declared.limits.Limits.{Limits}
-use Rattle.hprof_stream.specs.declared.summary.PartSummary.{PartSummary}
-use Rattle.hprof_rows.specs.HeapValue.{HeapValue}
-use Rattle.hprof_engine.specs.declared.product_refusal.ProductRefusal.{ProductRefusal}
 use Rattle.hprof_engine.specs.declared.tool_fault.ToolFault.{ToolFault}
 use Rattle.hprof_engine.specs.declared.tool_fault.ToolFault.TheVariants as tool
 use Rattle.hprof_engine.specs.Joining.{Tell, IsBeforeWriting, fault_of}
-use Rattle.hprof_engine.specs.Makes.{Making, Makes, making_of}
+use Rattle.hprof_engine.specs.Makes.{Making, Makes}
 use Rattle.hprof_tool.specs.Program.{IsRefusal, MakesStream, usual_limits, refused_of}
 
 -- no reader tells no part
@@ -47,33 +44,26 @@ none_added (Some bytes) = ap Some (append-nil bytes)
 module _ {R : Type 0} (left : R → Option (List ℕ)) (health : R → Health) (pulls : R → ℕ) (old new : List R) where
   -- ---- what a refusal says
 
-  module _ {W : Type 0} (written : W → Option (List ℕ)) (well : W → Health) (IsText : List PartSummary → HeapValue → List ℕ → Type 0)
-      (Refuses : ProductRefusal → HeapValue → Type 0) (TakesRoom : ℕ → Type 0) (TakesMemory : Type 0) (before after : W) where
-    pub refusal : (fault : ToolFault)
-        → Makes left health pulls written well usual_limits (making_of IsText Refuses TakesRoom TakesMemory) old new before after
-        (Some fault) → (parts : List (List ℕ)) → Tell left old parts
-        → IsRefusal left health pulls old new (making_of IsText Refuses TakesRoom TakesMemory) (refused_of fault) parts
+  module _ {W : Type 0} (written : W → Option (List ℕ)) (well : W → Health) (making : Making) (before after : W) where
+    pub refusal : (fault : ToolFault) → Makes left health pulls written well usual_limits making old new before after (Some fault)
+        → (parts : List (List ℕ)) → Tell left old parts → IsRefusal left health pulls old new making (refused_of fault) parts
     refusal (tool.Part index fault) m parts told = m.reads.part index fault refl parts told
     refusal tool.NoParts m parts told = no_parts_told left old parts (m.reads.no_parts.0 refl) told
     refusal tool.IdSizes m parts told = m.reads.id_sizes refl parts told
     refusal (tool.Conflict key) m parts told = m.reads.conflict key refl parts told
     refusal (tool.Write fault) m parts told =
         let is = (m.write fault refl).1 parts told in (is.0, is.2)
-    refusal (tool.Refused why) m parts told = let is = m.refused why refl in (is.0, is.1, is.2 parts told)
+    refusal (tool.Refused why) m parts told = (m.refused why refl).1 parts told
+    refusal (tool.Lost loss) m parts told = let is = m.lost loss refl in (is.0, is.2 parts told)
     refusal tool.OutOfMemory m parts told = tt
 
   -- the same of what a stream tells
-  pub refused_by : (IsText : List PartSummary → HeapValue → List ℕ → Type 0) (Refuses : ProductRefusal → HeapValue → Type 0)
-      (TakesRoom : ℕ → Type 0)
-      (TakesMemory : Type 0)
-      (held holds : Option (List ℕ)) (end : Health) (fault : ToolFault)
-      → Makes {W = Option (List ℕ) × Health} left health pulls (λ s. s.0) (λ s. s.1) usual_limits
-      (making_of IsText Refuses TakesRoom TakesMemory) old new (held, healths.Well) (holds, end) (Some fault)
-      → (parts : List (List ℕ)) → Tell left old parts
-      → IsRefusal left health pulls old new (making_of IsText Refuses TakesRoom TakesMemory) (refused_of fault) parts
-  refused_by IsText Refuses TakesRoom TakesMemory held holds end fault m parts told =
-      refusal {W = Option (List ℕ) × Health} (λ s. s.0) (λ s. s.1) IsText Refuses TakesRoom TakesMemory (held, healths.Well) (holds, end)
-      fault m parts told
+  pub refused_by : (making : Making) (held holds : Option (List ℕ)) (end : Health) (fault : ToolFault)
+      → Makes {W = Option (List ℕ) × Health} left health pulls (λ s. s.0) (λ s. s.1) usual_limits making old new (held, healths.Well)
+      (holds, end) (Some fault)
+      → (parts : List (List ℕ)) → Tell left old parts → IsRefusal left health pulls old new making (refused_of fault) parts
+  refused_by making held holds end fault m parts told =
+      refusal {W = Option (List ℕ) × Health} (λ s. s.0) (λ s. s.1) making (held, healths.Well) (holds, end) fault m parts told
 
   -- ---- a device that is taken apart
 
@@ -88,6 +78,15 @@ module _ {R : Type 0} (left : R → Option (List ℕ)) (health : R → Health) (
       unwritten = λ none. let same = m.unwritten none in ap (λ (w : W). (written w, well w)) same;
       refused = m.refused;
       write = m.write;
+      lost = λ loss e.
+          let is = m.lost loss e in (
+            is.0,
+            elim is.1 [
+              | inl same ↦ inl (ap (λ (w : W). (written w, well w)) same)
+              | inr front ↦ inr front
+            ],
+            is.2,
+          );
       memory = λ e. elim (m.memory e) [
         | inl none ↦ inl (none.0, none.1, ap (λ (w : W). (written w, well w)) none.2)
         | inr all ↦ inr (
@@ -115,6 +114,7 @@ module _ {R : Type 0} (left : R → Option (List ℕ)) (health : R → Health) (
       unwritten = λ none. absurd none;
       refused = λ why e. absurd cc;
       write = λ fault e. absurd cc;
+      lost = λ loss e. absurd cc;
       memory = λ e. absurd cc;
       no_other = λ parts ids millis facts told state are_well is_well unhindered. tt;
     }
@@ -147,6 +147,7 @@ module _ {R : Type 0} (left : R → Option (List ℕ)) (health : R → Health) (
                   subst (Appends held end) (sym (take-length all.0)) (Appends-kept held holds end all.0 all.2 keeps),
                 ),
           );
+      lost = λ loss e. absurd cc;
       memory = λ e. absurd cc;
       no_other = λ parts ids millis facts told state are_well is_well unhindered. absurd cc;
     }

@@ -67,6 +67,7 @@ module _ {R : Type 0} (left : R → Option (List ℕ)) (health : R → Health) (
       wrote = is.wrote;
       ill = is.ill;
     }
+    shown_saving (Err (tool.Lost loss)) is = absurd is
     shown_saving (Err tool.OutOfMemory) is = (is.0, ap (λ (w : W). (written w, well w)) is.1)
 
   -- ---- a buffer that is flushed
@@ -168,4 +169,5 @@ module _ {P W : Type 0} (answered : Answered P W) (left : P → Option (List ℕ
     engine_saves (tool.Conflict key) saves created none = (was, is, unwritten, created, files_saved _ _ saves, none)
     engine_saves (tool.Refused refusal) saves created none = (was, is, unwritten, created, files_saved _ _ saves, none)
     engine_saves (tool.Write fault) saves created none = (was, is, unwritten, created, files_saved _ _ saves, none)
+    engine_saves (tool.Lost loss) saves created none = (was, is, unwritten, created, files_saved _ _ saves, none)
     engine_saves tool.OutOfMemory saves created none = none

@@ -3,13 +3,10 @@ use Rattle.std.proofs.Common.{◌≡◌, inl, inr, ℕ, List, [], length, Option
 use Rattle.std.specs.Borrow.{Bor}
 use Rattle.std.specs.Io.KnownBytes.{append_known}
 use Rattle.hprof_devices.specs.declared.health.Health.{Health}
-use Rattle.hprof_stream.specs.declared.summary.PartSummary.{PartSummary}
-use Rattle.hprof_rows.specs.HeapValue.{HeapValue}
-use Rattle.hprof_engine.specs.declared.product_refusal.ProductRefusal.{ProductRefusal}
 use Rattle.hprof_engine.specs.declared.tool_fault.ToolFault.{ToolFault}
 use Rattle.hprof_engine.specs.declared.tool_fault.ToolFault.TheVariants as tool
 use Rattle.hprof_engine.specs.Joining.{Tell, IsBeforeWriting}
-use Rattle.hprof_engine.specs.Makes.{WritesFront, IsMadeOf, making_of}
+use Rattle.hprof_engine.specs.Makes.{Making, WritesFront}
 use Rattle.hprof_tool.specs.declared.program.refused.Refused.{Refused}
 use Rattle.hprof_tool.specs.declared.program.refused.Refused.TheVariants as refusals
 use Rattle.hprof_tool.specs.Folder.{Answered}
@@ -25,6 +22,7 @@ kind_of tool.IdSizes = tt
 kind_of (tool.Conflict key) = tt
 kind_of (tool.Refused refusal) = tt
 kind_of (tool.Write fault) = tt
+kind_of (tool.Lost loss) = tt
 kind_of tool.OutOfMemory = tt
 
 -- no other refusal is that there are no parts
@@ -35,6 +33,7 @@ no_parts_of tool.IdSizes same = absurd cc
 no_parts_of (tool.Conflict key) same = absurd cc
 no_parts_of (tool.Refused refusal) same = absurd cc
 no_parts_of (tool.Write fault) same = absurd cc
+no_parts_of (tool.Lost loss) same = absurd cc
 no_parts_of tool.OutOfMemory same = absurd cc
 
 -- where a part cannot be opened, the stream is as it was
@@ -48,24 +47,21 @@ kept_at_opening contents IsFront answered names refusals.Create old is = absurd 
 kept_at_opening contents IsFront answered names refusals.Questions old is = absurd is
 kept_at_opening contents IsFront answered names refusals.OutOfMemory old is = ([], inl (none_added (contents old)))
 
-module _ {R W : Type 0} (left : R → Option (List ℕ)) (health : R → Health) (pulls : R → ℕ) (old new : List R)
-    (IsText : List PartSummary → HeapValue → List ℕ → Type 0) (Refuses : ProductRefusal → HeapValue → Type 0) (TakesRoom : ℕ → Type 0)
-    (TakesMemory : Type 0)
+module _ {R W : Type 0} (left : R → Option (List ℕ)) (health : R → Health) (pulls : R → ℕ) (old new : List R) (making : Making)
     (contents : W → Option (List ℕ)) (before : W) where
   -- how it stopped
   abbrev pub Stops : Refused → Option W → Type 0
-  Stops refused after = StopsStream left health pulls (making_of IsText Refuses TakesRoom TakesMemory) old new contents before refused after
+  Stops refused after = StopsStream left health pulls making old new contents before refused after
 
   -- what that says of the parts
   pub stream_refusal : (refused : Refused) (after : Option W) → Stops refused after → (parts : List (List ℕ)) → Tell left old parts
-      → IsRefusal left health pulls old new (making_of IsText Refuses TakesRoom TakesMemory) refused parts
+      → IsRefusal left health pulls old new making refused parts
   stream_refusal refused (Some after) stops parts told =
-      subst (λ (r : Refused). IsRefusal left health pulls old new (making_of IsText Refuses TakesRoom TakesMemory) r parts) (sym stops.is)
-      (refused_by left health pulls old new IsText Refuses TakesRoom TakesMemory (contents before) (append_known
-      (contents after) stops.unwritten)
-      stops.makes.0 stops.fault stops.makes.1 parts told)
+      subst (λ (r : Refused). IsRefusal left health pulls old new making r parts) (sym stops.is)
+      (refused_by left health pulls old new making (contents before) (append_known (contents after) stops.unwritten) stops.makes.0
+      stops.fault stops.makes.1 parts told)
   stream_refusal refused None stops parts told =
-      subst (λ (r : Refused). IsRefusal left health pulls old new (making_of IsText Refuses TakesRoom TakesMemory) r parts) (sym stops.0) tt
+      subst (λ (r : Refused). IsRefusal left health pulls old new making r parts) (sym stops.0) tt
 
   pub stream_kind : (refused : Refused) (after : Option W) → Stops refused after → IsOfMaking refused
   stream_kind refused (Some after) stops = subst IsOfMaking (sym stops.is) (kind_of stops.fault)
@@ -81,12 +77,11 @@ module _ {R W : Type 0} (left : R → Option (List ℕ)) (health : R → Health)
   -- what it leaves
   --   front: how a front of what is made of the parts is told
   module _ (IsFront : Option (List ℕ) → Option (List ℕ) → Type 0)
-      (front : (held holds : Option (List ℕ)) → ((parts : List (List ℕ)) → Tell left old parts → WritesFront
-      (IsMadeOf IsText) parts held holds)
-      → IsFront held holds) where
+      (front : (held holds : Option (List ℕ)) → ((parts : List (List ℕ)) → Tell left old parts
+      → WritesFront making.IsMade parts held holds) → IsFront held holds) where
     left_by : (fault : ToolFault) (after : W) (unwritten : List ℕ)
-        → MakesStream left health pulls (making_of IsText Refuses TakesRoom TakesMemory) old new (contents before)
-        (append_known (contents after) unwritten) (Some fault) → (IsBeforeWriting (Some fault) → after ≡ before)
+        → MakesStream left health pulls making old new (contents before) (append_known (contents after) unwritten) (Some fault)
+        → (IsBeforeWriting (Some fault) → after ≡ before)
         → Leaves contents IsFront (refused_of fault) before (Some after)
     left_by (tool.Part index fault) after unwritten makes untouched = ap Some (untouched tt)
     left_by tool.NoParts after unwritten makes untouched = ap Some (untouched tt)
@@ -95,6 +90,13 @@ module _ {R W : Type 0} (left : R → Option (List ℕ)) (health : R → Health)
     left_by (tool.Refused refusal) after unwritten makes untouched = ap Some (untouched tt)
     left_by (tool.Write fault) after unwritten makes untouched =
         (unwritten, front (contents before) (append_known (contents after) unwritten) (makes.1.write fault refl).1)
+    left_by (tool.Lost loss) after unwritten makes untouched = (
+      unwritten,
+      elim (makes.1.lost loss refl).1 [
+        | inl same ↦ inl (ap (λ (s : Option (List ℕ) × Health). s.0) same)
+        | inr written ↦ inr (front (contents before) (append_known (contents after) unwritten) written)
+      ],
+    )
     left_by tool.OutOfMemory after unwritten makes untouched = (
       unwritten,
       elim (makes.1.memory refl) [

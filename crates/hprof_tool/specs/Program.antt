@@ -14,7 +14,7 @@ use Rattle.hprof_tool.specs.declared.program.refused.Refused.TheVariants as refu
 use Rattle.hprof_tool.specs.declared.status.Status.{Status}
 use Rattle.hprof_tool.specs.declared.status.Status.TheVariants as statuses
 use Rattle.hprof_engine.specs.Joining.{Tell, Agree, Disagree, RefusesPart}
-use Rattle.hprof_engine.specs.Makes.{Making, Makes, WritesAll}
+use Rattle.hprof_engine.specs.Makes.{IsChange, Making, Makes, WritesAll}
 use Rattle.hprof_devices.specs.declared.health.Health.{Health}
 use Rattle.hprof_devices.specs.declared.health.Health.TheVariants as healths
 use Rattle.hprof_engine.specs.FaultText.{IsFaultText}
@@ -26,15 +26,18 @@ usual_limits = record { max_item = 4294967295; max_reads = 1099511627776; max_by
 -- left, health, pulls: what a reader has left to tell, how it is doing, how often it was pulled;  old, new: the readers, before and
 -- afterwards
 module _ {R : Type 0} (left : R → Option (List ℕ)) (health : R → Health) (pulls : R → ℕ) (old new : List R) where
-  -- what a refusal to make something of the parts that readers tell says of them: of a part that could not be read, that its reader failed
+  -- what a refusal to make something of the parts that readers tell says of them: of a part that could not be read, that its reader failed;
+  -- of objects that are lost, that they are read again, and that no part has changed
   abbrev pub IsRefusal : Making → Refused → List (List ℕ) → Type 0
-  IsRefusal making (refusals.Engine (tool.Part index fault)) parts = RefusesPart left health pulls usual_limits parts old new index fault
+  IsRefusal making (refusals.Engine (tool.Part index fault)) parts =
+      RefusesPart left health pulls making.TakesKnown usual_limits parts old new index fault
   IsRefusal making (refusals.Engine tool.NoParts) parts = parts ≡ []
   IsRefusal making (refusals.Engine tool.IdSizes) parts = HaveTwoSizes parts
   IsRefusal making (refusals.Engine (tool.Conflict key)) parts = Disagree parts key
   IsRefusal making (refusals.Engine (tool.Write fault)) parts = (text : List ℕ) × making.IsMade parts text
   IsRefusal making (refusals.Engine (tool.Refused refusal)) parts =
       (heap : HeapValue) × making.Refuses refusal heap × Agree parts heap.ids heap.millis heap.facts
+  IsRefusal making (refusals.Engine (tool.Lost loss)) parts = making.ReadsAgain × (IsChange loss → ⊥)
   IsRefusal making (refusals.Engine tool.OutOfMemory) parts = ⊥
   IsRefusal making (refusals.Dump place fault) parts = ⊥
   IsRefusal making (refusals.Open index) parts = ⊥

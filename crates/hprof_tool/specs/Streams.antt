@@ -28,6 +28,12 @@ module _ {R W : Type 0} (left : R → Option (List ℕ)) (health : R → Health)
   StopsStream (Some after) = LeavesStream after
   StopsStream None = (refused ≡ refusals.OutOfMemory) × (new ≡ old)
 
+-- nothing was written, or a front of a text, but for some bytes at the end
+--   IsFront: a front of the text stands behind what the stream held, and this is what it holds then
+abbrev pub LeavesFront : {O : Type 0} → (O → Option (List ℕ)) → (IsFront : Option (List ℕ) → Option (List ℕ) → Type 0) → O → O → Type 0
+LeavesFront contents IsFront old new = (unwritten : List ℕ)
+    × ((append_known (contents new) unwritten ≡ contents old) ⊎ IsFront (contents old) (append_known (contents new) unwritten))
+
 -- what a refusal leaves of a stream to which a front of a text may have been written: the very stream where nothing was written; it
 -- is gone for want of memory alone
 --   IsFront: a front of the text stands behind what the stream held, and this is what it holds then
@@ -35,8 +41,9 @@ abbrev pub Leaves : {O : Type 0} → (O → Option (List ℕ)) → (IsFront : Op
     → Type 0
 Leaves contents IsFront (refusals.Engine (tool.Write fault)) old (Some new) =
     (unwritten : List ℕ) × IsFront (contents old) (append_known (contents new) unwritten)
-Leaves contents IsFront refusals.OutOfMemory old (Some new) = (unwritten : List ℕ)
-    × ((append_known (contents new) unwritten ≡ contents old) ⊎ IsFront (contents old) (append_known (contents new) unwritten))
+Leaves contents IsFront (refusals.Engine (tool.Lost loss)) old (Some new) = LeavesFront contents IsFront old new
+Leaves contents IsFront (refusals.Dump place (tool.Lost loss)) old (Some new) = LeavesFront contents IsFront old new
+Leaves contents IsFront refusals.OutOfMemory old (Some new) = LeavesFront contents IsFront old new
 Leaves contents IsFront refusals.OutOfMemory old None = ⊤
 Leaves contents IsFront other old new = new ≡ Some old
 

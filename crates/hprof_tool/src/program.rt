@@ -3,7 +3,7 @@
 ghost use Rattle.std.specs.Prelude.{◌≡◌, ◌≢◌, ℕ, List, Some, None};
 ghost use Rattle.std.specs.Io.KnownBytes.{Appends};
 ghost use Rattle.hprof_devices.specs.declared.health.Health.TheVariants.{Well};
-ghost use Rattle.hprof_engine.specs.Makes.{IsDump, IsMadeOf, making_of};
+ghost use Rattle.hprof_engine.specs.Makes.{IsDump, IsMadeOf};
 ghost use Rattle.hprof_ask.specs.declared.report.Report.{Report};
 ghost use Rattle.hprof_ask.specs.declared.subject.Misnamed.{Misnamed};
 ghost use Rattle.hprof_ask.specs.Asked.{AsksReport, IsMisnamed};
@@ -91,10 +91,10 @@ fn write_new_file<P: Made, F: Folder, E: Write>(
 ) -> EndedFile<F::Out>
     requires { MayCreateBehind (F.answered files.now) names.now out.name.now }
     ensures done { result.status ≡ Status.Done → (written : F.Out) × (result.file ≡ Some written)
-        × IsMadeInFile (IsMadeOf (P.is_text product.now)) (F.answered files.now) F.Part.left F.Out.contents names.now
+        × IsMadeInFile (P.making product.now).IsMade (F.answered files.now) F.Part.left F.Out.contents names.now
         out.entry.name.now written }
     ensures refused { result.status ≡ Status.Refused → (result.file ≡ None) × ((why : Refused) × IsFilesRefusal
-        (making_of (P.is_text product.now) (P.refuses product.now) (P.takes_room product.now) (P.takes_memory product.now))
+        (P.making product.now)
         (F.answered files.now) F.Part.left F.Part.health F.Part.pulls names.now out.entry.name.now why
         × TellsRefusal why (E.contents errors.old) (E.contents errors.new)) }
     ensures silent { result.status ≡ Status.Done → errors.new ≡ errors.old }

@@ -2,7 +2,7 @@
 
 ghost use Rattle.std.specs.Prelude.{◌≡◌, length, Err, IfOk, IfErr};
 ghost use Rattle.hprof_devices.specs.declared.health.Health.TheVariants.{Well};
-ghost use Rattle.hprof_engine.specs.Makes.{IsDump, IsMadeOf, making_of};
+ghost use Rattle.hprof_engine.specs.Makes.{IsDump};
 ghost use Rattle.hprof_tool.specs.Folder.{MayCreateBehind};
 ghost use Rattle.hprof_tool.specs.Program.{IsMadeOfStream, IsMadeInFile, IsMadeOfFiles, IsFilesRefusal};
 ghost use Rattle.hprof_tool.specs.Program.{IsOfMaking};
@@ -50,11 +50,11 @@ pub(crate) fn write_file<P: Made, F: Folder>(
     names: &[&str],
 ) -> Result<F::Out, Refused>
     requires { MayCreateBehind (F.answered files.now) names.now out.name.now }
-    ensures ok { IfOk result (IsMadeInFile (IsMadeOf (P.is_text product.now)) (F.answered files.now) F.Part.left F.Out.contents
+    ensures ok { IfOk result (IsMadeInFile (P.making product.now).IsMade (F.answered files.now) F.Part.left F.Out.contents
         names.now out.entry.name.now) }
     ensures no_parts { result ≡ Err (Refused.Engine ToolFault.NoParts) → length names.now ≡ 0 }
     ensures refused { IfErr result (IsFilesRefusal
-        (making_of (P.is_text product.now) (P.refuses product.now) (P.takes_room product.now) (P.takes_memory product.now))
+        (P.making product.now)
         (F.answered files.now) F.Part.left F.Part.health F.Part.pulls names.now out.entry.name.now) }
 {
     let name = out.as_str();
@@ -79,11 +79,11 @@ pub(crate) fn report_files<P: Made, F: Folder, O: Write + Drop>(
     names: &[&str],
     output: O,
 ) -> Result<O, Stopped<O>>
-    ensures ok { IfOk result (IsMadeOfFiles (IsMadeOf (P.is_text report.now)) (F.answered files.now) F.Part.left O.contents
+    ensures ok { IfOk result (IsMadeOfFiles (P.making report.now).IsMade (F.answered files.now) F.Part.left O.contents
         names.now output) }
     ensures no_parts { IfErr result (λ stopped. stopped.why ≡ Refused.Engine ToolFault.NoParts → length names.now ≡ 0) }
     ensures refused { IfErr result (λ stopped. RefusesReport
-        (making_of (P.is_text report.now) (P.refuses report.now) (P.takes_room report.now) (P.takes_memory report.now))
+        (P.making report.now)
         (F.answered files.now) F.Part.left F.Part.health F.Part.pulls O.contents names.now output stopped.why stopped.writer) }
 {
     let mut parts = match open_parts(alloc, files, names) {

@@ -37,12 +37,15 @@ fn make_of_heap<P: Product, R: Source, W: Target>(
 }
 
 /// A product that a command makes.
-pub(crate) trait Made: Product {
+pub(crate) trait Made {
     ghost use Rattle.std.specs.Prelude.{◌≡◌, All};
     ghost use Rattle.hprof_devices.specs.declared.health.Health.TheVariants.{Well};
     ghost use Rattle.hprof_engine.specs.Joining.{fault_of};
-    ghost use Rattle.hprof_engine.specs.Makes.{Makes, making_of};
+    ghost use Rattle.hprof_engine.specs.Makes.{Makes, Making};
     ghost use Rattle.hprof_tool.specs.Program.{usual_limits};
+
+    // What is made.
+    ghost making: { Self → Making };
 
     /// Makes it of the parts of the readers.
     fn make<R: Source, W: Target>(
@@ -53,12 +56,15 @@ pub(crate) trait Made: Product {
     ) -> Result<(), ToolFault>
         requires readers { All (λ reader. R.health reader ≡ Well) readers.old }
         requires writer { W.health target.old ≡ Well }
-        ensures { Makes R.left R.health R.pulls W.written W.health usual_limits
-            (making_of (Self.is_text self.now) (Self.refuses self.now) (Self.takes_room self.now) (Self.takes_memory self.now))
-            readers.old readers.new target.old target.new (fault_of result) };
+        ensures { Makes R.left R.health R.pulls W.written W.health usual_limits (making self.now) readers.old
+            readers.new target.old target.new (fault_of result) };
 }
 
 impl Made for Dump {
+    ghost use Rattle.hprof_engine.specs.Makes.{dump_making};
+
+    ghost making = { λ _. dump_making };
+
     fn make<R: Source, W: Target>(
         &self,
         alloc: Global,
@@ -70,6 +76,10 @@ impl Made for Dump {
 }
 
 impl Made for Dump101 {
+    ghost use Rattle.hprof_engine.specs.Joining101.{dump101_making};
+
+    ghost making = { λ _. dump101_making };
+
     fn make<R: Source, W: Target>(
         &self,
         alloc: Global,
@@ -81,6 +91,11 @@ impl Made for Dump101 {
 }
 
 impl<'a> Made for GrowthReport<'a> {
+    ghost use Rattle.hprof_diff.specs.Kept.{totals_in};
+    ghost use Rattle.hprof_diff.specs.DifferenceText.{growth_making};
+
+    ghost making = { λ report. growth_making (totals_in report.old.now) };
+
     fn make<R: Source, W: Target>(
         &self,
         alloc: Global,
@@ -93,6 +108,10 @@ impl<'a> Made for GrowthReport<'a> {
 
 /// References to one identifier are found while parts are read.
 impl<'a> Made for Report<'a> {
+    ghost use Rattle.hprof_ask.specs.Report.{report_making};
+
+    ghost making = { report_making };
+
     fn make<R: Source, W: Target>(
         &self,
         alloc: Global,

@@ -6,7 +6,6 @@ ghost use Rattle.std.specs.Io.Buffered.{writer_buffer, writer_contents, writer_i
 ghost use Rattle.hprof_devices.specs.declared.health.Health.TheVariants.{Well};
 ghost use Rattle.hprof_engine.specs.Joining.{fault_of, IsBeforeWriting};
 ghost use Rattle.hprof_devices.specs.Device.{inner_of, health_of};
-ghost use Rattle.hprof_engine.specs.Makes.{making_of};
 ghost use Rattle.hprof_tool.specs.Program.{MakesStream};
 ghost use Rattle.hprof_tool.specs.Streams.{LeavesStream, StopsStream};
 
@@ -88,7 +87,7 @@ fn write_and_flush<P: Made, R: Source, W: Write + Drop>(
 ) -> Writing<(), W>
     requires { All (λ reader. R.health reader ≡ Well) readers.old }
     ensures makes { MakesStream R.left R.health R.pulls
-        (making_of (P.is_text product.now) (P.refuses product.now) (P.takes_room product.now) (P.takes_memory product.now))
+        (P.making product.now)
         readers.old readers.new (writer_contents W.contents buffered)
         (append_known (W.contents result.writer) result.unwritten.items) (fault_of result.outcome) }
     ensures flushed { OnOk result.outcome (result.unwritten.items ≡ []) }
@@ -109,10 +108,10 @@ pub(crate) fn write_buffered<P: Made, R: Source, W: Write + Drop>(
     requires readers { All (λ reader. R.health reader ≡ Well) readers.old }
     requires empty { writer_buffer buffered ≡ [] }
     ensures ok { IfOk result (λ written. MakesStream R.left R.health R.pulls
-        (making_of (P.is_text product.now) (P.refuses product.now) (P.takes_room product.now) (P.takes_memory product.now))
+        (P.making product.now)
         readers.old readers.new (W.contents (writer_inner buffered)) (W.contents written) None) }
     ensures stops { IfErr result (λ left. LeavesStream R.left R.health R.pulls
-        (making_of (P.is_text product.now) (P.refuses product.now) (P.takes_room product.now) (P.takes_memory product.now))
+        (P.making product.now)
         readers.old readers.new W.contents (writer_inner buffered) left.why left.writer) }
 {
     let Writing {
@@ -140,10 +139,10 @@ pub(crate) fn write_through_buffer<P: Made, R: Source, W: Write + Drop>(
 ) -> Result<W, Stopped<W>>
     requires { All (λ reader. R.health reader ≡ Well) readers.old }
     ensures ok { IfOk result (λ written. MakesStream R.left R.health R.pulls
-        (making_of (P.is_text product.now) (P.refuses product.now) (P.takes_room product.now) (P.takes_memory product.now))
+        (P.making product.now)
         readers.old readers.new (W.contents writer) (W.contents written) None) }
     ensures stops { IfErr result (λ stopped. StopsStream R.left R.health R.pulls
-        (making_of (P.is_text product.now) (P.refuses product.now) (P.takes_room product.now) (P.takes_memory product.now))
+        (P.making product.now)
         readers.old readers.new W.contents writer stopped.why stopped.writer) }
 {
     let Ok(buffered) = BufWriter::with_capacity(alloc, BUFFER_LEN, writer) else {

@@ -6,7 +6,7 @@ use Rattle.hprof_items.specs.FactValue.{FactValue}
 use Rattle.hprof_items.specs.Spelling.{longest_body}
 use Rattle.hprof_heap.specs.State.{IsState}
 use Rattle.hprof_engine.specs.declared.tool_fault.ToolFault.{ToolFault}
-use Rattle.hprof_engine.specs.Joining.{Tell, fault_of, read_count, IsHindered, IsOkOrConflict, IsOfReading}
+use Rattle.hprof_engine.specs.Joining.{Tell, fault_of, read_count, IsHindered, IsOkOrConflict, IsOfReading, none_known}
 use Rattle.hprof_engine.specs.Makes.{Reads}
 use Rattle.hprof_engine.specs.Summaries.{HoldsFirst}
 use Rattle.hprof_engine.proofs.Answers.{from_nothing, stopped, answered, reads_alone, found_agree}
@@ -17,7 +17,7 @@ use Rattle.hprof_engine.proofs.read.read_heap.Goals as goal
 
 pub returns-in_err-read_parts-clause-reads : goal.returns-in_err-read_parts-clause-reads
 returns-in_err-read_parts-clause-reads g c =
-    of_fault (λ (r : Result _ ToolFault). Reads g.R.Source.left g.R.Source.health g.R.Source.pulls c.args.limits
+    of_fault (λ (r : Result _ ToolFault). Reads g.R.Source.left g.R.Source.health g.R.Source.pulls none_known c.args.limits
     c.args.readers.now c.read_parts.new.readers (fault_of r)) c.from_residual.result c.in_err-read_parts.field-0.0 c.from_residual.ensures.1
     (stopped g.R.Source.left g.R.Source.health g.R.Source.pulls c.args.limits c.args.readers.now c.read_parts.new.readers
     c.in_err-read_parts.field-0.0 (g.G.Gather.gathered c.args.gatherer) (g.G.Gather.gathered c.read_parts.new.gatherer)

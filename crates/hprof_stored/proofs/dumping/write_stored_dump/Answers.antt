@@ -7,6 +7,7 @@ use Rattle.hprof_heap.specs.Heap.{heap_of}
 use Rattle.hprof_segments.specs.ByteSegments.{segment_records}
 use Rattle.hprof_stored.specs.Dumping.{WritesSome, bytes_of, subs_of}
 use Rattle.hprof_stored.proofs.Dumped.{dump_is, front_bytes}
+use Rattle.hprof_stored.proofs.Joined.{no_change}
 use Rattle.hprof_stored.proofs.dumping.write_stored_dump.Goals as goal
 
 pub returns-in-Err-clause-dump : goal.returns-in-Err-clause-dump
@@ -65,3 +66,7 @@ returns-in-Err-write_end-clause-dump g c = λ reads rows told union.
     (WritesFront-then old mid new (front_bytes heap) (segment_records subs ++ head_bytes 0x2c 0 0) c.in_default.ensures.bytes
     (c.in-Err-write_end.ensures.bytes mid subs
     (c.in_default-take_objects.ensures.taken reads rows told union mid (subs_of heap) c.in_default-take_subs.ensures.taken)))
+
+pub returns-in-Err-take_subs-clause-again : goal.returns-in-Err-take_subs-clause-again
+returns-in-Err-take_subs-clause-again g c = no_change g.S.Target.written g.S.Target.health c.args.limits (g.P.Parts.bytes c.args.parts.now)
+    c.args.objects.now c.in-Err-take_subs.stop c.in-Err-take_subs.ensures.target

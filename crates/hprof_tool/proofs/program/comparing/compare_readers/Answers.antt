@@ -3,7 +3,7 @@ use Rattle.std.proofs.Common.{Some, ap, sym, subst, refl, ◌∙◌}
 use Rattle.hprof_stream.specs.declared.limits.Limits.{Limits}
 use Rattle.hprof_diff.specs.Kept.{totals_in}
 use Rattle.hprof_diff.specs.Comparing.{Counts}
-use Rattle.hprof_diff.specs.DifferenceText.{IsGrowthReport}
+use Rattle.hprof_diff.specs.DifferenceText.{growth_making}
 use Rattle.hprof_tool.specs.declared.program.refused.Refused.{Refused}
 use Rattle.hprof_tool.specs.Comparing.{IsFrontOfBoth, StopsComparing}
 use Rattle.hprof_tool.specs.Program.{of_dump}
@@ -48,9 +48,9 @@ returns-clause-stops g c =
     let totals = totals_in c.in-Ok.old in
     let stopped = c.in-Err-write_through_buffer.stopped in
     let stops = c.in-Err-write_through_buffer.ensures.stops in
-    let kind = stream_kind left _ _ news _ (IsGrowthReport totals) (λ refusal heap. ⊥) (λ parts. ⊥) ⊤ contents c.args.writer stopped.why
+    let kind = stream_kind left _ _ news _ (growth_making totals) contents c.args.writer stopped.why
     stopped.writer stops in
-    let says = stream_refusal left _ _ news _ (IsGrowthReport totals) (λ refusal heap. ⊥) (λ parts. ⊥) ⊤ contents c.args.writer stopped.why
+    let says = stream_refusal left _ _ news _ (growth_making totals) contents c.args.writer stopped.why
     stopped.writer stops in
     let health = g.R.Source.health in
     let pulls = g.R.Source.pulls in
@@ -63,7 +63,7 @@ returns-clause-stops g c =
           new_says totals old_parts (c.in-Ok.ensures.totals old_parts told) left health pulls olds olds_then news news_then stopped.why kind
           new_parts (says new_parts told_too),
       dump_leaves contents (IsFrontOfBoth left olds news) c.args.writer stopped.why stopped.writer
-          (stream_left left _ _ news _ (IsGrowthReport totals) (λ refusal heap. ⊥) (λ parts. ⊥) ⊤ contents c.args.writer
+          (stream_left left _ _ news _ (growth_making totals) contents c.args.writer
           (IsFrontOfBoth left olds news) (λ held holds writes old_parts new_parts told told_too.
           let front = writes new_parts told_too in (
             front.0,

@@ -1,5 +1,5 @@
 use Rattle.std.proofs.Common.{◌≡◌, ℕ, List, [], ◌∷◌, ◌++◌, Some, inl, refl, subst, ap, ◌∙◌}
-use Rattle.hprof_engine.specs.Makes.{IsDumpText, IsDump, dump_making}
+use Rattle.hprof_engine.specs.Makes.{IsDump, dump_making}
 use Rattle.hprof_tool.specs.Program.{IsRefusal}
 use Rattle.hprof_tool.specs.Streams.{IsFrontOfStream}
 use Rattle.hprof_tool.proofs.Ends.{if_ok_more, if_err_more}
@@ -19,7 +19,7 @@ returns-clause-ok g c =
 
 pub returns-clause-kind : goal.returns-clause-kind
 returns-clause-kind g c = if_err_more _ _ c.write_through_buffer.result
-    (λ stopped stops. stream_kind _ _ _ _ _ IsDumpText (λ refusal heap. ⊥) (λ parts. ⊥) ⊥ _ _ stopped.why stopped.writer stops)
+    (λ stopped stops. stream_kind _ _ _ _ _ dump_making _ _ stopped.why stopped.writer stops)
     c.write_through_buffer.ensures.stops
 
 pub returns-clause-refused : goal.returns-clause-refused
@@ -34,10 +34,10 @@ returns-clause-refused g c =
         read,
         λ part told. subst (λ (l : List g.row.I.Denot). IsRefusal g.I.Source.left g.I.Source.health g.I.Source.pulls l read dump_making
             stopped.why (part ∷ [])) one
-            (stream_refusal _ _ _ _ _ IsDumpText (λ refusal heap. ⊥) (λ parts. ⊥) ⊥ _ _ stopped.why stopped.writer stops (part ∷ [])
+            (stream_refusal _ _ _ _ _ dump_making _ _ stopped.why stopped.writer stops (part ∷ [])
             (told_by part told)),
       ),
-      stream_left _ _ _ _ _ IsDumpText (λ refusal heap. ⊥) (λ parts. ⊥) ⊥ _ _ (IsFrontOfStream IsDump g.I.Source.left c.args.input)
+      stream_left _ _ _ _ _ dump_making _ _ (IsFrontOfStream IsDump g.I.Source.left c.args.input)
           (λ held holds writes part told. writes (part ∷ []) (told_by part told)) stopped.why stopped.writer stops,
     )) c.write_through_buffer.ensures.stops
 

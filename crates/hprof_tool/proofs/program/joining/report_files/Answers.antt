@@ -1,5 +1,4 @@
 use Rattle.std.proofs.Common.{List, length, refl, sym, ap, subst, ◌∙◌}
-use Rattle.hprof_engine.specs.Makes.{IsMadeOf, making_of}
 use Rattle.hprof_tool.specs.Folder.{AreOpened}
 use Rattle.hprof_tool.specs.Streams.{IsFrontOfFiles}
 use Rattle.hprof_tool.proofs.Ends.{if_ok_more, if_err_more}
@@ -19,37 +18,32 @@ returns-clause-ok g c =
 pub returns-clause-no_parts : goal.returns-clause-no_parts
 returns-clause-no_parts g c = if_err_more _ _ c.write_through_buffer.result
     (λ stopped stops same. sym c.in-Ok.ensures.count ∙ ap length (sym c.deref_mut.ensures.value)
-    ∙ stream_no_parts _ _ _ _ _ _ _ _ _ _ _ stopped.why stopped.writer stops same) c.write_through_buffer.ensures.stops
+    ∙ stream_no_parts _ _ _ _ _ _ _ _ stopped.why stopped.writer stops same) c.write_through_buffer.ensures.stops
 
 pub returns-clause-refused : goal.returns-clause-refused
 returns-clause-refused g c =
-    let is_text = g.P.Product.is_text c.args.report.now in
-    let refuses = g.P.Product.refuses c.args.report.now in
-    let room = g.P.Summaries.takes_room c.args.report.now in
-    let memory = g.P.Product.takes_memory c.args.report.now in
+    let making = g.P.Made.making c.args.report.now in
     let answered = g.F.Folder.answered c.args.files.now in
     let left = g.F.Part.Source.left in
     let parts = c.deref_mut.result.now in
     let opened = subst (λ (parts : List _). AreOpened answered c.args.names.now parts) (sym c.deref_mut.ensures.value)
     c.in-Ok.ensures.opened in
     if_err_more _ _ c.write_through_buffer.result (λ stopped stops. (
-      of_reporting (making_of is_text refuses room memory) answered left g.F.Part.Source.health g.F.Part.Source.pulls c.args.names.now
+      of_reporting making answered left g.F.Part.Source.health g.F.Part.Source.pulls c.args.names.now
           parts
           c.write_through_buffer.new.readers opened stopped.why
-          (stream_kind _ _ _ _ _ is_text refuses room memory _ _ stopped.why stopped.writer stops)
-          (stream_refusal _ _ _ _ _ is_text refuses room memory _ _ stopped.why stopped.writer stops),
-      stream_left _ _ _ _ _ is_text refuses room memory _ _ (IsFrontOfFiles (IsMadeOf is_text) answered left c.args.names.now)
+          (stream_kind _ _ _ _ _ making _ _ stopped.why stopped.writer stops)
+          (stream_refusal _ _ _ _ _ making _ _ stopped.why stopped.writer stops),
+      stream_left _ _ _ _ _ making _ _ (IsFrontOfFiles making.IsMade answered left c.args.names.now)
           (λ held holds writes. record { parts = parts; opened = opened; holds = writes }) stopped.why stopped.writer stops,
     )) c.write_through_buffer.ensures.stops
 
 pub returns-in-Err-clause-refused : goal.returns-in-Err-clause-refused
 returns-in-Err-clause-refused g c =
-    let is_text = g.P.Product.is_text c.args.report.now in
-    let making = making_of is_text (g.P.Product.refuses c.args.report.now) (g.P.Summaries.takes_room c.args.report.now)
-    (g.P.Product.takes_memory c.args.report.now) in
+    let making = g.P.Made.making c.args.report.now in
     let answered = g.F.Folder.answered c.args.files.now in (
       opening_reports making answered g.F.Part.Source.left g.F.Part.Source.health g.F.Part.Source.pulls c.args.names.now c.in-Err.why
           c.in-Err.ensures.kind,
-      kept_at_opening g.O.Write.contents (IsFrontOfFiles (IsMadeOf is_text) answered g.F.Part.Source.left c.args.names.now) answered
+      kept_at_opening g.O.Write.contents (IsFrontOfFiles making.IsMade answered g.F.Part.Source.left c.args.names.now) answered
           c.args.names.now c.in-Err.why c.args.output c.in-Err.ensures.kind,
     )

@@ -1,7 +1,6 @@
 use Rattle.std.proofs.Common.{◌≡◌, ℕ, List, Some, length, refl, sym, ap, subst, ◌∙◌}
 use Rattle.std.specs.Io.Buffered.{writer_inner}
 use Rattle.hprof_engine.specs.declared.tool_fault.ToolFault.TheVariants as tool
-use Rattle.hprof_engine.specs.Makes.{making_of}
 use Rattle.hprof_tool.specs.Folder.{AreOpened}
 use Rattle.hprof_tool.specs.declared.program.refused.Refused.TheVariants as refusals
 use Rattle.hprof_tool.proofs.Files.{starting_not_of_engine, of_starting, if_the_error, of_making}
@@ -17,9 +16,7 @@ returns-in_err-parts-clause-no_parts g c = λ same.
 
 pub returns-in_err-parts-clause-refused : goal.returns-in_err-parts-clause-refused
 returns-in_err-parts-clause-refused g c =
-    let making = making_of (g.P.Product.is_text c.args.product.now) (g.P.Product.refuses c.args.product.now)
-    (g.P.Summaries.takes_room c.args.product.now)
-    (g.P.Product.takes_memory c.args.product.now) in
+    let making = g.P.Made.making c.args.product.now in
     if_the_error _ c.from_residual.result c.in_err-parts.field-0.0 (of_starting making
     (g.F.Folder.answered c.args.files.now) g.F.Part.Source.left g.F.Part.Source.health g.F.Part.Source.pulls c.args.names.now
     c.args.out.name.now _ c.in_err-parts.ensures.kind)
@@ -46,20 +43,17 @@ remove_out-requires g c = (
 
 pub returns-clause-refused : goal.returns-clause-refused
 returns-clause-refused g c =
-    let is_text = g.P.Product.is_text c.args.product.now in
-    let refuses = g.P.Product.refuses c.args.product.now in
-    let room = g.P.Summaries.takes_room c.args.product.now in
-    let memory = g.P.Product.takes_memory c.args.product.now in
+    let making = g.P.Made.making c.args.product.now in
     let answered = g.F.Folder.answered c.args.files.now in
     let left = c.in-Err.left in
     let opened = subst (λ (parts : List _). AreOpened answered c.args.names.now parts) (sym c.deref_mut.ensures.value)
     c.in_ok-parts.ensures.opened in
-    of_making (making_of is_text refuses room memory) answered g.F.Part.Source.left g.F.Part.Source.health g.F.Part.Source.pulls
+    of_making making answered g.F.Part.Source.left g.F.Part.Source.health g.F.Part.Source.pulls
     c.args.names.now
     c.deref_mut.result.now c.write_buffered.new.readers opened
     c.args.out.name.now left.why
-    (stream_kind _ _ _ _ _ is_text refuses room memory _ _ left.why (Some left.writer) c.in-Err.ensures.stops)
-    (stream_refusal _ _ _ _ _ is_text refuses room memory _ _ left.why (Some left.writer) c.in-Err.ensures.stops)
+    (stream_kind _ _ _ _ _ making _ _ left.why (Some left.writer) c.in-Err.ensures.stops)
+    (stream_refusal _ _ _ _ _ making _ _ left.why (Some left.writer) c.in-Err.ensures.stops)
     (subst answered.HasNone c.as_str-name.ensures c.remove_out.ensures)
 
 pub returns-clause-no_parts : goal.returns-clause-no_parts
@@ -67,4 +61,4 @@ returns-clause-no_parts g c = λ same.
     let left = c.in-Err.left in
     let none : left.why ≡ refusals.Engine tool.NoParts = cc in
     sym c.in_ok-parts.ensures.count ∙ ap length (sym c.deref_mut.ensures.value)
-    ∙ stream_no_parts _ _ _ _ _ _ _ _ _ _ _ left.why (Some left.writer) c.in-Err.ensures.stops none
+    ∙ stream_no_parts _ _ _ _ _ _ _ _ left.why (Some left.writer) c.in-Err.ensures.stops none

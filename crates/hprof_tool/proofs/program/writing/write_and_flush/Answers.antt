@@ -3,15 +3,13 @@ use Rattle.std.specs.Io.KnownBytes.{append_known}
 use Rattle.std.specs.Io.Buffered.{writer_contents, writer_inner}
 use Rattle.hprof_devices.specs.Device.{inner_of, health_of}
 use Rattle.hprof_engine.specs.Joining.{fault_of}
-use Rattle.hprof_engine.specs.Makes.{making_of}
 use Rattle.hprof_tool.proofs.Making.{shown, streamed, untouched}
 use Rattle.hprof_tool.proofs.program.writing.write_and_flush.Goals as goal
 
 pub returns-clause-makes : goal.returns-clause-makes
 returns-clause-makes g c =
     let contents = writer_contents g.W.Write.contents in
-    let making = making_of (g.P.Product.is_text c.args.product.now) (g.P.Product.refuses c.args.product.now)
-    (g.P.Summaries.takes_room c.args.product.now) (g.P.Product.takes_memory c.args.product.now) in
+    let making = g.P.Made.making c.args.product.now in
     let before = c.new-target.result in
     let after = c.make-made.new.target in
     let end = c.take_apart in

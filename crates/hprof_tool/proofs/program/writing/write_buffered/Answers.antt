@@ -3,7 +3,6 @@ use Rattle.std.specs.Io.KnownBytes.{append_known}
 use Rattle.std.specs.Io.Buffered.{writer_contents, writer_inner}
 use Rattle.hprof_engine.specs.declared.tool_fault.ToolFault.{ToolFault}
 use Rattle.hprof_engine.specs.Joining.{IsBeforeWriting, fault_of}
-use Rattle.hprof_engine.specs.Makes.{making_of}
 use Rattle.hprof_tool.proofs.Making.{none_added, same_stream}
 use Rattle.hprof_tool.proofs.program.writing.write_buffered.Goals as goal
 
@@ -11,8 +10,7 @@ pub returns-in-Ok-clause-ok : goal.returns-in-Ok-clause-ok
 returns-in-Ok-clause-ok g c =
     let contents = g.W.Write.contents in
     let made = c.write_and_flush-outcome in
-    let making = making_of (g.P.Product.is_text c.args.product.now) (g.P.Product.refuses c.args.product.now)
-    (g.P.Summaries.takes_room c.args.product.now) (g.P.Product.takes_memory c.args.product.now) in
+    let making = g.P.Made.making c.args.product.now in
     let empty : writer_contents contents c.args.buffered ≡ contents (writer_inner c.args.buffered) =
     ap (append_known (contents (writer_inner c.args.buffered))) c.requires.empty ∙ none_added (contents (writer_inner c.args.buffered)) in
     let flushed = rw c.in-Ok.is at made.ensures.flushed in
@@ -25,8 +23,7 @@ pub returns-in-Err-clause-stops : goal.returns-in-Err-clause-stops
 returns-in-Err-clause-stops g c =
     let contents = g.W.Write.contents in
     let made = c.write_and_flush-outcome in
-    let making = making_of (g.P.Product.is_text c.args.product.now) (g.P.Product.refuses c.args.product.now)
-    (g.P.Summaries.takes_room c.args.product.now) (g.P.Product.takes_memory c.args.product.now) in
+    let making = g.P.Made.making c.args.product.now in
     let empty : writer_contents contents c.args.buffered ≡ contents (writer_inner c.args.buffered) =
     ap (append_known (contents (writer_inner c.args.buffered))) c.requires.empty ∙ none_added (contents (writer_inner c.args.buffered)) in
     record {

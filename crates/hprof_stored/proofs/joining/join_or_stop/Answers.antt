@@ -3,8 +3,8 @@ use Rattle.hprof_engine.specs.Joining.{AreReadOut}
 use Rattle.hprof_heap.specs.Heap.{heap_of}
 use Rattle.hprof_stored.specs.Dumping.{dump_with}
 use Rattle.hprof_stored.specs.Parts.{all_read}
-use Rattle.hprof_stored.proofs.Joined.{are_subs, found_other, written_other, by_parts, is_dump, is_found, told_again}
-use Rattle.hprof_stored.proofs.joining.join_stored.Goals as goal
+use Rattle.hprof_stored.proofs.Joined.{are_subs, found_other, written_other, by_parts, is_dump, is_found, same_stop, told_again}
+use Rattle.hprof_stored.proofs.joining.join_or_stop.Goals as goal
 
 pub returns-in-Err-find_conflict-clause-joins : goal.returns-in-Err-find_conflict-clause-joins
 returns-in-Err-find_conflict-clause-joins g c = λ parts told same some.
@@ -15,9 +15,12 @@ returns-in-Err-find_conflict-clause-joins g c = λ parts told same some.
     let are = by_parts g.R.Source.left c.args.limits old holds.parts holds.stored holds.given heap holds.tells parts told in
     let again = told_again c.args.limits g.S.Target.written g.S.Target.health parts holds.parts (g.P.Parts.bytes c.args.parts.now) objects
     same are (c.finish-objects.ensures.holds c.args.limits (all_read holds.parts) (holds.objects some)) in
-    is_found g.R.Source.left c.args.limits old holds.parts holds.stored holds.given heap holds.tells parts told
-    c.conflicts_of_objects_come_last.ensures.objects c.in-Err-find_conflict.stop
-    (c.in-Err-find_conflict.ensures.least (all_read holds.parts) again)
+    let stop = c.in-Err-find_conflict.stop in (
+      is_found g.R.Source.left c.args.limits old holds.parts holds.stored holds.given heap holds.tells parts told
+          c.conflicts_of_objects_come_last.ensures.objects stop (c.in-Err-find_conflict.ensures.least (all_read holds.parts) again),
+      same_stop g.S.Target.written g.S.Target.health c.args.limits (g.P.Parts.bytes c.args.parts.now) (all_read holds.parts) objects again
+          stop c.in-Err-find_conflict.ensures.again,
+    )
 
 pub returns-in-Ok-write_stored_dump-clause-joins : goal.returns-in-Ok-write_stored_dump-clause-joins
 returns-in-Ok-write_stored_dump-clause-joins g c = λ parts told same some.
@@ -45,12 +48,21 @@ returns-clause-joins g c = λ parts told same some.
     let again = told_again c.args.limits g.S.Target.written g.S.Target.health parts holds.parts (g.P.Parts.bytes c.args.parts.now) objects
     same are (c.finish-objects.ensures.holds c.args.limits (all_read holds.parts) (holds.objects some)) in
     let union = c.in_default-find_conflict.ensures.none (all_read holds.parts) again in
-    let writes = c.in-Err-write_stored_dump.ensures.dump (all_read holds.parts) union.0 again union.1 in (
-      dump_with heap union.0,
-      writes.0,
-      is_dump g.R.Source.left c.args.limits old holds.parts holds.stored holds.given heap holds.tells parts told
-          c.objects_stand_behind.ensures.objects c.objects_stand_behind.ensures.heap union.0 union.1,
-      writes.2,
+    let e = c.in-Err-write_stored_dump.ensures in
+    let stop = c.in-Err-write_stored_dump.stop in
+    let writes = e.dump (all_read holds.parts) union.0 again union.1 in (
+      (
+        dump_with heap union.0,
+        writes.0,
+        is_dump g.R.Source.left c.args.limits old holds.parts holds.stored holds.given heap holds.tells parts told
+            c.objects_stand_behind.ensures.objects c.objects_stand_behind.ensures.heap union.0 union.1,
+        writes.2,
+      ),
+      e.stops (all_read holds.parts) union.0 again union.1
+          (are_subs g.R.Source.left c.args.limits old holds.parts holds.stored holds.given heap holds.tells parts told
+          c.objects_stand_behind.ensures.objects union.0 union.1),
+      same_stop g.S.Target.written g.S.Target.health c.args.limits (g.P.Parts.bytes c.args.parts.now) (all_read holds.parts) objects again
+          stop e.again,
     )
 
 pub returns-in-Err-find_conflict-clause-no_other : goal.returns-in-Err-find_conflict-clause-no_other

@@ -1,0 +1,92 @@
+-- What is made of parts whose objects are read again, and the fault that a call answers which makes it.
+use Rattle.std.specs.Prelude.{◌≡◌, ◌≢◌, ℕ, List, [], map, Option, Some, IsSome, ⊤}
+use Rattle.hprof_stream.specs.declared.summary.PartSummary.{PartSummary}
+use Rattle.hprof_rows.specs.declared.key.Key.TheVariants as keys
+use Rattle.hprof_rows.specs.HeapValue.{HeapValue}
+use Rattle.hprof_engine.specs.declared.loss.Loss.TheVariants as losses
+use Rattle.hprof_engine.specs.declared.product_refusal.ProductRefusal.{ProductRefusal}
+use Rattle.hprof_engine.specs.declared.tool_fault.ToolFault.{ToolFault}
+use Rattle.hprof_engine.specs.declared.tool_fault.ToolFault.TheVariants as tool
+use Rattle.hprof_engine.specs.Joining.{Tell}
+use Rattle.hprof_engine.specs.Makes.{IsDumpText, IsMadeOf, Making}
+use Rattle.hprof_segments.specs.declared.segment_fault.SegmentFault.{SegmentFault}
+use Rattle.hprof_segments.specs.declared.segment_fault.SegmentFault.TheVariants as segments
+use Rattle.hprof_objects.specs.declared.object_stop.ObjectStop.{ObjectStop}
+use Rattle.hprof_objects.specs.declared.object_stop.ObjectStop.TheVariants as objects
+use Rattle.hprof_objects.specs.declared.stretch_fault.StretchFault.TheVariants as stretches
+use Rattle.hprof_runs.specs.declared.run_fault.RunFault.TheVariants as runs
+use Rattle.hprof_runs.specs.declared.scratch_fault.ScratchFault.TheVariants as scratches
+use Rattle.hprof_stored.specs.declared.join_stop.JoinStop.{JoinStop}
+use Rattle.hprof_stored.specs.declared.join_stop.JoinStop.TheVariants as joins
+use Rattle.hprof_stored.specs.declared.pass_fault.PassFault.{PassFault}
+use Rattle.hprof_stored.specs.declared.pass_fault.PassFault.TheVariants as passes
+use Rattle.hprof_stored.specs.declared.stored_fault.StoredFault.{StoredFault}
+use Rattle.hprof_stored.specs.declared.stored_fault.StoredFault.TheVariants as stops
+use Rattle.hprof_stored.specs.Storing.{HaveObject}
+
+-- what is made of parts, by what a product says of one heap; memory is taken for each object, also for one that is known
+abbrev pub stored_making : (IsText : List PartSummary → HeapValue → List ℕ → Type 0) (Refuses : ProductRefusal → HeapValue → Type 0) → Making
+stored_making IsText Refuses = record {
+  IsMade = IsMadeOf IsText;
+  Refuses = Refuses;
+  TakesRoom = λ parts. ⊤;
+  TakesMemory = ⊤;
+  TakesKnown = HaveObject;
+  ReadsAgain = ⊤;
+}
+
+-- the same of the canonical dump, which no heap is refused
+abbrev pub stored_dump_making : Making
+stored_dump_making = stored_making IsDumpText (λ refusal heap. ⊥)
+
+-- where readers tell parts, of which there are some, these are told when they are opened again, and the scratch tells its bytes
+--   left: what a reader has left to tell;  again: the bytes of the parts that are opened again;  scratch: those of the scratch
+abbrev pub CanBeReadAgain : {R : Type 0} → (R → Option (List ℕ)) → List R → (again : List (Option (List ℕ))) → (scratch : Option (List ℕ))
+    → Type 0
+CanBeReadAgain left readers again scratch =
+    readers ≢ [] → (told : List (List ℕ)) → Tell left readers told → (again ≡ map Some told) × IsSome scratch
+
+-- the fault that a call answers, by why parts have no heap, or why reading them stopped
+abbrev pub fault_of_reading : StoredFault → ToolFault
+fault_of_reading (stops.Part index fault) = tool.Part index fault
+fault_of_reading stops.NoParts = tool.NoParts
+fault_of_reading stops.IdSizes = tool.IdSizes
+fault_of_reading (stops.Conflict key) = tool.Conflict key
+fault_of_reading (stops.Scratch scratches.OutOfMemory) = tool.OutOfMemory
+fault_of_reading (stops.Scratch scratches.Full) = tool.Lost losses.Scratch
+fault_of_reading (stops.Scratch (scratches.Write fault)) = tool.Lost losses.Scratch
+
+-- and by why their objects cannot be gone through; a number of objects beyond what can be counted is want of memory
+abbrev pub fault_of_pass : PassFault → ToolFault
+fault_of_pass passes.OutOfMemory = tool.OutOfMemory
+fault_of_pass (passes.TwoContents id) = tool.Conflict (keys.Object id)
+fault_of_pass (passes.Scratch runs.OutOfMemory) = tool.OutOfMemory
+fault_of_pass (passes.Scratch runs.Read) = tool.Lost losses.Scratch
+fault_of_pass (passes.Scratch runs.Damaged) = tool.Lost losses.Scratch
+fault_of_pass (passes.Part part stretches.OutOfMemory) = tool.OutOfMemory
+fault_of_pass (passes.Part part stretches.Read) = tool.Lost (losses.Read part)
+fault_of_pass (passes.Part part stretches.Changed) = tool.Lost (losses.Changed part)
+fault_of_pass passes.NoObject = tool.Lost losses.Objects
+fault_of_pass passes.TooMany = tool.OutOfMemory
+
+-- and by why a merge of objects into segments stopped; where objects have two contents, or one is no sub-record, that were none before, they
+-- have changed
+abbrev pub fault_of_stop : ObjectStop SegmentFault → ToolFault
+fault_of_stop objects.OutOfMemory = tool.OutOfMemory
+fault_of_stop (objects.TwoContents id) = tool.Lost losses.Objects
+fault_of_stop (objects.Scratch fault) = fault_of_pass (passes.Scratch fault)
+fault_of_stop (objects.Part part fault) = fault_of_pass (passes.Part part fault)
+fault_of_stop (objects.Sink segments.NoSubRecord) = tool.Lost losses.Objects
+fault_of_stop (objects.Sink (segments.Write fault)) = tool.Write fault
+
+-- the same where they were gone through for the first time
+abbrev pub fault_of_finding : ObjectStop SegmentFault → ToolFault
+fault_of_finding (objects.TwoContents id) = tool.Conflict (keys.Object id)
+fault_of_finding other = fault_of_stop other
+
+-- the fault that joining answers
+abbrev pub fault_of_joining : JoinStop → ToolFault
+fault_of_joining joins.OutOfMemory = tool.OutOfMemory
+fault_of_joining (joins.Reading fault) = fault_of_reading fault
+fault_of_joining (joins.Objects stop) = fault_of_finding stop
+fault_of_joining (joins.Writing stop) = fault_of_stop stop
