@@ -1,43 +1,33 @@
 -- What is made of the parts that were read, where the writing of a product over their objects ended so.
-use Rattle.std.proofs.Common.{◌≡◌, ◌≤◌, ℕ, List, length, Option, Result, Ok, Err, inl, inr, subst}
-use Rattle.std.specs.Prelude.{◌^◌}
+use Rattle.std.proofs.Common.{◌≡◌, ℕ, List, [], length, Option, Some, None, Result, Ok, Err, inl, inr, sym, subst}
 use Rattle.hprof_devices.specs.declared.health.Health.{Health}
 use Rattle.hprof_devices.specs.declared.health.Health.TheVariants as healths
-use Rattle.hprof_devices.specs.declared.health.WriteFault.{WriteFault}
-use Rattle.hprof_devices.specs.declared.health.WriteFault.TheVariants as writes
-use Rattle.hprof_devices.specs.Device.{health_after}
 use Rattle.hprof_values.specs.declared.ids.IdSize.{IdSize}
 use Rattle.hprof_items.specs.FactValue.{FactValue}
+use Rattle.hprof_stream.specs.declared.limits.Limits.{Limits}
 use Rattle.hprof_stream.specs.declared.summary.PartSummary.{PartSummary}
 use Rattle.hprof_rows.specs.declared.key.Key.TheVariants as keys
 use Rattle.hprof_rows.specs.HeapValue.{HeapValue}
 use Rattle.hprof_passes.specs.declared.pass_stop.PassStop.{PassStop}
 use Rattle.hprof_passes.specs.declared.pass_stop.PassStop.TheVariants.{Sink, Lost}
-use Rattle.hprof_passes.specs.Passing.{objects_among}
 use Rattle.hprof_engine.specs.declared.product.WriteStop.{WriteStop}
 use Rattle.hprof_engine.specs.declared.product.WriteStop.TheVariants as stops
 use Rattle.hprof_engine.specs.declared.product_refusal.ProductRefusal.{ProductRefusal}
-use Rattle.hprof_engine.specs.Joining.{Agree, Disagree}
-use Rattle.hprof_engine.specs.Makes.{IsMadeOf}
+use Rattle.hprof_engine.specs.declared.tool_fault.ToolFault.{ToolFault}
+use Rattle.hprof_engine.specs.Joining.{Agree, AreReadOut, Disagree, Tell}
+use Rattle.hprof_engine.specs.Makes.{IsMadeOf, WritesAll, WritesFront, fault_of_stop}
 use Rattle.hprof_engine.specs.Summaries.{AreSummaries}
+use Rattle.hprof_engine.proofs.Making.{stopped}
 use Rattle.hprof_stored.specs.declared.pass_fault.PassFault.{PassFault}
 use Rattle.hprof_stored.specs.declared.pass_fault.PassFault.TheVariants as faults
 use Rattle.hprof_stored.specs.InParts.{IsOfSame}
-use Rattle.hprof_making.specs.declared.make_stop.MakeStop.{MakeStop}
-use Rattle.hprof_making.specs.declared.make_stop.MakeStop.TheVariants as makes
-use Rattle.hprof_making.specs.Making.{EndsMade, IsHinderedMade, IsMadeOrConflict, IsOfObjects}
+use Rattle.hprof_stored.specs.Reading.{ReadsStored}
+use Rattle.hprof_stored.specs.Storing.{HaveObject}
+use Rattle.hprof_stored.specs.StoredMaking.{IsOfLoss, fault_of_pass}
+use Rattle.hprof_stored.proofs.StoredMakes.{MakesStored, done, failed, heap_refused, pass_makes, wants_behind}
+use Rattle.hprof_stored.proofs.StoredReads.{all_read_so}
+use Rattle.hprof_reports.specs.Passed.{WritesSome, WritesWhole}
 use Rattle.hprof_making.specs.Over.{EndsOver, heap_with}
-
--- the answer of writing as that of the call
-abbrev pub as_made : Result (Unit {0}) (PassStop WriteStop PassFault) → Result (Unit {0}) MakeStop
-as_made (Ok done) = Ok done
-as_made (Err (Sink stop)) = Err (makes.Writing stop)
-as_made (Err (Lost fault)) = Err (makes.Objects fault)
-
--- after a fault of the writer it is not well
-ill : (health : Health) (fault : WriteFault) → health ≡ health_after fault → health ≡ healths.Well → ⊥
-ill health writes.Failed is was = cc
-ill health writes.Stuck is was = cc
 
 -- what the objects make up with the facts of the heap, that they make up some facts, and what their faults tell of the parts
 module _ (heap : HeapValue) (MakeUp : List FactValue → Type 0) (agreed : Type 0) (Tells : PassFault → Type 0) (told : List (List ℕ)) where
@@ -46,79 +36,106 @@ module _ (heap : HeapValue) (MakeUp : List FactValue → Type 0) (agreed : Type 
     pub made_up : (ids : IdSize) (millis : ℕ) (all : List FactValue) → Agree told ids millis all
         → (ids ≡ heap.ids) × (millis ≡ heap.millis) × MakeUp all
     pub contents : (id : ℕ) → Tells (faults.TwoContents id) → Disagree told (keys.Object id)
-    pub many : Tells faults.TooMany → (all : List FactValue) → MakeUp all → 2 ^ 64 ≤ length (objects_among all)
     pub same : (fault : PassFault) → Tells fault → IsOfSame fault
 
-  pub of_objects : AreOfParts → (fault : PassFault) → Tells fault → IsOfObjects told fault
-  of_objects are (faults.TwoContents id) tells = are.contents id tells
-  of_objects are faults.TooMany tells = λ ids millis facts agree. are.many tells facts (are.made_up ids millis facts agree).2
-  of_objects are faults.OutOfMemory tells = tt
-  of_objects are (faults.Scratch fault) tells = are.same (faults.Scratch fault) tells
-  of_objects are (faults.Part part fault) tells = are.same (faults.Part part fault) tells
-  of_objects are faults.NoObject tells = are.same faults.NoObject tells
+  of_loss : AreOfParts → (fault : PassFault) → Tells fault → IsOfLoss told fault
+  of_loss are (faults.TwoContents id) tells = are.contents id tells
+  of_loss are faults.TooMany tells = are.same faults.TooMany tells
+  of_loss are faults.OutOfMemory tells = tt
+  of_loss are (faults.Scratch fault) tells = are.same (faults.Scratch fault) tells
+  of_loss are (faults.Part part fault) tells = are.same (faults.Part part fault) tells
+  of_loss are faults.NoObject tells = are.same faults.NoObject tells
 
-  module _ {W : Type 0} (IsText : List PartSummary → HeapValue → List ℕ → Type 0) (Refuses : ProductRefusal → HeapValue → Type 0)
-      (written : W → Option (List ℕ)) (well : W → Health) (before after : W) (summaries : List PartSummary) where
-    abbrev pub Ends : Result (Unit {0}) (PassStop WriteStop PassFault) → Type 0
-    Ends result =
-        EndsOver MakeUp agreed Tells (λ all. IsText summaries (heap_with heap all)) (λ refusal all. Refuses refusal (heap_with heap all))
-        written well before after result
+  module _ (IsText : List PartSummary → HeapValue → List ℕ → Type 0) (summaries : List PartSummary) (are : AreOfParts)
+      (of_parts : AreSummaries told summaries) where
+    made : (all : List FactValue) → Agree told heap.ids heap.millis all → (text : List ℕ) → IsText summaries (heap_with heap all) text
+        → IsMadeOf IsText told text
+    made all agree text is = record {
+      heap = heap_with heap all;
+      agree = agree;
+      summaries = summaries;
+      of_parts = of_parts;
+      is = is;
+    }
 
-    module _ (are : AreOfParts) (of_parts : AreSummaries told summaries) where
-      makes_up : (all : List FactValue) → Agree told heap.ids heap.millis all → MakeUp all
-      makes_up all agree = (are.made_up heap.ids heap.millis all agree).2
+    -- all of it was written
+    made_whole : agreed → (old new : Option (List ℕ))
+        → WritesWhole MakeUp (λ all. IsText summaries (heap_with heap all)) old new → WritesAll (IsMadeOf IsText) told old new
+    made_whole agrees old new writes =
+        let all = are.agree agrees in
+        let it = writes all.0 (are.made_up heap.ids heap.millis all.0 all.1).2 in
+        (it.0, made all.0 all.1 it.0 it.1, it.2)
 
-      made : (all : List FactValue) → Agree told heap.ids heap.millis all → (text : List ℕ) → IsText summaries (heap_with heap all) text
-          → IsMadeOf IsText told text
-      made all agree text is = record {
-        heap = heap_with heap all;
-        agree = agree;
-        summaries = summaries;
-        of_parts = of_parts;
-        is = is;
-      }
+    -- a front of it was
+    made_front : agreed → (old new : Option (List ℕ))
+        → WritesSome MakeUp (λ all. IsText summaries (heap_with heap all)) old new → WritesFront (IsMadeOf IsText) told old new
+    made_front agrees old new writes =
+        let all = are.agree agrees in
+        let it = writes all.0 (are.made_up heap.ids heap.millis all.0 all.1).2 in
+        (it.0, it.1, made all.0 all.1 it.0 it.3, it.4)
 
-      pub ends_made : (result : Result (Unit {0}) (PassStop WriteStop PassFault)) → Ends result
-          → EndsMade IsText Refuses written told before after (as_made result)
-      ends_made (Ok done) ends =
-          let all = are.agree ends.0 in
-          let it = ends.1 all.0 (makes_up all.0 all.1) in
-          (it.0, made all.0 all.1 it.0 it.1, it.2)
-      ends_made (Err (Lost fault)) ends = of_objects are fault ends.0
-      ends_made (Err (Sink stops.OutOfMemory)) ends = elim ends [
-        | inl same ↦ inl same
-        | inr wrote ↦
-            let all = are.agree wrote.0 in
-            let it = wrote.1 all.0 (makes_up all.0 all.1) in
-            inr (it.0, it.1, made all.0 all.1 it.0 it.3, it.4)
-      ]
-      ends_made (Err (Sink (stops.Write fault))) ends =
-          let all = are.agree ends.0 in
-          let it = ends.1 all.0 (makes_up all.0 all.1) in
-          (it.0, it.1, made all.0 all.1 it.0 it.3, it.4)
-      ends_made (Err (Sink (stops.Refused refusal))) ends =
-          let all = are.agree ends.0 in
-          record { heap = heap_with heap all.0; agree = all.1; refuses = ends.1 all.0 (makes_up all.0 all.1) }
+-- ---- the answer of the call
 
-      -- no other answer
-      no_other : (result : Result (Unit {0}) (PassStop WriteStop PassFault)) → Ends result → well after ≡ healths.Well
-          → (IsHinderedMade (as_made result) → ⊥) → IsMadeOrConflict (as_made result)
-      no_other (Ok done) ends is_well unhindered = tt
-      no_other (Err (Lost faults.OutOfMemory)) ends is_well unhindered = unhindered tt
-      no_other (Err (Lost (faults.TwoContents id))) ends is_well unhindered = tt
-      no_other (Err (Lost (faults.Scratch fault))) ends is_well unhindered = unhindered tt
-      no_other (Err (Lost (faults.Part part fault))) ends is_well unhindered = unhindered tt
-      no_other (Err (Lost faults.NoObject)) ends is_well unhindered = are.same faults.NoObject ends.0
-      no_other (Err (Lost faults.TooMany)) ends is_well unhindered = unhindered tt
-      no_other (Err (Sink stops.OutOfMemory)) ends is_well unhindered = unhindered tt
-      no_other (Err (Sink (stops.Write fault))) ends is_well unhindered = ill (well after) fault ends.2 is_well
-      no_other (Err (Sink (stops.Refused refusal))) ends is_well unhindered = tt
+module _ {R W : Type 0} (left : R → Option (List ℕ)) (health : R → Health) (pulls : R → ℕ) (limits : Limits) (old new : List R)
+    (written : W → Option (List ℕ)) (well : W → Health) (IsText : List PartSummary → HeapValue → List ℕ → Type 0)
+    (Refuses : ProductRefusal → HeapValue → Type 0) (before after : W) (some : old ≡ [] → ⊥)
+    (stored : ReadsStored left health pulls limits old new None) (out : AreReadOut left health pulls limits old new (length old))
+    (was_well : well before ≡ healths.Well)
+    (heap : HeapValue) (MakeUp : List FactValue → Type 0) (agreed : Type 0) (Tells : PassFault → Type 0) (summaries : List PartSummary)
+    (are : (told : List (List ℕ)) → Tell left old told → AreOfParts heap MakeUp agreed Tells told)
+    (of_parts : (told : List (List ℕ)) → Tell left old told → AreSummaries told summaries) where
+  abbrev pub Ends : Result (Unit {0}) (PassStop WriteStop PassFault) → Type 0
+  Ends result =
+      EndsOver MakeUp agreed Tells (λ all. IsText summaries (heap_with heap all)) (λ refusal all. Refuses refusal (heap_with heap all))
+      written well before after result
 
-      -- the same of an answer that is known to be one of these
-      pub stopped_made : (stop : PassStop WriteStop PassFault) (known : PassStop WriteStop PassFault) → stop ≡ known → Ends (Err stop)
-          → EndsMade IsText Refuses written told before after (as_made (Err known))
-      stopped_made stop known is ends = ends_made (Err known) (subst (λ (s : PassStop WriteStop PassFault). Ends (Err s)) is ends)
+  abbrev pub MakesSo : Option ToolFault → Type 0
+  MakesSo ended = MakesStored left health pulls limits old new written well IsText Refuses before after ended
 
-      pub stopped_other : (stop : PassStop WriteStop PassFault) (known : PassStop WriteStop PassFault) → stop ≡ known → Ends (Err stop)
-          → well after ≡ healths.Well → (IsHinderedMade (as_made (Err known)) → ⊥) → IsMadeOrConflict (as_made (Err known))
-      stopped_other stop known is ends = no_other (Err known) (subst (λ (s : PassStop WriteStop PassFault). Ends (Err s)) is ends)
+  front : agreed → WritesSome MakeUp (λ all. IsText summaries (heap_with heap all)) (written before) (written after)
+      → (told : List (List ℕ)) → Tell left old told → WritesFront (IsMadeOf IsText) told (written before) (written after)
+  front agrees writes told tell =
+      made_front heap MakeUp agreed Tells told IsText summaries (are told tell) (of_parts told tell) agrees (written before) (written after) writes
+
+  pub makes_whole : (u : Unit {0}) → Ends (Ok u) → MakesSo None
+  makes_whole u ends =
+      done left health pulls limits old new written well IsText Refuses before after
+      (all_read_so left health pulls limits old new some stored out) ends.2
+      (λ told tell. made_whole heap MakeUp agreed Tells told IsText summaries (are told tell) (of_parts told tell) ends.0 (written before)
+      (written after) ends.1)
+
+  -- the objects are lost
+  pub makes_lost : (stop : PassStop WriteStop PassFault) (fault : PassFault) → stop ≡ Lost fault → Ends (Err stop)
+      → MakesSo (Some (fault_of_pass fault))
+  makes_lost (Lost known) fault is ends =
+      let same : known ≡ fault = cc in
+      subst (λ (f : PassFault). MakesSo (Some (fault_of_pass f))) same
+      (pass_makes left health pulls limits old new written well IsText Refuses before after some stored out was_well ends.1 known
+      (λ told tell. of_loss heap MakeUp agreed Tells told (are told tell) known ends.0))
+  makes_lost (Sink stop) fault is ends = absurd cc
+
+  -- writing stopped
+  stop_so : (stop : WriteStop) → Ends (Err (Sink stop)) → MakesSo (Some (fault_of_stop stop))
+  stop_so stops.OutOfMemory ends = elim ends [
+    | inl same ↦ wants_behind left health pulls limits old new written well IsText Refuses before after some stored out
+        (subst (λ (w : W). well w ≡ healths.Well) (sym same) was_well) (inl same)
+    | inr wrote ↦ wants_behind left health pulls limits old new written well IsText Refuses before after some stored out wrote.2
+        (inr (front wrote.0 wrote.1))
+  ]
+  stop_so (stops.Write fault) ends =
+      failed left health pulls limits old new written well IsText Refuses before after fault
+      (stopped left health pulls limits old new HaveObject (stops.Write fault) (all_read_so left health pulls limits old new some stored out))
+      ends.2 (front ends.0 ends.1)
+  stop_so (stops.Refused refusal) ends =
+      heap_refused left health pulls limits old new written well IsText Refuses before after refusal
+      (stopped left health pulls limits old new HaveObject (stops.Refused refusal) (all_read_so left health pulls limits old new some stored out))
+      ends.2 (λ told tell.
+          let its = are told tell in
+          let all = its.agree ends.0 in
+          (heap_with heap all.0, ends.1 all.0 (its.made_up heap.ids heap.millis all.0 all.1).2, all.1))
+
+  pub makes_stopped : (stop : PassStop WriteStop PassFault) (why : WriteStop) → stop ≡ Sink why → Ends (Err stop)
+      → MakesSo (Some (fault_of_stop why))
+  makes_stopped (Sink known) why is ends =
+      let same : known ≡ why = cc in subst (λ (s : WriteStop). MakesSo (Some (fault_of_stop s))) same (stop_so known ends)
+  makes_stopped (Lost fault) why is ends = absurd cc

@@ -51,6 +51,5 @@ module _ {R S P : Type 0} (left : R → Option (List ℕ)) (written : S → Opti
     agree = λ have. agree readers scratch stored it told are have;
     made_up = λ ids millis all agreement. makes_up readers scratch stored it told ids millis all are agreement;
     contents = λ id tells. disagree readers scratch stored it told id are tells;
-    many = λ tells. tells;
     same = λ fault tells. same readers scratch stored it told fault are tells;
   }

@@ -1,10 +1,8 @@
 //! Making reports of parts that are larger than the memory, of passes over their objects.
 #![tactic(auto)]
 
-mod make_stop;
 mod making;
 mod pass_product;
 
-pub use make_stop::MakeStop;
 pub use making::make_stored;
 pub use pass_product::PassProduct;

@@ -1,17 +1,15 @@
 //! Making a product of passes over the objects of parts.
 
-ghost use Rattle.std.specs.Prelude.{◌≡◌, ℕ, List, Some, map, All, IsSome};
+ghost use Rattle.std.specs.Prelude.{◌≡◌, All};
 ghost use Rattle.hprof_devices.specs.declared.health.Health.TheVariants.{Well};
-ghost use Rattle.hprof_values.specs.declared.ids.IdSize.{IdSize};
-ghost use Rattle.hprof_items.specs.FactValue.{FactValue};
-ghost use Rattle.hprof_heap.specs.State.{IsState};
-ghost use Rattle.hprof_engine.specs.Joining.{Tell};
+ghost use Rattle.hprof_engine.specs.Joining.{fault_of};
+ghost use Rattle.hprof_engine.specs.Makes.{Makes};
 ghost use Rattle.hprof_runs.specs.ReadBack.{HoldsNothing};
-ghost use Rattle.hprof_making.specs.Making.{EndsMade, IsHinderedMade, IsMadeOrConflict, LeavesMade, ReadsMade};
+ghost use Rattle.hprof_stored.specs.StoredMaking.{CanBeReadAgain, stored_making};
 
-use crate::make_stop::MakeStop;
 use crate::pass_product::PassProduct;
 use hprof_devices::{Source, Target};
+use hprof_engine::ToolFault;
 use hprof_objects::Keeping;
 use hprof_parts::Parts;
 use hprof_passes::PassStop;
@@ -28,11 +26,12 @@ use std::alloc::Global;
 ///
 /// The first of these that applies is the fault.
 ///
-/// - `OutOfMemory`: memory ran out before any part was read.
-/// - `Reading`: the parts were refused, as `read_stored` says. Nothing was written.
-/// - `Objects`: objects have two contents, or cannot be gone through. Nothing was written.
-/// - `Writing`: the target failed, memory ran out, or the heap was refused. The bytes written are the beginning of the product; of a heap
-///   that is refused, nothing was written.
+/// - `Part`, `NoParts`, `IdSizes`: a part was refused, there are no parts, or they have two sizes of identifiers. Nothing was written.
+/// - `Conflict`: two facts have one key and different contents. This is the least such key, and nothing was written.
+/// - `Refused`: the heap was refused. Nothing was written.
+/// - `Lost`: the objects cannot be read again, or the scratch failed. Nothing was written.
+/// - `Write`: the target failed. The bytes written are the beginning of the product.
+/// - `OutOfMemory`: memory ran out, but not while a part was read. The bytes written are the beginning of the product.
 pub fn make_stored<M: PassProduct, R: Source, S: Scratch + Drop, P: Parts, W: Target>(
     alloc: Global,
     product: &M,
@@ -42,41 +41,32 @@ pub fn make_stored<M: PassProduct, R: Source, S: Scratch + Drop, P: Parts, W: Ta
     keeping: Keeping,
     scratch: S,
     target: &mut W,
-) -> Result<(), MakeStop>
+) -> Result<(), ToolFault>
     requires readers { All (λ reader. R.health reader ≡ Well) readers.old }
     requires nothing { HoldsNothing (S.written scratch) }
     requires well { S.health scratch ≡ Well }
     requires target { W.health target.old ≡ Well }
-
-    // What was written, if the readers tell parts, they can be opened again and are the same, and the scratch tells its bytes.
-    ensures makes { (told : List (List ℕ)) → Tell R.left readers.old told → P.bytes parts.now ≡ map Some told → IsSome (S.written scratch)
-        → EndsMade (M.is_text product.now) (M.refuses product.now) W.written told target.old target.new result }
-
-    // What is said of the readers, and what becomes of the target.
-    ensures reads { ReadsMade R.left R.health R.pulls limits readers.old readers.new result }
-    ensures target { LeavesMade W.health target.old target.new result }
-
-    // No other answer where the parts state something together, readers and target stay well, no want of memory was answered, no limit was
-    // met, and neither the scratch nor a part failed.
-    ensures no_other { (told : List (List ℕ)) (ids : IdSize) (millis : ℕ) (facts : List FactValue) → Tell R.left readers.old told
-        → IsState told ids millis facts → P.bytes parts.now ≡ map Some told → IsSome (S.written scratch)
-        → All (λ reader. R.health reader ≡ Well) readers.new → W.health target.new ≡ Well → (IsHinderedMade result → ⊥)
-        → IsMadeOrConflict result }
+    requires again { CanBeReadAgain R.left readers.old (P.bytes parts.now) (S.written scratch) }
+    ensures { Makes R.left R.health R.pulls W.written W.health limits (stored_making (M.is_text product.now) (M.refuses product.now))
+        readers.old readers.new target.old target.new (fault_of result) }
 {
+    if readers.is_empty() {
+        return Err(ToolFault::NoParts);
+    }
     stored_objects_are_those_of_the_parts::<R, S, P>();
     let Ok(mut kept) = product.with_room(alloc, readers.len()) else {
-        return Err(MakeStop::OutOfMemory);
+        return Err(ToolFault::OutOfMemory);
     };
     let stored = match read_stored(alloc, readers, limits, keeping, scratch, product, &mut kept) {
         Ok(stored) => stored,
-        Err(fault) => return Err(MakeStop::Reading(fault)),
+        Err(fault) => return Err(ToolFault::from(fault)),
     };
     let StoredHeap { heap, objects } = stored;
     let objects = objects.finish();
     let objects = InParts::new(&objects, parts, limits);
     match product.write_over(alloc, &kept, &heap, &objects, target) {
         Ok(()) => Ok(()),
-        Err(PassStop::Sink(stop)) => Err(MakeStop::Writing(stop)),
-        Err(PassStop::Lost(fault)) => Err(MakeStop::Objects(fault)),
+        Err(PassStop::Sink(stop)) => Err(ToolFault::from(stop)),
+        Err(PassStop::Lost(fault)) => Err(ToolFault::from(fault)),
     }
 }

@@ -1,6 +1,6 @@
 -- The dump of parts, of the heap without objects and of the stored objects.
 use Rattle.std.proofs.Common.{◌≡◌, ℕ, zero, suc, List, [], ◌∷◌, length, map, take, Option, Some, Ok, Err, refl, sym, ap, subst}
-use Rattle.std.specs.Prelude.{slice_get}
+use Rattle.std.specs.Prelude.{slice_get, ⊤}
 use Rattle.std.specs.List.{AllByRecursion}
 use Rattle.std.proofs.Math.Seq.{take-length}
 use Rattle.hprof_devices.specs.declared.health.Health.{Health}
@@ -32,13 +32,10 @@ use Rattle.hprof_engine.specs.Summaries.{AreSummaries}
 use Rattle.hprof_engine.proofs.Answers.{agree, disagree}
 use Rattle.hprof_engine.proofs.OneSummary.{some_summary_each}
 use Rattle.hprof_engine.proofs.Together.{part_fits}
-use Rattle.std.proofs.Common.{sym, ◌∙◌}
-use Rattle.hprof_devices.specs.declared.health.Health.{Health}
-use Rattle.hprof_devices.specs.declared.health.Health.TheVariants as healths
-use Rattle.hprof_devices.specs.declared.health.WriteFault.TheVariants as writes
-use Rattle.hprof_segments.specs.declared.segment_fault.SegmentFault.TheVariants as segments
-use Rattle.hprof_stored.specs.Dumping.{AreSubRecords, IsOfDevices, IsOfTarget, LeavesTarget, FindsLeast, dump_with}
-use Rattle.hprof_stored.specs.JoiningStored.{IsFound, IsHinderedStop, IsSameStop, IsTwoContents}
+use Rattle.hprof_objects.specs.StretchFault.{ByFault}
+use Rattle.hprof_runs.specs.RunFault.{IfDamaged}
+use Rattle.hprof_stored.specs.Dumping.{AreSubRecords, IsOfTarget, FindsLeast, dump_with}
+use Rattle.hprof_stored.specs.StoredMaking.{IsOfLoss, pass_fault}
 use Rattle.hprof_stored.specs.Parts.{AreStored, PartStored, all_read, given_of, others_of, read_of}
 use Rattle.hprof_stored.proofs.Dumped.{dump_of_all, rows_are_subs}
 
@@ -90,6 +87,14 @@ no_change written health limits told objects (stops.TwoContents key) is = absurd
 no_change written health limits told objects (stops.Scratch fault) is = absurd is
 no_change written health limits told objects (stops.Part part fault) is = absurd is
 no_change written health limits told objects (stops.Sink fault) is = tt
+
+-- no part has changed, and no scratch is damaged
+abbrev pub IsSameStop : ObjectStop SegmentFault → Type 0
+IsSameStop stops.OutOfMemory = ⊤
+IsSameStop (stops.TwoContents id) = ⊤
+IsSameStop (stops.Scratch fault) = IfDamaged fault ⊥
+IsSameStop (stops.Part part fault) = ByFault fault ⊤ ⊥
+IsSameStop (stops.Sink fault) = ⊤
 
 -- where the parts are told again, none has changed, and no scratch is damaged
 pub same_stop : {S : Type 0} (written : S → Option (List ℕ)) (health : S → Health) (limits : Limits) (told : List (Option (List ℕ)))
@@ -159,40 +164,20 @@ module _ {R : Type 0} (left : R → Option (List ℕ)) (limits : Limits) (old : 
         is = dump_of_all heap rows objects.0 objects.1;
       }
 
-  pub is_found : ComeLast → (stop : ObjectStop SegmentFault) → FindsLeast (objects_of (all_read stored)) stop → IsFound parts stop
-  is_found last stops.OutOfMemory finds = tt
-  is_found last (stops.TwoContents key) finds =
+  -- why objects cannot be gone through for the first time
+  pub is_of_loss : ComeLast → (stop : ObjectStop SegmentFault) → FindsLeast (objects_of (all_read stored)) stop → IsSameStop stop
+      → IsOfLoss parts (pass_fault stop)
+  is_of_loss last stops.OutOfMemory finds same = tt
+  is_of_loss last (stops.TwoContents key) finds same =
       disagree left limits old (given_of stored) by_all parts told (keys.Object key)
       (last (given_of stored) heap key tells (fits limits parts stored by_parts)
       (subst (λ (l : List (List ByteRow)). IsLeastWithTwoContents l key) (rows_same stored) finds))
-  is_found last (stops.Scratch fault) finds = tt
-  is_found last (stops.Part part fault) finds = tt
-  is_found last (stops.Sink fault) finds = finds
+  is_of_loss last (stops.Scratch fault) finds same = same
+  is_of_loss last (stops.Part part fault) finds same = same
+  is_of_loss last (stops.Sink fault) finds same = absurd finds
 
   pub are_subs : StandBehind → (rows : List ByteRow) → IsUnion (objects_of (all_read stored)) rows → AreSubRecords rows
   are_subs behind rows union =
       let objects = behind (given_of stored) heap.ids rows (same_ids heap.ids (given_of stored) tells.0) (fits limits parts stored by_parts)
       (subst (λ (l : List (List ByteRow)). IsUnion l rows) (rows_same stored) union) in
       rows_are_subs heap.ids rows objects.0 objects.1
-
--- ---- no other answer
-
-pub found_other : (parts : List (List ℕ)) (stop : ObjectStop SegmentFault) → IsFound parts stop → (IsHinderedStop stop → ⊥)
-    → IsTwoContents stop
-found_other parts stops.OutOfMemory found unhindered = unhindered tt
-found_other parts (stops.TwoContents key) found unhindered = tt
-found_other parts (stops.Scratch fault) found unhindered = unhindered tt
-found_other parts (stops.Part part fault) found unhindered = unhindered tt
-found_other parts (stops.Sink fault) found unhindered = found
-
-pub written_other : (stop : ObjectStop SegmentFault) (health : Health) → IsOfDevices stop → LeavesTarget {A = Unit {0}} (Err stop) health
-    → health ≡ healths.Well → (IsHinderedStop stop → ⊥) → ⊥
-written_other stops.OutOfMemory health device left well unhindered = unhindered tt
-written_other (stops.TwoContents key) health device left well unhindered = device
-written_other (stops.Scratch fault) health device left well unhindered = unhindered tt
-written_other (stops.Part part fault) health device left well unhindered = unhindered tt
-written_other (stops.Sink segments.NoSubRecord) health device left well unhindered = device
-written_other (stops.Sink (segments.Write writes.Failed)) health device left well unhindered =
-    let no : healths.Failed ≡ healths.Well = sym left ∙ well in cc
-written_other (stops.Sink (segments.Write writes.Stuck)) health device left well unhindered =
-    let no : healths.Stuck ≡ healths.Well = sym left ∙ well in cc

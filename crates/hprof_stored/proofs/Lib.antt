@@ -14,3 +14,7 @@ mod ObjectTable
 mod Passed
 mod Counted
 mod MadeUp
+pub mod StoredReads
+pub mod StoredMakes
+mod JoinMakes
+pub mod Untold

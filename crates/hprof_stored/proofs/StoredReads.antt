@@ -1,25 +1,25 @@
 -- What reading all parts into a heap and a log says, as it is said of every call that reads parts.
-use Rattle.std.proofs.Common.{◌≡◌, ◌<◌, ℕ, List, [], length, Option, Some, None, refl, sym, subst, arith}
+use Rattle.std.proofs.Common.{◌≡◌, ◌==◌, ℕ, true, false, List, [], ◌∷◌, length, Option, Some, None, refl, subst, arith}
 use Rattle.hprof_devices.specs.declared.health.Health.{Health}
 use Rattle.hprof_stream.specs.declared.limits.Limits.{Limits}
-use Rattle.hprof_rows.specs.declared.key.Key.{Key}
 use Rattle.hprof_rows.specs.declared.key.Key.TheVariants as keys
-use Rattle.hprof_runs.specs.declared.run_fault.RunFault.TheVariants as runs
 use Rattle.hprof_runs.specs.declared.scratch_fault.ScratchFault.TheVariants as scratches
-use Rattle.hprof_objects.specs.declared.stretch_fault.StretchFault.TheVariants as stretches
 use Rattle.hprof_engine.specs.declared.loss.Loss.{Loss}
 use Rattle.hprof_engine.specs.declared.loss.Loss.TheVariants as losses
 use Rattle.hprof_engine.specs.declared.tool_fault.ToolFault.{ToolFault}
 use Rattle.hprof_engine.specs.declared.tool_fault.ToolFault.TheVariants as tool
-use Rattle.hprof_engine.specs.Joining.{AreRead, AreReadOut, Disagree, Tell, read_count}
+use Rattle.hprof_engine.specs.Joining.{AreReadOut, Disagree, Tell}
 use Rattle.hprof_engine.specs.Makes.{Reads}
-use Rattle.hprof_stored.specs.declared.pass_fault.PassFault.{PassFault}
-use Rattle.hprof_stored.specs.declared.pass_fault.PassFault.TheVariants as passes
 use Rattle.hprof_stored.specs.declared.stored_fault.StoredFault.{StoredFault}
 use Rattle.hprof_stored.specs.declared.stored_fault.StoredFault.TheVariants as stops
 use Rattle.hprof_stored.specs.Reading.{AreSoMany, ReadsStored}
 use Rattle.hprof_stored.specs.Storing.{HaveObject}
-use Rattle.hprof_stored.specs.StoredMaking.{fault_of_pass, fault_of_reading}
+use Rattle.hprof_stored.specs.StoredMaking.{fault_of_reading}
+
+-- there are some readers
+pub some_readers : {R : Type 0} (readers : List R) → false ≡ (length readers == 0) → readers ≡ [] → ⊥
+some_readers [] says = λ e. absurd (let no : false ≡ true = says in cc)
+some_readers (reader ∷ readers) says = λ e. cc
 
 module _ {R : Type 0} (left : R → Option (List ℕ)) (health : R → Health) (pulls : R → ℕ) (limits : Limits) (old new : List R)
     (some : old ≡ [] → ⊥) where
@@ -89,8 +89,8 @@ module _ {R : Type 0} (left : R → Option (List ℕ)) (health : R → Health) (
   -- ---- all parts were read
 
   module _ (stored : ReadsStored left health pulls limits old new None) (out : Out (length old)) where
-    pub all_read : ReadsSo None
-    all_read = record {
+    pub all_read_so : ReadsSo None
+    all_read_so = record {
       no_parts = (λ e. absurd cc, λ none. absurd (some none));
       id_sizes = λ e. absurd cc;
       conflict = λ key e. absurd cc;
@@ -112,9 +112,9 @@ module _ {R : Type 0} (left : R → Option (List ℕ)) (health : R → Health) (
     }
 
     -- the objects are lost
-    pub lost : (loss : Loss) → ReadsSo (Some (tool.Lost loss))
-    lost losses.Scratch = lost_scratch
-    lost (losses.Changed index) = record {
+    pub lost_reads : (loss : Loss) → ReadsSo (Some (tool.Lost loss))
+    lost_reads losses.Scratch = lost_scratch
+    lost_reads (losses.Changed index) = record {
       no_parts = (λ e. absurd cc, λ none. absurd (some none));
       id_sizes = λ e. absurd cc;
       conflict = λ key e. absurd cc;
@@ -122,7 +122,7 @@ module _ {R : Type 0} (left : R → Option (List ℕ)) (health : R → Health) (
       accepted = λ all. stored.accepted tt;
       read_out = out;
     }
-    lost (losses.Read index) = record {
+    lost_reads (losses.Read index) = record {
       no_parts = (λ e. absurd cc, λ none. absurd (some none));
       id_sizes = λ e. absurd cc;
       conflict = λ key e. absurd cc;
@@ -130,7 +130,7 @@ module _ {R : Type 0} (left : R → Option (List ℕ)) (health : R → Health) (
       accepted = λ all. stored.accepted tt;
       read_out = out;
     }
-    lost losses.Objects = record {
+    lost_reads losses.Objects = record {
       no_parts = (λ e. absurd cc, λ none. absurd (some none));
       id_sizes = λ e. absurd cc;
       conflict = λ key e. absurd cc;
@@ -138,18 +138,3 @@ module _ {R : Type 0} (left : R → Option (List ℕ)) (health : R → Health) (
       accepted = λ all. stored.accepted tt;
       read_out = out;
     }
-
-    -- the objects cannot be gone through
-    pub lost_reads : (fault : PassFault)
-        → ((id : ℕ) → fault ≡ passes.TwoContents id → (parts : List (List ℕ)) → Tell left old parts → Disagree parts (keys.Object id))
-        → ReadsSo (Some (fault_of_pass fault))
-    lost_reads passes.OutOfMemory disagree = wants_memory
-    lost_reads (passes.TwoContents id) disagree = objects_conflict id (disagree id refl)
-    lost_reads (passes.Scratch runs.OutOfMemory) disagree = wants_memory
-    lost_reads (passes.Scratch runs.Read) disagree = lost_scratch
-    lost_reads (passes.Scratch runs.Damaged) disagree = lost_scratch
-    lost_reads (passes.Part part stretches.OutOfMemory) disagree = wants_memory
-    lost_reads (passes.Part part stretches.Read) disagree = lost (losses.Read part)
-    lost_reads (passes.Part part stretches.Changed) disagree = lost (losses.Changed part)
-    lost_reads passes.NoObject disagree = lost losses.Objects
-    lost_reads passes.TooMany disagree = wants_memory

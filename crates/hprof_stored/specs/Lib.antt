@@ -4,7 +4,6 @@ pub mod Holding
 pub mod HoldingLaws
 pub mod Reading
 pub mod Dumping
-pub mod JoiningStored
 pub mod RowDecoder
 pub mod ObjectCounter
 pub mod InParts

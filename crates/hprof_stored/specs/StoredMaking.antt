@@ -7,7 +7,7 @@ use Rattle.hprof_engine.specs.declared.loss.Loss.TheVariants as losses
 use Rattle.hprof_engine.specs.declared.product_refusal.ProductRefusal.{ProductRefusal}
 use Rattle.hprof_engine.specs.declared.tool_fault.ToolFault.{ToolFault}
 use Rattle.hprof_engine.specs.declared.tool_fault.ToolFault.TheVariants as tool
-use Rattle.hprof_engine.specs.Joining.{Tell}
+use Rattle.hprof_engine.specs.Joining.{Disagree, Tell}
 use Rattle.hprof_engine.specs.Makes.{IsDumpText, IsMadeOf, Making}
 use Rattle.hprof_segments.specs.declared.segment_fault.SegmentFault.{SegmentFault}
 use Rattle.hprof_segments.specs.declared.segment_fault.SegmentFault.TheVariants as segments
@@ -16,12 +16,11 @@ use Rattle.hprof_objects.specs.declared.object_stop.ObjectStop.TheVariants as ob
 use Rattle.hprof_objects.specs.declared.stretch_fault.StretchFault.TheVariants as stretches
 use Rattle.hprof_runs.specs.declared.run_fault.RunFault.TheVariants as runs
 use Rattle.hprof_runs.specs.declared.scratch_fault.ScratchFault.TheVariants as scratches
-use Rattle.hprof_stored.specs.declared.join_stop.JoinStop.{JoinStop}
-use Rattle.hprof_stored.specs.declared.join_stop.JoinStop.TheVariants as joins
 use Rattle.hprof_stored.specs.declared.pass_fault.PassFault.{PassFault}
 use Rattle.hprof_stored.specs.declared.pass_fault.PassFault.TheVariants as passes
 use Rattle.hprof_stored.specs.declared.stored_fault.StoredFault.{StoredFault}
 use Rattle.hprof_stored.specs.declared.stored_fault.StoredFault.TheVariants as stops
+use Rattle.hprof_stored.specs.InParts.{IsOfSame}
 use Rattle.hprof_stored.specs.Storing.{HaveObject}
 
 -- what is made of parts, by what a product says of one heap; memory is taken for each object, also for one that is known
@@ -69,7 +68,7 @@ fault_of_pass (passes.Part part stretches.Changed) = tool.Lost (losses.Changed p
 fault_of_pass passes.NoObject = tool.Lost losses.Objects
 fault_of_pass passes.TooMany = tool.OutOfMemory
 
--- and by why a merge of objects into segments stopped; where objects have two contents, or one is no sub-record, that were none before, they
+-- and by why a merge of objects into segments stopped, which went through them before; where objects have two contents, or one is no sub-record, that were none before, they
 -- have changed
 abbrev pub fault_of_stop : ObjectStop SegmentFault → ToolFault
 fault_of_stop objects.OutOfMemory = tool.OutOfMemory
@@ -79,14 +78,15 @@ fault_of_stop (objects.Part part fault) = fault_of_pass (passes.Part part fault)
 fault_of_stop (objects.Sink segments.NoSubRecord) = tool.Lost losses.Objects
 fault_of_stop (objects.Sink (segments.Write fault)) = tool.Write fault
 
--- the same where they were gone through for the first time
-abbrev pub fault_of_finding : ObjectStop SegmentFault → ToolFault
-fault_of_finding (objects.TwoContents id) = tool.Conflict (keys.Object id)
-fault_of_finding other = fault_of_stop other
+-- why objects cannot be gone through for the first time, where no sink refuses one
+abbrev pub pass_fault : ObjectStop SegmentFault → PassFault
+pass_fault objects.OutOfMemory = passes.OutOfMemory
+pass_fault (objects.TwoContents id) = passes.TwoContents id
+pass_fault (objects.Scratch fault) = passes.Scratch fault
+pass_fault (objects.Part part fault) = passes.Part part fault
+pass_fault (objects.Sink fault) = passes.NoObject
 
--- the fault that joining answers
-abbrev pub fault_of_joining : JoinStop → ToolFault
-fault_of_joining joins.OutOfMemory = tool.OutOfMemory
-fault_of_joining (joins.Reading fault) = fault_of_reading fault
-fault_of_joining (joins.Objects stop) = fault_of_finding stop
-fault_of_joining (joins.Writing stop) = fault_of_stop stop
+-- what that says of the parts, if they are told: the identifier is the least key with two contents; no part has changed
+abbrev pub IsOfLoss : List (List ℕ) → PassFault → Type 0
+IsOfLoss parts (passes.TwoContents id) = Disagree parts (keys.Object id)
+IsOfLoss parts fault = IsOfSame fault

@@ -5,9 +5,9 @@
 mod dumping;
 mod finding;
 mod in_parts;
-mod join_stop;
 mod joining;
 pub mod laws;
+mod merge_stop;
 mod object_counter;
 mod object_row;
 mod pass_fault;

@@ -1,17 +1,19 @@
 //! Plain parts, joined with their objects stored, and in memory.
 
+ghost use Rattle.std.specs.Prelude.{◌≡◌, All, IfOk};
+ghost use Rattle.hprof_devices.specs.declared.health.Health.TheVariants.{Well};
+ghost use Rattle.hprof_devices.specs.Device.{health_of};
+
 use crate::storing::{ORDERED, UNORDERED, keeping, readers_of};
 use hprof_devices::{Device, WriteFault};
-use hprof_engine::join_to;
-use hprof_objects::ObjectStop;
+use hprof_engine::{ToolFault, join_to};
 use hprof_parts::Slices;
 use hprof_runs::MemoryScratch;
-use hprof_segments::SegmentFault;
-use hprof_stored::{JoinStop, join_stored};
+use hprof_stored::join_stored;
 use hprof_stream::Limits;
 use std::alloc::{AllocError, Global};
 use std::io;
-use std::io::Write;
+use std::io::{Read, Write};
 use std::test::*;
 
 /// A writer that takes no more bytes than it has room for.
@@ -34,13 +36,39 @@ impl Write for Short {
     }
 }
 
+/// A reader of a part. No contract tells what it has left.
+#[derive(Drop)]
+struct Untold<'a> {
+    bytes: &'a [u8],
+}
+
+impl Read for Untold<'_> {
+    fn read(&mut self, piece: &mut [u8]) -> io::Result<usize> {
+        self.bytes.read(piece)
+    }
+}
+
+/// Returns readers of the parts, of which no contract tells anything.
+fn untold_of<'a>(
+    alloc: Global,
+    parts: &[&'a [u8]],
+) -> Result<Vec<Device<Untold<'a>>>, AllocError>
+    ensures { IfOk result (λ readers. All (λ reader. health_of reader ≡ Well) readers.items) }
+{
+    let mut readers = Vec::new(alloc);
+    for part in parts {
+        readers.push(Device::new(Untold { bytes: part }))?;
+    }
+    Ok(readers)
+}
+
 /// Joins the parts into a writer with so much room, and returns what it holds.
 fn joined(
     alloc: Global,
     parts: &[&[u8]],
     room: usize,
-) -> Result<(Result<(), JoinStop>, Vec<u8>), AllocError> {
-    let mut readers = readers_of(alloc, parts)?;
+) -> Result<(Result<(), ToolFault>, Vec<u8>), AllocError> {
+    let mut readers = untold_of(alloc, parts)?;
     let mut target = Device::new(Short {
         bytes: Vec::new(alloc),
         room,
@@ -72,8 +100,7 @@ fn a_writer_that_fails(rt: HostRuntime) -> Result<(), Fail> {
     let alloc = rt.alloc();
     let dump = joined_in_memory(alloc, &[ORDERED, UNORDERED])?;
     let (outcome, bytes) = joined(alloc, &[ORDERED, UNORDERED], 100)?;
-    let stuck = SegmentFault::Write(WriteFault::Stuck);
-    assert!(rt; outcome == Err(JoinStop::Writing(ObjectStop::Sink(stuck))));
+    assert!(rt; outcome == Err(ToolFault::Write(WriteFault::Stuck)));
     assert_eq!(rt; bytes.len(), 100);
     assert!(rt; dump.as_slice().starts_with(&bytes));
     Ok(())

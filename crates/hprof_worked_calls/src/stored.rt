@@ -10,14 +10,12 @@ use crate::streams::{Reader, Writer};
 use crate::trouble::Trouble;
 use hprof_devices::Device;
 use hprof_engine::ToolFault;
-use hprof_heap::Key;
 use hprof_large::PassedReport;
-use hprof_making::{MakeStop, make_stored};
-use hprof_objects::{Keeping, ObjectStop};
+use hprof_making::make_stored;
+use hprof_objects::Keeping;
 use hprof_parts::Slices;
 use hprof_runs::MemoryScratch;
-use hprof_segments::SegmentFault;
-use hprof_stored::{JoinStop, PassFault, StoredFault, join_stored};
+use hprof_stored::join_stored;
 use hprof_stream::Limits;
 use std::alloc::{AllocError, Global};
 
@@ -40,55 +38,15 @@ const KEEPINGS: [Keeping; 3] = [
     },
 ];
 
-/// Returns the fault of parts that are in memory, if it is one of these.
-fn fault_of_reading(fault: StoredFault) -> Option<ToolFault> {
-    match fault {
-        StoredFault::Part { index, fault } => Some(ToolFault::Part { index, fault }),
-        StoredFault::NoParts => Some(ToolFault::NoParts),
-        StoredFault::IdSizes => Some(ToolFault::IdSizes),
-        StoredFault::Conflict(key) => Some(ToolFault::Conflict(key)),
-        StoredFault::Scratch(_) => None,
-    }
-}
-
-/// Returns the fault of a report on parts that are in memory, if it is one of these.
-fn fault_of_making(stop: MakeStop) -> Option<ToolFault> {
-    match stop {
-        MakeStop::OutOfMemory | MakeStop::Objects(PassFault::OutOfMemory) => {
-            Some(ToolFault::OutOfMemory)
-        }
-        MakeStop::Reading(fault) => fault_of_reading(fault),
-        MakeStop::Objects(PassFault::TwoContents(id)) => Some(ToolFault::Conflict(Key::Object(id))),
-        MakeStop::Objects(_) => None,
-        MakeStop::Writing(stop) => Some(ToolFault::from(stop)),
-    }
-}
-
-/// Returns the fault of joining parts that are in memory, if it is one of these.
-fn fault_of_joining(stop: JoinStop) -> Option<ToolFault> {
-    match stop {
-        JoinStop::OutOfMemory => Some(ToolFault::OutOfMemory),
-        JoinStop::Reading(fault) => fault_of_reading(fault),
-        JoinStop::Objects(ObjectStop::TwoContents(id)) => {
-            Some(ToolFault::Conflict(Key::Object(id)))
-        }
-        JoinStop::Writing(ObjectStop::Sink(SegmentFault::Write(fault))) => {
-            Some(ToolFault::Write(fault))
-        }
-        JoinStop::Objects(_) | JoinStop::Writing(_) => None,
-    }
-}
-
 /// Returns the text of an answer, where `done` is that of a call that was done.
 fn text_of(
     alloc: Global,
     done: &str,
-    answer: Result<(), Option<ToolFault>>,
+    answer: Result<(), ToolFault>,
 ) -> Result<String, AllocError> {
     match answer {
         Ok(()) => String::from_str(alloc, done),
-        Err(Some(fault)) => text_of_fault(alloc, fault),
-        Err(None) => String::from_str(alloc, "stored objects are lost"),
+        Err(fault) => text_of_fault(alloc, fault),
     }
 }
 
@@ -101,7 +59,7 @@ fn answer_stored(
     target: &mut Device<Writer>,
     limits: Limits,
     keeping: Keeping,
-) -> Option<Result<(), Option<ToolFault>>>
+) -> Option<Result<(), ToolFault>>
     requires readers { All (λ reader. health_of reader ≡ Well) readers.old }
     requires writer { health_of target.old ≡ Well }
 {
@@ -110,13 +68,12 @@ fn answer_stored(
     match call {
         Call::Join => Some(join_stored(
             alloc, readers, &again, limits, keeping, scratch, target,
-        ).map_err(fault_of_joining)),
+        )),
         Call::Report(report) => {
             let report = PassedReport::of(report)?;
             Some(make_stored(
                 alloc, &report, readers, &again, limits, keeping, scratch, target,
-            )
-            .map_err(fault_of_making))
+            ))
         }
         _ => None,
     }
