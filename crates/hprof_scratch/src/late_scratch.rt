@@ -15,17 +15,17 @@ use hprof_runs::{FileScratch, Scratch};
 /// Scratch in a file of a folder. The file is created when the first byte is pushed, so scratch that is not used creates none. If the file
 /// cannot be created, this push and each later one answer `Failed`, and none tries it again. No contract tells the bytes of a file.
 #[derive(Drop)]
-pub struct LateScratch<'a, M: ScratchFolder> {
-    folder: &'a M,
+pub struct LateScratch<M: ScratchFolder + Drop> {
+    folder: M,
     file: LateFile<M::File>,
 }
 
-impl<'a, M: ScratchFolder> LateScratch<'a, M> {
+impl<M: ScratchFolder + Drop> LateScratch<M> {
     ghost use Rattle.hprof_scratch.specs.declared.late_file.LateFile.TheVariants.{Later, Refused};
     ghost use Rattle.hprof_scratch.specs.LateScratch.{late_file};
 
     /// Returns scratch without bytes. Creates no file.
-    pub fn new(folder: &'a M) -> Self
+    pub fn new(folder: M) -> Self
         ensures file { late_file result ≡ Later }
         ensures health { late_health (late_file result) ≡ Well }
     {
@@ -55,7 +55,7 @@ impl<'a, M: ScratchFolder> LateScratch<'a, M> {
     }
 }
 
-impl<M: ScratchFolder> Target for LateScratch<'_, M> {
+impl<M: ScratchFolder + Drop> Target for LateScratch<M> {
     ghost written = { λ it. None };
 
     ghost health = { λ it. late_health it.file };
@@ -80,7 +80,7 @@ impl<M: ScratchFolder> Target for LateScratch<'_, M> {
     }
 }
 
-impl<M: ScratchFolder> Scratch for LateScratch<'_, M> {
+impl<M: ScratchFolder + Drop> Scratch for LateScratch<M> {
     ghost unreadable = { λ it. ⊤ };
 
     fn read_back(&self, at: u64, piece: &mut [u8]) -> Result<usize, ReadFault>

@@ -12,3 +12,12 @@ pub trait ScratchFolder {
     /// it after the program ends.
     fn create(&self) -> io::Result<Self::File>;
 }
+
+/// A folder that is lent.
+impl<M: ScratchFolder> ScratchFolder for &M {
+    type File = M::File;
+
+    fn create(&self) -> io::Result<M::File> {
+        (**self).create()
+    }
+}

@@ -1,0 +1,2 @@
+pub mod HandleAt
+pub mod Handles
