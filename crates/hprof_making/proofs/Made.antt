@@ -130,9 +130,9 @@ module _ {R W : Type 0} (left : R → Option (List ℕ)) (health : R → Health)
       heap_refused left health pulls limits old new written well IsText Refuses before after refusal
       (stopped left health pulls limits old new HaveObject (stops.Refused refusal) (all_read_so left health pulls limits old new some stored out))
       ends.2 (λ told tell.
-          let its = are told tell in
-          let all = its.agree ends.0 in
-          (heap_with heap all.0, ends.1 all.0 (its.made_up heap.ids heap.millis all.0 all.1).2, all.1))
+      let its = are told tell in
+      let all = its.agree ends.0 in
+      (heap_with heap all.0, ends.1 all.0 (its.made_up heap.ids heap.millis all.0 all.1).2, all.1))
 
   pub makes_stopped : (stop : PassStop WriteStop PassFault) (why : WriteStop) → stop ≡ Sink why → Ends (Err stop)
       → MakesSo (Some (fault_of_stop why))

@@ -49,10 +49,7 @@ impl Read for Untold<'_> {
 }
 
 /// Returns readers of the parts, of which no contract tells anything.
-fn untold_of<'a>(
-    alloc: Global,
-    parts: &[&'a [u8]],
-) -> Result<Vec<Device<Untold<'a>>>, AllocError>
+fn untold_of<'a>(alloc: Global, parts: &[&'a [u8]]) -> Result<Vec<Device<Untold<'a>>>, AllocError>
     ensures { IfOk result (λ readers. All (λ reader. health_of reader ≡ Well) readers.items) }
 {
     let mut readers = Vec::new(alloc);

@@ -39,11 +39,7 @@ const KEEPINGS: [Keeping; 3] = [
 ];
 
 /// Returns the text of an answer, where `done` is that of a call that was done.
-fn text_of(
-    alloc: Global,
-    done: &str,
-    answer: Result<(), ToolFault>,
-) -> Result<String, AllocError> {
+fn text_of(alloc: Global, done: &str, answer: Result<(), ToolFault>) -> Result<String, AllocError> {
     match answer {
         Ok(()) => String::from_str(alloc, done),
         Err(fault) => text_of_fault(alloc, fault),
@@ -66,9 +62,7 @@ fn answer_stored(
     let again = Slices::new(parts);
     let scratch = MemoryScratch::new(alloc);
     match call {
-        Call::Join => Some(join_stored(
-            alloc, readers, &again, limits, keeping, scratch, target,
-        )),
+        Call::Join => Some(join_stored(alloc, readers, &again, limits, keeping, scratch, target)),
         Call::Report(report) => {
             let report = PassedReport::of(report)?;
             Some(make_stored(

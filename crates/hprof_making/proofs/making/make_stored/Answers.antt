@@ -52,12 +52,12 @@ returns-in-Ok-write_over g c =
     (TellsPass g.S.Target.written g.S.Target.health g.P.Parts.bytes g.S.Scratch.unreadable it (size_of stored.heap) (facts_of stored.heap))
     held.summaries
     (λ told tell.
-        let bytes = c.requires.again some told tell in
-        of_parts left g.S.Target.written g.S.Target.health g.S.Scratch.unreadable g.P.Parts.bytes law.heap law.agree law.disagree law.faults
-        readers scratch stored it told
-        (are_stored_of left g.S.Target.written g.S.Target.health g.P.Parts.bytes readers scratch stored it c.args.limits
-        c.finish-objects.result c.args.parts.now c.new-objects.ensures.limits c.new-objects.ensures.objects c.new-objects.ensures.parts
-        e.ok c.finish-objects.ensures.holds told tell bytes.0 bytes.1))
+    let bytes = c.requires.again some told tell in
+    of_parts left g.S.Target.written g.S.Target.health g.S.Scratch.unreadable g.P.Parts.bytes law.heap law.agree law.disagree law.faults
+    readers scratch stored it told
+    (are_stored_of left g.S.Target.written g.S.Target.health g.P.Parts.bytes readers scratch stored it c.args.limits
+    c.finish-objects.result c.args.parts.now c.new-objects.ensures.limits c.new-objects.ensures.objects c.new-objects.ensures.parts
+    e.ok c.finish-objects.ensures.holds told tell bytes.0 bytes.1))
     (summaries_held left holds readers kept held) c.in-Ok-write_over.field-0
     (c.in-Ok-write_over.ensures held.summaries held.held)
 
@@ -89,12 +89,12 @@ returns-in-Err-Sink g c =
     (TellsPass g.S.Target.written g.S.Target.health g.P.Parts.bytes g.S.Scratch.unreadable it (size_of stored.heap) (facts_of stored.heap))
     held.summaries
     (λ told tell.
-        let bytes = c.requires.again some told tell in
-        of_parts left g.S.Target.written g.S.Target.health g.S.Scratch.unreadable g.P.Parts.bytes law.heap law.agree law.disagree law.faults
-        readers scratch stored it told
-        (are_stored_of left g.S.Target.written g.S.Target.health g.P.Parts.bytes readers scratch stored it c.args.limits
-        c.finish-objects.result c.args.parts.now c.new-objects.ensures.limits c.new-objects.ensures.objects c.new-objects.ensures.parts
-        e.ok c.finish-objects.ensures.holds told tell bytes.0 bytes.1))
+    let bytes = c.requires.again some told tell in
+    of_parts left g.S.Target.written g.S.Target.health g.S.Scratch.unreadable g.P.Parts.bytes law.heap law.agree law.disagree law.faults
+    readers scratch stored it told
+    (are_stored_of left g.S.Target.written g.S.Target.health g.P.Parts.bytes readers scratch stored it c.args.limits
+    c.finish-objects.result c.args.parts.now c.new-objects.ensures.limits c.new-objects.ensures.objects c.new-objects.ensures.parts
+    e.ok c.finish-objects.ensures.holds told tell bytes.0 bytes.1))
     (summaries_held left holds readers kept held) c.in-Err-Sink.field-0
     c.in-Err-Sink.stop c.in-Err-Sink.field-0-is (c.in-Err-Sink.ensures held.summaries held.held))
 
@@ -126,11 +126,11 @@ returns g c =
     (TellsPass g.S.Target.written g.S.Target.health g.P.Parts.bytes g.S.Scratch.unreadable it (size_of stored.heap) (facts_of stored.heap))
     held.summaries
     (λ told tell.
-        let bytes = c.requires.again some told tell in
-        of_parts left g.S.Target.written g.S.Target.health g.S.Scratch.unreadable g.P.Parts.bytes law.heap law.agree law.disagree law.faults
-        readers scratch stored it told
-        (are_stored_of left g.S.Target.written g.S.Target.health g.P.Parts.bytes readers scratch stored it c.args.limits
-        c.finish-objects.result c.args.parts.now c.new-objects.ensures.limits c.new-objects.ensures.objects c.new-objects.ensures.parts
-        e.ok c.finish-objects.ensures.holds told tell bytes.0 bytes.1))
+    let bytes = c.requires.again some told tell in
+    of_parts left g.S.Target.written g.S.Target.health g.S.Scratch.unreadable g.P.Parts.bytes law.heap law.agree law.disagree law.faults
+    readers scratch stored it told
+    (are_stored_of left g.S.Target.written g.S.Target.health g.P.Parts.bytes readers scratch stored it c.args.limits
+    c.finish-objects.result c.args.parts.now c.new-objects.ensures.limits c.new-objects.ensures.objects c.new-objects.ensures.parts
+    e.ok c.finish-objects.ensures.holds told tell bytes.0 bytes.1))
     (summaries_held left holds readers kept held) c.in-Err-Lost.field-0
     c.in-Err-Lost.fault c.in-Err-Lost.field-0-is (c.in-Err-Lost.ensures held.summaries held.held))

@@ -42,14 +42,14 @@ returns-in-Err-find_conflict g c =
     (pass_makes left g.R.Source.health g.R.Source.pulls c.args.limits old c.read_stored.new.readers g.W.Target.written g.W.Target.health
     IsDumpText (λ refusal heap. ⊥) c.args.target.now c.args.target.now some e.reads out c.requires.target refl (pass_fault stop)
     (λ parts told.
-        let bytes = c.requires.again some parts told in
-        let are = by_parts left c.args.limits old holds.parts holds.stored holds.given heap holds.tells parts told in
-        let again = told_again c.args.limits g.S.Target.written g.S.Target.health parts holds.parts (g.P.Parts.bytes c.args.parts.now) objects
-        bytes.0 are (c.finish-objects.ensures.holds c.args.limits (all_read holds.parts) (holds.objects bytes.1)) in
-        is_of_loss left c.args.limits old holds.parts holds.stored holds.given heap holds.tells parts told
-        c.conflicts_of_objects_come_last.ensures.objects stop (c.in-Err-find_conflict.ensures.least (all_read holds.parts) again)
-        (same_stop g.S.Target.written g.S.Target.health c.args.limits (g.P.Parts.bytes c.args.parts.now) (all_read holds.parts) objects again
-        stop c.in-Err-find_conflict.ensures.again)))
+    let bytes = c.requires.again some parts told in
+    let are = by_parts left c.args.limits old holds.parts holds.stored holds.given heap holds.tells parts told in
+    let again = told_again c.args.limits g.S.Target.written g.S.Target.health parts holds.parts (g.P.Parts.bytes c.args.parts.now) objects
+    bytes.0 are (c.finish-objects.ensures.holds c.args.limits (all_read holds.parts) (holds.objects bytes.1)) in
+    is_of_loss left c.args.limits old holds.parts holds.stored holds.given heap holds.tells parts told
+    c.conflicts_of_objects_come_last.ensures.objects stop (c.in-Err-find_conflict.ensures.least (all_read holds.parts) again)
+    (same_stop g.S.Target.written g.S.Target.health c.args.limits (g.P.Parts.bytes c.args.parts.now) (all_read holds.parts) objects again
+    stop c.in-Err-find_conflict.ensures.again)))
 
 -- all was written
 pub returns-in-Ok-write_stored_dump : goal.returns-in-Ok-write_stored_dump
@@ -68,16 +68,16 @@ returns-in-Ok-write_stored_dump g c =
     (all_read_so left g.R.Source.health g.R.Source.pulls c.args.limits old c.read_stored.new.readers some e.reads out)
     c.in-Ok-write_stored_dump.ensures.health
     (λ parts told.
-        let bytes = c.requires.again some parts told in
-        let are = by_parts left c.args.limits old holds.parts holds.stored holds.given heap holds.tells parts told in
-        let again = told_again c.args.limits g.S.Target.written g.S.Target.health parts holds.parts (g.P.Parts.bytes c.args.parts.now) objects
-        bytes.0 are (c.finish-objects.ensures.holds c.args.limits (all_read holds.parts) (holds.objects bytes.1)) in
-        let union = c.in_default-find_conflict.ensures.none (all_read holds.parts) again in (
-          dump_with heap union.0,
-          is_dump left c.args.limits old holds.parts holds.stored holds.given heap holds.tells parts told
-              c.objects_stand_behind.ensures.objects c.objects_stand_behind.ensures.heap union.0 union.1,
-          c.in-Ok-write_stored_dump.ensures.dump (all_read holds.parts) union.0 again union.1,
-        ))
+    let bytes = c.requires.again some parts told in
+    let are = by_parts left c.args.limits old holds.parts holds.stored holds.given heap holds.tells parts told in
+    let again = told_again c.args.limits g.S.Target.written g.S.Target.health parts holds.parts (g.P.Parts.bytes c.args.parts.now) objects
+    bytes.0 are (c.finish-objects.ensures.holds c.args.limits (all_read holds.parts) (holds.objects bytes.1)) in
+    let union = c.in_default-find_conflict.ensures.none (all_read holds.parts) again in (
+      dump_with heap union.0,
+      is_dump left c.args.limits old holds.parts holds.stored holds.given heap holds.tells parts told
+          c.objects_stand_behind.ensures.objects c.objects_stand_behind.ensures.heap union.0 union.1,
+      c.in-Ok-write_stored_dump.ensures.dump (all_read holds.parts) union.0 again union.1,
+    ))
 
 -- writing stopped
 pub returns : goal.returns
@@ -99,27 +99,27 @@ returns g c =
     (stop_makes left g.R.Source.health g.R.Source.pulls c.args.limits old c.read_stored.new.readers g.W.Target.written g.W.Target.health
     c.args.target.now c.write_stored_dump.new.target some e.reads out
     (λ parts told.
-        let bytes = c.requires.again some parts told in
-        let are = by_parts left c.args.limits old holds.parts holds.stored holds.given heap holds.tells parts told in
-        let again = told_again c.args.limits g.S.Target.written g.S.Target.health parts holds.parts (g.P.Parts.bytes c.args.parts.now) objects
-        bytes.0 are (c.finish-objects.ensures.holds c.args.limits (all_read holds.parts) (holds.objects bytes.1)) in
-        let union = c.in_default-find_conflict.ensures.none (all_read holds.parts) again in
-        let writes = w.dump (all_read holds.parts) union.0 again union.1 in (
-          dump_with heap union.0,
-          writes.0,
-          is_dump left c.args.limits old holds.parts holds.stored holds.given heap holds.tells parts told
-              c.objects_stand_behind.ensures.objects c.objects_stand_behind.ensures.heap union.0 union.1,
-          writes.2,
-        )) stop w.health
+    let bytes = c.requires.again some parts told in
+    let are = by_parts left c.args.limits old holds.parts holds.stored holds.given heap holds.tells parts told in
+    let again = told_again c.args.limits g.S.Target.written g.S.Target.health parts holds.parts (g.P.Parts.bytes c.args.parts.now) objects
+    bytes.0 are (c.finish-objects.ensures.holds c.args.limits (all_read holds.parts) (holds.objects bytes.1)) in
+    let union = c.in_default-find_conflict.ensures.none (all_read holds.parts) again in
+    let writes = w.dump (all_read holds.parts) union.0 again union.1 in (
+      dump_with heap union.0,
+      writes.0,
+      is_dump left c.args.limits old holds.parts holds.stored holds.given heap holds.tells parts told
+          c.objects_stand_behind.ensures.objects c.objects_stand_behind.ensures.heap union.0 union.1,
+      writes.2,
+    )) stop w.health
     (λ parts told.
-        let bytes = c.requires.again some parts told in
-        let are = by_parts left c.args.limits old holds.parts holds.stored holds.given heap holds.tells parts told in
-        let again = told_again c.args.limits g.S.Target.written g.S.Target.health parts holds.parts (g.P.Parts.bytes c.args.parts.now) objects
-        bytes.0 are (c.finish-objects.ensures.holds c.args.limits (all_read holds.parts) (holds.objects bytes.1)) in
-        let union = c.in_default-find_conflict.ensures.none (all_read holds.parts) again in (
-          w.stops (all_read holds.parts) union.0 again union.1
-              (are_subs left c.args.limits old holds.parts holds.stored holds.given heap holds.tells parts told
-              c.objects_stand_behind.ensures.objects union.0 union.1),
-          same_stop g.S.Target.written g.S.Target.health c.args.limits (g.P.Parts.bytes c.args.parts.now) (all_read holds.parts) objects again
-              stop w.again,
-        )))
+    let bytes = c.requires.again some parts told in
+    let are = by_parts left c.args.limits old holds.parts holds.stored holds.given heap holds.tells parts told in
+    let again = told_again c.args.limits g.S.Target.written g.S.Target.health parts holds.parts (g.P.Parts.bytes c.args.parts.now) objects
+    bytes.0 are (c.finish-objects.ensures.holds c.args.limits (all_read holds.parts) (holds.objects bytes.1)) in
+    let union = c.in_default-find_conflict.ensures.none (all_read holds.parts) again in (
+      w.stops (all_read holds.parts) union.0 again union.1
+          (are_subs left c.args.limits old holds.parts holds.stored holds.given heap holds.tells parts told
+          c.objects_stand_behind.ensures.objects union.0 union.1),
+      same_stop g.S.Target.written g.S.Target.health c.args.limits (g.P.Parts.bytes c.args.parts.now) (all_read holds.parts) objects again
+          stop w.again,
+    )))
