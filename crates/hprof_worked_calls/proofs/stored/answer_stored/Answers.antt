@@ -1,9 +1,12 @@
-use Rattle.std.proofs.Common.{refl}
+use Rattle.std.proofs.Common.{ℕ, List, [], Option, None, refl}
+use Rattle.std.specs.Prelude.{IsSome}
 use Rattle.hprof_stored.proofs.Untold.{untold_again}
 use Rattle.hprof_worked_calls.proofs.stored.answer_stored.Goals as goal
 
 pub join_stored-requires-clause-again : goal.join_stored-requires-clause-again
-join_stored-requires-clause-again c = untold_again _ _ _ _ (λ reader. refl)
+join_stored-requires-clause-again c = λ some told tell. absurd (let no : IsSome {T = List ℕ} None =
+    (untold_again _ _ [] None (λ reader. refl) some told tell).1 in cc)
 
 pub make_stored-requires-clause-again : goal.make_stored-requires-clause-again
-make_stored-requires-clause-again c = untold_again _ _ _ _ (λ reader. refl)
+make_stored-requires-clause-again c = λ some told tell. absurd (let no : IsSome {T = List ℕ} None =
+    (untold_again _ _ [] None (λ reader. refl) some told tell).1 in cc)
