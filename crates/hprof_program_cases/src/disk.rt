@@ -1,7 +1,7 @@
 //! The program on the real disk.
 
 use crate::expecting::{equal_at, equal_bytes, holds};
-use crate::words::words_of;
+use crate::words::{STORAGE, words_of};
 use hprof_fixtures::{END, HEADER, NAME_1_A, bytes_of};
 use hprof_tool::run;
 use std::alloc::{AllocError, Global};
@@ -41,6 +41,7 @@ fn expect_ran(
     let status = run(
         alloc,
         files,
+        STORAGE,
         list,
         HEADER,
         &mut output,

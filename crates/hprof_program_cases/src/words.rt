@@ -3,10 +3,16 @@
 use crate::expecting::equal_at;
 use crate::pushes::{TALLY, Tally};
 use hprof_fixtures::{HEADER, NAME_1_A, NAME_1_B, bytes_of};
-use hprof_tool::run;
+use hprof_tool::{Storage, run};
 use std::alloc::Global;
 use std::io;
 use std::test::Fail;
+
+/// Where the cases keep objects.
+pub(crate) const STORAGE: Storage<'static> = Storage {
+    memory: 0,
+    folder: "/tmp",
+};
 
 /// Returns the words of the command line after the program's name.
 pub(crate) fn words_of(alloc: Global, words: &[&str]) -> Result<Vec<String>, Fail> {
@@ -34,6 +40,7 @@ fn words_that_cannot_be_had(rt: HostRuntime) -> Result<(), Fail> {
         let status = run(
             rt.alloc(),
             &rt,
+            STORAGE,
             words,
             HEADER,
             &mut output,
@@ -61,6 +68,7 @@ fn refusals_are_told_once(rt: HostRuntime) -> Result<(), Fail> {
         let status = run(
             rt.alloc(),
             &rt,
+            STORAGE,
             list,
             input,
             &mut output,

@@ -141,3 +141,8 @@ pub if_the_error : {A : Type 0} (P : Refused → Type 0) (outcome : Result A Ref
     → IsErrAnd outcome (λ e. e ≡ refused) → IfErr outcome P
 if_the_error P (Ok x) refused holds is = tt
 if_the_error P (Err e) refused holds is = subst P (sym is) holds
+
+-- want of memory is not that there are no parts
+pub no_memory_is_none : {A : Type 0} (why : Refused) → why ≡ refusals.OutOfMemory → ◌≡◌ {A = Result A Refused} (Err why)
+    (Err (refusals.Engine tool.NoParts)) → ⊥
+no_memory_is_none why is same = cc

@@ -1,3 +1,6 @@
+mod Again
+mod Weaker
+mod PassedMaking
 pub mod Conversing
 pub mod Ends
 pub mod Making

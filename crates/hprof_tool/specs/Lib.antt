@@ -1,3 +1,6 @@
+pub mod Again
+pub mod PartFile
+pub mod MeteredPart
 pub mod Conversing
 pub mod Folder
 pub mod Program

@@ -2,12 +2,14 @@
 use Rattle.std.specs.Prelude.{◌≡◌, ℕ, List, Option, Some, None, ⊤}
 use Rattle.std.specs.Io.KnownBytes.{Appends}
 use Rattle.hprof_devices.specs.declared.health.Health.{Health}
-use Rattle.hprof_engine.specs.Makes.{IsDump, IsMadeOf, Making, dump_making}
+use Rattle.hprof_engine.specs.Makes.{IsDump, IsMadeOf, Making}
+use Rattle.hprof_stored.specs.StoredMaking.{stored_dump_making}
 use Rattle.hprof_engine.specs.Joining101.{dump101_making}
 use Rattle.hprof_ask.specs.declared.report.Report.{Report}
 use Rattle.hprof_ask.specs.declared.subject.Misnamed.{Misnamed}
 use Rattle.hprof_ask.specs.Asked.{AsksReport, IsMisnamed}
-use Rattle.hprof_ask.specs.Report.{IsReportText, report_making}
+use Rattle.hprof_ask.specs.Report.{IsReportText}
+use Rattle.hprof_tool.specs.Again.{report_of_parts}
 use Rattle.hprof_engine.specs.declared.salvaged.Salvaged.{Salvaged}
 use Rattle.hprof_tool.specs.declared.command.NewFile.{NewFile}
 use Rattle.hprof_tool.specs.declared.command.NewFile.TheVariants as files
@@ -30,7 +32,7 @@ IsMisnamedTask other fault = ⊥
 
 -- how a dump is made for a new file
 abbrev pub new_file_making : NewFile → Making
-new_file_making files.Dump = dump_making
+new_file_making files.Dump = stored_dump_making
 new_file_making files.Dump101 = dump101_making
 
 -- the task writes no new file
@@ -83,7 +85,7 @@ module _ {P W I O : Type 0} (answered : Answered P W) (tells : P → Option (Lis
       (after : O) × (new ≡ Some after)
       × RefusesSalvage answered tells health pulls holds parts.items out.name.now contents file old after why
   RefusesTask (tasks.Report word text parts) input old why new = (report : Report) × AsksReport word text.now report
-      × RefusesReport (report_making report) answered tells health pulls contents parts.items old why new
+      × RefusesReport (report_of_parts report) answered tells health pulls contents parts.items old why new
   RefusesTask (tasks.Compare older newer) input old why new =
       RefusesDiff answered tells older.now newer.now contents old health pulls why new
   RefusesTask (tasks.Ask parts) input old why new =

@@ -6,6 +6,7 @@ mod command;
 pub mod laws;
 mod program;
 mod status;
+mod storage;
 
 pub use hprof_ask::{
     AskFault, DialogueStop, HeapReport, KindReport, Kinds, Node, NodeReport, Report, ask_to,
@@ -15,10 +16,11 @@ pub use hprof_ask::{
 pub use hprof_devices::{Device, Health, Source, Target};
 pub use hprof_diff::{DiffFault, diff_to};
 pub use hprof_engine::{
-    FaultedPart, Joined, JoinedHeap, Salvaged, SalvagedHeap, ToolFault, join_kept, join_to,
+    FaultedPart, Joined, JoinedHeap, Loss, Salvaged, SalvagedHeap, ToolFault, join_kept, join_to,
     join101_kept, join101_to, salvage_kept, salvage_to,
 };
 pub use hprof_heap::Heap;
 pub use hprof_stream::{Limits, PartFault};
 pub use program::run;
 pub use status::Status;
+pub use storage::Storage;

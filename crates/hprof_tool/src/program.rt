@@ -8,7 +8,8 @@ ghost use Rattle.hprof_ask.specs.declared.report.Report.{Report};
 ghost use Rattle.hprof_ask.specs.declared.subject.Misnamed.{Misnamed};
 ghost use Rattle.hprof_ask.specs.Asked.{AsksReport, IsMisnamed};
 ghost use Rattle.hprof_ask.specs.HeapAnswers.{misnamed_text};
-ghost use Rattle.hprof_ask.specs.Report.{IsReportText, report_making};
+ghost use Rattle.hprof_ask.specs.Report.{IsReportText};
+ghost use Rattle.hprof_tool.specs.Again.{report_of_parts};
 ghost use Rattle.hprof_tool.specs.Comparing.{ComparesFiles, RefusesDiff};
 ghost use Rattle.hprof_tool.specs.Conversing.{AnswersQuestions, HasFailed, RefusesQuestions};
 ghost use Rattle.hprof_engine.specs.declared.salvaged.Salvaged.{Salvaged};
@@ -22,6 +23,7 @@ ghost use Rattle.hprof_tool.specs.Words.{is_new_file};
 
 use crate::command::{Misunderstood, NewFile, OutName, Task, task_of};
 use crate::status::Status;
+use crate::storage::Storage;
 use answers::{
     Ended, EndedFile, answer_misnamed, answer_no_command, answer_no_words, answer_stream,
     answer_words, refuse,
@@ -33,7 +35,7 @@ use hprof_ask::ReportWord;
 use hprof_devices::{Device, Source};
 use hprof_engine::{Dump, Dump101};
 use joining::{join_stream, report_files, write_file};
-use made::Made;
+use made::{Made, OfHeap};
 use meter::Meter;
 use metered::{Clearing, Metered};
 use prompting::Prompting;
@@ -43,8 +45,10 @@ use std::alloc::Global;
 use std::env::Args;
 use std::io;
 use std::io::{Read, Write};
+use std::os::unix::fs::FileExt;
 use std::rt::{Clock, Files};
 
+mod again;
 mod answers;
 mod comparing;
 mod conversing;
@@ -54,9 +58,11 @@ mod made;
 mod meter;
 mod metered;
 mod opening;
+mod part_file;
 mod prompting;
 mod refused;
 mod salvaging;
+mod scratch_place;
 mod telling;
 mod writing;
 
@@ -170,7 +176,7 @@ fn report<F: Folder, O: Write + Drop, E: Write>(
         × ((written : O) × (result.output ≡ Some written) × IsMadeOfFiles (IsMadeOf (IsReportText report)) (F.answered files.now)
         F.Part.left O.contents names.now output written) }
     ensures refused { result.status ≡ Status.Refused → (report : Report) × AsksReport word text.now report
-        × ((why : Refused) × RefusesReport (report_making report) (F.answered files.now) F.Part.left F.Part.health F.Part.pulls
+        × ((why : Refused) × RefusesReport (report_of_parts report) (F.answered files.now) F.Part.left F.Part.health F.Part.pulls
         O.contents names.now output why result.output × TellsRefusal why (E.contents errors.old) (E.contents errors.new)) }
     ensures silent { result.status ≡ Status.Done → errors.new ≡ errors.old }
     ensures understood { (report : Report) → AsksReport word text.now report → result.status ≢ Status.NotUnderstood }
@@ -215,7 +221,10 @@ fn write_dump<F: Folder, E: Write>(
 {
     match product {
         NewFile::Dump => write_new_file(alloc, files, &Dump, out, names, errors),
-        NewFile::Dump101 => write_new_file(alloc, files, &Dump101, out, names, errors),
+        NewFile::Dump101 => {
+            let product = OfHeap { product: Dump101 };
+            write_new_file(alloc, files, &product, out, names, errors)
+        }
     }
 }
 
@@ -368,17 +377,23 @@ fn perform<F: Folder, I: Source + Drop, O: Write + Drop, E: Write, P: Write + Dr
 fn perform_metered<S: Files + Clock, I: Read + Drop, O: Write + Drop, E: Write, P: Write + Drop>(
     alloc: Global,
     system: &S,
+    storage: Storage<'_>,
     task: Task<'_>,
     input: I,
     output: O,
     errors: &mut E,
     prompts: Option<P>,
     terminal: Option<P>,
-) -> Status {
+) -> Status
+where
+    S::File: FileExt,
+{
     let meter = Meter::new(terminal);
     let files = Metered {
+        alloc,
         system,
         meter: &meter,
+        storage,
     };
     let output = Clearing {
         meter: &meter,
@@ -409,24 +424,30 @@ fn perform_metered<S: Files + Clock, I: Read + Drop, O: Write + Drop, E: Write, 
 /// - `ask PART..` reads parts in files, and answers on `output` the questions that come as lines on `input`. It prompts for each line on
 ///   `prompts`, if there are prompts.
 ///
+/// `storage` says how many bytes of objects may be in memory, and where more of them go.
+///
 /// While parts in files are read, a line on `terminal`, if there is one, says how much of them was read.
 pub fn run<S: Files + Clock, I: Read + Drop, O: Write + Drop, E: Write, P: Write + Drop>(
     alloc: Global,
     system: &S,
+    storage: Storage<'_>,
     words: io::Result<Args>,
     input: I,
     mut output: O,
     errors: &mut E,
     prompts: Option<P>,
     terminal: Option<P>,
-) -> Status {
+) -> Status
+where
+    S::File: FileExt,
+{
     let words = match list_of(alloc, words) {
         Ok(words) => words,
         Err(error) => return answer_no_words(alloc, &error, errors),
     };
     match task_of(alloc, &words) {
         Ok(task) => perform_metered(
-            alloc, system, task, input, output, errors, prompts, terminal,
+            alloc, system, storage, task, input, output, errors, prompts, terminal,
         ),
         Err(Misunderstood::Words(error)) => answer_words(alloc, &error, &mut output, errors),
         Err(Misunderstood::NoCommand) => answer_no_command(errors),

@@ -8,6 +8,8 @@ ghost use Rattle.hprof_diff.specs.DifferenceText.{IsDifferenceOf};
 ghost use Rattle.hprof_tool.specs.Comparing.{ComparesFiles, IsOfOpeningOne, IsOneOpened, OverBoth, RefusesDiff, StopsComparing};
 
 use crate::program::folder::Folder;
+use crate::program::joining::READ_ONCE;
+use crate::program::made::OfHeap;
 use crate::program::refused::{Refused, Stopped};
 use crate::program::writing::write_through_buffer;
 use hprof_devices::Source;
@@ -39,7 +41,10 @@ fn compare_readers<R: Source, W: Write + Drop>(
             });
         }
     };
-    match write_through_buffer(alloc, &GrowthReport { old: &old }, news, writer) {
+    let growth = OfHeap {
+        product: GrowthReport { old: &old },
+    };
+    match write_through_buffer(alloc, &growth, news, READ_ONCE, writer) {
         Ok(written) => Ok(written),
         Err(stopped) => Err(Stopped {
             why: stopped.why.of_dump(1),

@@ -1,14 +1,17 @@
 //! The files of the program.
 
-ghost use Rattle.std.specs.Prelude.{◌≡◌, ℕ, List, [], IfOk, IfErr, OnErr};
+ghost use Rattle.std.specs.Prelude.{◌≡◌, ℕ, List, [], Some, IsSome, IfOk, IfErr, IfSome, OnErr};
 ghost use Rattle.std.specs.Io.Buffered.{writer_buffer, writer_inner};
 ghost use Rattle.hprof_devices.specs.declared.health.Health.TheVariants.{Well};
+ghost use Rattle.hprof_runs.specs.ReadBack.{HoldsNothing};
 ghost use Rattle.hprof_tool.specs.Folder.{Answered};
 
 use crate::command::OutName;
 use crate::program::refused::Refused;
 use hprof_devices::Source;
-use std::alloc::Global;
+use hprof_handles::ReadAt;
+use hprof_runs::Scratch;
+use std::alloc::{AllocError, Global};
 use std::io;
 use std::io::{BufWriter, Write};
 
@@ -19,6 +22,12 @@ pub(crate) trait Folder {
 
     /// An open part.
     type Part: Source + Drop;
+
+    /// What reads a part again, at offsets.
+    type Handle: ReadAt + Drop;
+
+    /// Scratch for objects.
+    type Scratch: Scratch + Drop;
 
     /// A new file.
     type Out: Write + Drop;
@@ -31,6 +40,24 @@ pub(crate) trait Folder {
         ensures opened { IfOk result ((answered self.now).IsOpened name.now) }
         ensures well { IfOk result (λ part. Self.Part.health part ≡ Well) }
         ensures fails { OnErr result ((answered self.now).CannotOpen name.now) };
+
+    /// Returns what reads the part again, or `None` if it is no regular file.
+    fn handle(&self, part: &Self::Part) -> Result<Option<Self::Handle>, AllocError>
+        ensures { IfOk result (λ handle. IfSome handle (λ handle. (told : List ℕ) → Self.Part.left part.now ≡ Some told
+            → Self.Handle.bytes handle ≡ Some told)) };
+
+    /// Returns whether the parts are too long for their objects to stay in memory.
+    fn are_long(&self, parts: &[Self::Part]) -> bool;
+
+    /// Returns scratch without bytes. It is beside the new file, if one is written.
+    fn scratch(&self, alloc: Global, out: Option<&str>) -> Result<Self::Scratch, AllocError>
+        ensures nothing { IfOk result (λ scratch. HoldsNothing (Self.Scratch.written scratch)) }
+        ensures well { IfOk result (λ scratch. Self.Scratch.health scratch ≡ Well) }
+        ensures told { IfOk result (λ scratch. (handle : Self.Handle) → IsSome (Self.Handle.bytes handle)
+            → IsSome (Self.Scratch.written scratch)) };
+
+    /// Returns the number of bytes that objects may take in memory.
+    fn memory(&self) -> u64;
 
     /// Creates a new file, if there is none, behind a buffer. If there is no memory for the buffer, the file is removed; if it cannot be
     /// removed, it stays.

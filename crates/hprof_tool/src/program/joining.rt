@@ -1,23 +1,52 @@
 //! Products of a stream, or of files.
 
-ghost use Rattle.std.specs.Prelude.{◌≡◌, length, Err, IfOk, IfErr};
+ghost use Rattle.std.specs.Prelude.{◌≡◌, length, Err, IfOk, IfErr, IfSome};
 ghost use Rattle.hprof_devices.specs.declared.health.Health.TheVariants.{Well};
 ghost use Rattle.hprof_engine.specs.Makes.{IsDump};
+ghost use Rattle.hprof_tool.specs.Again.{IsReadyFor};
 ghost use Rattle.hprof_tool.specs.Folder.{MayCreateBehind};
 ghost use Rattle.hprof_tool.specs.Program.{IsMadeOfStream, IsMadeInFile, IsMadeOfFiles, IsFilesRefusal};
 ghost use Rattle.hprof_tool.specs.Program.{IsOfMaking};
 ghost use Rattle.hprof_tool.specs.Streams.{RefusesStream, RefusesReport};
 
 use crate::command::OutName;
+use crate::program::again::{Again, again_of};
 use crate::program::folder::Folder;
-use crate::program::made::Made;
+use crate::program::made::{Made, OfHeap};
 use crate::program::opening::{Started, open_parts, start_file};
 use crate::program::refused::{Refused, Stopped};
 use crate::program::writing::{write_buffered, write_through_buffer};
 use hprof_devices::Source;
 use hprof_engine::{Dump, ToolFault};
+use hprof_handles::SharedFile;
+use hprof_runs::MemoryScratch;
 use std::alloc::Global;
+use std::fs::File;
 use std::io::Write;
+
+/// Parts that are read once.
+pub(crate) const READ_ONCE: Option<Again<SharedFile<File>, MemoryScratch>> = None;
+
+/// Returns what is needed to read the objects of opened parts again, or `None` if the product does not need it, or if one of the parts is no
+/// regular file.
+fn again_for<P: Made, F: Folder>(
+    alloc: Global,
+    files: &F,
+    product: &P,
+    parts: &[F::Part],
+    out: Option<&str>,
+) -> Result<Option<Again<F::Handle, F::Scratch>>, Refused>
+    ensures ready { IfOk result (λ again. IfSome again (IsReadyFor F.Part.left F.Handle.bytes F.Scratch.written F.Scratch.health parts.now)) }
+    ensures refused { IfErr result (λ why. why ≡ Refused.OutOfMemory) }
+{
+    if !product.reads_again() {
+        return Ok(None);
+    }
+    match again_of(alloc, files, parts, out) {
+        Ok(again) => Ok(again),
+        Err(_) => Err(Refused::OutOfMemory),
+    }
+}
 
 /// Joins the one part that a reader gives into a stream, which it gives back.
 pub(crate) fn join_stream<I: Source + Drop, O: Write + Drop>(
@@ -37,7 +66,8 @@ pub(crate) fn join_stream<I: Source + Drop, O: Write + Drop>(
             writer: Some(output),
         });
     };
-    write_through_buffer(alloc, &Dump, &mut part, output)
+    let product = OfHeap { product: Dump };
+    write_through_buffer(alloc, &product, &mut part, READ_ONCE, output)
 }
 
 /// Writes the product of parts in files to a new file, which it gives back. It is created once all parts are opened. After a refusal it
@@ -62,7 +92,15 @@ pub(crate) fn write_file<P: Made, F: Folder>(
         mut parts,
         buffered,
     } = start_file(alloc, files, out, names)?;
-    match write_buffered(alloc, product, &mut parts, buffered) {
+    let again = match again_for(alloc, files, product, &parts, Some(name)) {
+        Ok(again) => again,
+        Err(why) => {
+            let (file, _) = buffered.into_parts();
+            files.remove_out(name, file);
+            return Err(why);
+        }
+    };
+    match write_buffered(alloc, product, &mut parts, again, buffered) {
         Ok(file) => Ok(file),
         Err(left) => {
             files.remove_out(name, left.writer);
@@ -95,5 +133,14 @@ pub(crate) fn report_files<P: Made, F: Folder, O: Write + Drop>(
             });
         }
     };
-    write_through_buffer(alloc, report, &mut parts, output)
+    let again = match again_for(alloc, files, report, &parts, None) {
+        Ok(again) => again,
+        Err(why) => {
+            return Err(Stopped {
+                why,
+                writer: Some(output),
+            });
+        }
+    };
+    write_through_buffer(alloc, report, &mut parts, again, output)
 }

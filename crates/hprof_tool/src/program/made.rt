@@ -4,12 +4,19 @@ ghost use Rattle.std.specs.Prelude.{◌≡◌, All};
 ghost use Rattle.hprof_devices.specs.declared.health.Health.TheVariants.{Well};
 ghost use Rattle.hprof_engine.specs.Joining.{fault_of};
 ghost use Rattle.hprof_engine.specs.Makes.{Makes, making_of};
+ghost use Rattle.hprof_stored.specs.StoredMaking.{stored_dump_making, stored_making};
+ghost use Rattle.hprof_tool.specs.Again.{IsReadyFor};
 ghost use Rattle.hprof_tool.specs.Program.{usual_limits};
 
+use crate::program::again::Again;
 use hprof_ask::{Node, NodeReport, Report, refs_to, who_to};
 use hprof_devices::{Source, Target};
-use hprof_diff::GrowthReport;
-use hprof_engine::{Dump, Dump101, Product, ToolFault, make_to};
+use hprof_engine::{Dump, Product, ToolFault, make_to};
+use hprof_handles::{Handles, ReadAt};
+use hprof_large::PassedReport;
+use hprof_making::{PassProduct, make_stored};
+use hprof_runs::Scratch;
+use hprof_stored::join_stored;
 use hprof_stream::Limits;
 use std::alloc::Global;
 use std::mem;
@@ -36,9 +43,72 @@ fn make_of_heap<P: Product, R: Source, W: Target>(
     }
 }
 
+/// Joins the parts of the readers, whose objects are read again.
+fn join_again<R: Source, H: ReadAt + Drop, S: Scratch + Drop, W: Target>(
+    alloc: Global,
+    readers: &mut [R],
+    again: Again<H, S>,
+    target: &mut W,
+) -> Result<(), ToolFault>
+    requires readers { All (λ reader. R.health reader ≡ Well) readers.old }
+    requires writer { W.health target.old ≡ Well }
+    requires again { IsReadyFor R.left H.bytes S.written S.health readers.old again }
+    ensures { Makes R.left R.health R.pulls W.written W.health usual_limits stored_dump_making readers.old readers.new target.old target.new
+        (fault_of result) }
+{
+    let Again {
+        handles,
+        scratch,
+        keeping,
+    } = again;
+    let parts = Handles::new(&handles);
+    join_stored(
+        alloc,
+        readers,
+        &parts,
+        Limits::usual(),
+        keeping,
+        scratch,
+        target,
+    )
+}
+
+/// Makes something of passes over the objects of the parts of the readers.
+fn make_again<M: PassProduct, R: Source, H: ReadAt + Drop, S: Scratch + Drop, W: Target>(
+    alloc: Global,
+    product: &M,
+    readers: &mut [R],
+    again: Again<H, S>,
+    target: &mut W,
+) -> Result<(), ToolFault>
+    requires readers { All (λ reader. R.health reader ≡ Well) readers.old }
+    requires writer { W.health target.old ≡ Well }
+    requires again { IsReadyFor R.left H.bytes S.written S.health readers.old again }
+    ensures { Makes R.left R.health R.pulls W.written W.health usual_limits
+        (stored_making (M.is_text product.now) (M.refuses product.now)) readers.old readers.new target.old target.new (fault_of result) }
+{
+    let Again {
+        handles,
+        scratch,
+        keeping,
+    } = again;
+    let parts = Handles::new(&handles);
+    make_stored(
+        alloc,
+        product,
+        readers,
+        &parts,
+        Limits::usual(),
+        keeping,
+        scratch,
+        target,
+    )
+}
+
 /// A product that a command makes.
 pub(crate) trait Made {
-    ghost use Rattle.std.specs.Prelude.{◌≡◌, All};
+    ghost use Rattle.std.specs.Prelude.{◌≡◌, All, IfSome};
+    ghost use Rattle.hprof_tool.specs.Again.{IsReadyFor};
     ghost use Rattle.hprof_devices.specs.declared.health.Health.TheVariants.{Well};
     ghost use Rattle.hprof_engine.specs.Joining.{fault_of};
     ghost use Rattle.hprof_engine.specs.Makes.{Makes, Making};
@@ -47,77 +117,96 @@ pub(crate) trait Made {
     // What is made.
     ghost making: { Self → Making };
 
-    /// Makes it of the parts of the readers.
-    fn make<R: Source, W: Target>(
+    /// Returns whether the objects of the parts are read again, if they can be.
+    fn reads_again(&self) -> bool;
+
+    /// Makes it of the parts of the readers. Their objects are read again with `again`, if they can be.
+    fn make<R: Source, H: ReadAt + Drop, S: Scratch + Drop, W: Target>(
         &self,
         alloc: Global,
         readers: &mut [R],
+        again: Option<Again<H, S>>,
         target: &mut W,
     ) -> Result<(), ToolFault>
         requires readers { All (λ reader. R.health reader ≡ Well) readers.old }
         requires writer { W.health target.old ≡ Well }
+        requires again { IfSome again (IsReadyFor R.left H.bytes S.written S.health readers.old) }
         ensures { Makes R.left R.health R.pulls W.written W.health usual_limits (making self.now) readers.old
             readers.new target.old target.new (fault_of result) };
 }
 
 impl Made for Dump {
-    ghost use Rattle.hprof_engine.specs.Makes.{dump_making};
+    ghost use Rattle.hprof_stored.specs.StoredMaking.{stored_dump_making};
 
-    ghost making = { λ _. dump_making };
+    ghost making = { λ _. stored_dump_making };
 
-    fn make<R: Source, W: Target>(
+    fn reads_again(&self) -> bool {
+        true
+    }
+
+    fn make<R: Source, H: ReadAt + Drop, S: Scratch + Drop, W: Target>(
         &self,
         alloc: Global,
         readers: &mut [R],
+        again: Option<Again<H, S>>,
         target: &mut W,
     ) -> Result<(), ToolFault> {
-        make_of_heap(alloc, self, readers, target)
+        match again {
+            Some(again) => join_again(alloc, readers, again, target),
+            None => make_of_heap(alloc, self, readers, target),
+        }
     }
 }
 
-impl Made for Dump101 {
-    ghost use Rattle.hprof_engine.specs.Joining101.{dump101_making};
-
-    ghost making = { λ _. dump101_making };
-
-    fn make<R: Source, W: Target>(
-        &self,
-        alloc: Global,
-        readers: &mut [R],
-        target: &mut W,
-    ) -> Result<(), ToolFault> {
-        make_of_heap(alloc, self, readers, target)
-    }
+/// A product that is made of a heap with all facts. No part is read again.
+#[derive(Drop)]
+pub(crate) struct OfHeap<P> {
+    pub(crate) product: P,
 }
 
-impl<'a> Made for GrowthReport<'a> {
-    ghost use Rattle.hprof_diff.specs.Kept.{totals_in};
-    ghost use Rattle.hprof_diff.specs.DifferenceText.{growth_making};
+impl<P: Product> Made for OfHeap<P> {
+    ghost use Rattle.hprof_engine.specs.Makes.{making_of};
 
-    ghost making = { λ report. growth_making (totals_in report.old.now) };
+    ghost making = { λ it. making_of (P.is_text it.product) (P.refuses it.product) (P.takes_room it.product) (P.takes_memory it.product) };
 
-    fn make<R: Source, W: Target>(
+    fn reads_again(&self) -> bool {
+        false
+    }
+
+    fn make<R: Source, H: ReadAt + Drop, S: Scratch + Drop, W: Target>(
         &self,
         alloc: Global,
         readers: &mut [R],
+        _again: Option<Again<H, S>>,
         target: &mut W,
     ) -> Result<(), ToolFault> {
-        make_of_heap(alloc, self, readers, target)
+        make_of_heap(alloc, &self.product, readers, target)
     }
 }
 
 /// References to one identifier are found while parts are read.
 impl<'a> Made for Report<'a> {
-    ghost use Rattle.hprof_ask.specs.Report.{report_making};
+    ghost use Rattle.hprof_tool.specs.Again.{report_of_parts};
 
-    ghost making = { report_making };
+    ghost making = { report_of_parts };
 
-    fn make<R: Source, W: Target>(
+    fn reads_again(&self) -> bool {
+        PassedReport::of(*self).is_some()
+    }
+
+    fn make<R: Source, H: ReadAt + Drop, S: Scratch + Drop, W: Target>(
         &self,
         alloc: Global,
         readers: &mut [R],
+        again: Option<Again<H, S>>,
         target: &mut W,
     ) -> Result<(), ToolFault> {
+        if let Some(passed) = PassedReport::of(*self) {
+            return match again {
+                Some(again) => make_again(alloc, &passed, readers, again, target),
+                None => make_of_heap(alloc, self, readers, target),
+            };
+        }
         match *self {
             Report::Node(NodeReport::Refs, Node::Identifier(id)) => {
                 refs_to(alloc, readers, id, target, Limits::usual())

@@ -3,37 +3,49 @@
 use crate::command::OutName;
 use crate::program::folder::Folder;
 use crate::program::meter::{Meter, Part};
+use crate::program::part_file::{PartFile, regular_length};
 use crate::program::refused::Refused;
+use crate::program::scratch_place::{ScratchPlace, folder_of};
 use crate::program::writing::BUFFER_LEN;
+use crate::storage::Storage;
 use hprof_devices::{Device, ReadFault, Source};
-use std::alloc::Global;
+use hprof_handles::SharedFile;
+use hprof_scratch::LateScratch;
+use std::alloc::{AllocError, Global};
 use std::fs::{File, OpenOptions};
 use std::io::{BufWriter, Read, Write};
-use std::os::unix::fs::OpenOptionsExt;
+use std::os::unix::fs::{FileExt, OpenOptionsExt};
 use std::rt::{Clock, Files};
 use std::{fs, io};
 
 /// The files of the system, with a meter for those that are parts.
 #[derive(Drop)]
 pub(crate) struct Metered<'a, S, T> {
+    pub(crate) alloc: Global,
     pub(crate) system: &'a S,
     pub(crate) meter: &'a Meter<T>,
+    pub(crate) storage: Storage<'a>,
 }
 
 /// A part in a file. The meter counts what is read of it.
 #[derive(Drop)]
 pub(crate) struct MeteredPart<'a, F, S, T> {
-    device: Device<F>,
+    device: Device<PartFile<F>>,
+    /// What reads the part again, if it is a regular file.
+    again: Option<SharedFile<F>>,
+    /// The length of the file in bytes when it was opened. It is 0 if it is no regular file.
+    length: u64,
     clock: &'a S,
     meter: &'a Meter<T>,
     /// The part, if the meter counts it.
     part: Option<Part>,
 }
 
-impl<F: Read, S: Clock, T: Write> Source for MeteredPart<'_, F, S, T> {
-    ghost use Rattle.hprof_devices.specs.Device.{inner_of, health_of, pulls_of};
+impl<F: Read + FileExt, S: Clock, T: Write> Source for MeteredPart<'_, F, S, T> {
+    ghost use Rattle.hprof_devices.specs.Device.{health_of, pulls_of};
+    ghost use Rattle.hprof_tool.specs.MeteredPart.{left_in};
 
-    ghost left = { λ it. F.remaining (inner_of it.device) };
+    ghost left = { left_in F.remaining };
 
     ghost health = { λ it. health_of it.device };
 
@@ -49,19 +61,26 @@ impl<F: Read, S: Clock, T: Write> Source for MeteredPart<'_, F, S, T> {
 }
 
 /// The permissions of a new file: its owner reads and writes it, and no one else does, since a heap may hold secrets.
-const OUT_MODE: u32 = 0o600;
+pub(crate) const PRIVATE_MODE: u32 = 0o600;
 
 /// Creates a new file, if there is none.
 fn create_private<S: Files>(system: &S, name: &str) -> io::Result<S::File> {
     let mut options = OpenOptions::new();
-    options.write(true).create_new(true).mode(OUT_MODE);
+    options.write(true).create_new(true).mode(PRIVATE_MODE);
     options.open(system, name)
 }
 
-impl<'a, S: Files + Clock, T: Write + Drop> Folder for Metered<'a, S, T> {
+impl<'a, S: Files + Clock, T: Write + Drop> Folder for Metered<'a, S, T>
+where
+    S::File: FileExt,
+{
     ghost use Rattle.hprof_tool.specs.Folder.{nothing_told};
 
     type Part = MeteredPart<'a, S::File, S, T>;
+
+    type Handle = SharedFile<S::File>;
+
+    type Scratch = LateScratch<ScratchPlace<'a, S>>;
 
     type Out = Clearing<'a, S::File, T>;
 
@@ -70,12 +89,55 @@ impl<'a, S: Files + Clock, T: Write + Drop> Folder for Metered<'a, S, T> {
     fn open_part(&self, name: &str) -> io::Result<MeteredPart<'a, S::File, S, T>> {
         let file = File::open(self.system, name)?;
         let part = self.meter.opened(&file);
+        let length = regular_length(&file);
+        let file = PartFile::new(self.alloc, file, length > 0);
+        let again = file.share();
         Ok(MeteredPart {
             device: Device::new(file),
+            again,
+            length,
             clock: self.system,
             meter: self.meter,
             part,
         })
+    }
+
+    fn handle(
+        &self,
+        part: &MeteredPart<'a, S::File, S, T>,
+    ) -> Result<Option<SharedFile<S::File>>, AllocError> {
+        match &part.again {
+            Some(file) => Ok(Some(file.share()?)),
+            None => Ok(None),
+        }
+    }
+
+    fn are_long(&self, parts: &[MeteredPart<'a, S::File, S, T>]) -> bool {
+        let mut bytes = 0u64;
+        for part in parts {
+            bytes = bytes.saturating_add(part.length);
+        }
+        bytes > self.storage.memory
+    }
+
+    fn scratch(
+        &self,
+        alloc: Global,
+        out: Option<&str>,
+    ) -> Result<LateScratch<ScratchPlace<'a, S>>, AllocError> {
+        let folder = match out {
+            Some(name) => folder_of(alloc, name)?,
+            None => String::from_str(alloc, self.storage.folder)?,
+        };
+        Ok(LateScratch::new(ScratchPlace {
+            alloc,
+            system: self.system,
+            folder,
+        }))
+    }
+
+    fn memory(&self) -> u64 {
+        self.storage.memory
     }
 
     fn create_out(

@@ -1,18 +1,22 @@
 //! Making something of parts into a writer, through a buffer.
 
-ghost use Rattle.std.specs.Prelude.{◌≡◌, [], All, None, Ok, Err, OnOk, OnErr, IfOk, IfErr};
+ghost use Rattle.std.specs.Prelude.{◌≡◌, [], All, None, Ok, Err, OnOk, OnErr, IfOk, IfErr, IfSome};
 ghost use Rattle.std.specs.Io.KnownBytes.{Keeps, append_known};
 ghost use Rattle.std.specs.Io.Buffered.{writer_buffer, writer_contents, writer_inner};
 ghost use Rattle.hprof_devices.specs.declared.health.Health.TheVariants.{Well};
 ghost use Rattle.hprof_engine.specs.Joining.{fault_of, IsBeforeWriting};
 ghost use Rattle.hprof_devices.specs.Device.{inner_of, health_of};
+ghost use Rattle.hprof_tool.specs.Again.{IsReadyFor};
 ghost use Rattle.hprof_tool.specs.Program.{MakesStream};
 ghost use Rattle.hprof_tool.specs.Streams.{LeavesStream, StopsStream};
 
+use crate::program::again::Again;
 use crate::program::made::Made;
 use crate::program::refused::{Left, Refused, Stopped};
 use hprof_devices::{Device, Source, WriteFault};
 use hprof_engine::ToolFault;
+use hprof_handles::ReadAt;
+use hprof_runs::Scratch;
 use std::alloc::Global;
 use std::io::{BufWriter, Write};
 use std::mem;
@@ -79,13 +83,15 @@ pub(crate) fn take_apart<T: Drop, W: Write + Drop>(
 }
 
 /// Makes something of the parts of the readers into a buffered writer, and flushes it.
-fn write_and_flush<P: Made, R: Source, W: Write + Drop>(
+fn write_and_flush<P: Made, R: Source, H: ReadAt + Drop, S: Scratch + Drop, W: Write + Drop>(
     alloc: Global,
     product: &P,
     readers: &mut [R],
+    again: Option<Again<H, S>>,
     buffered: BufWriter<W>,
 ) -> Writing<(), W>
-    requires { All (λ reader. R.health reader ≡ Well) readers.old }
+    requires readers { All (λ reader. R.health reader ≡ Well) readers.old }
+    requires again { IfSome again (IsReadyFor R.left H.bytes S.written S.health readers.old) }
     ensures makes { MakesStream R.left R.health R.pulls
         (P.making product.now)
         readers.old readers.new (writer_contents W.contents buffered)
@@ -94,18 +100,26 @@ fn write_and_flush<P: Made, R: Source, W: Write + Drop>(
     ensures untouched { IsBeforeWriting (fault_of result.outcome) → result.writer ≡ writer_inner buffered }
 {
     let mut target = Device::new(buffered);
-    let made = product.make(alloc, readers, &mut target);
+    let made = product.make(alloc, readers, again, &mut target);
     take_apart(made, target)
 }
 
 /// Makes something of the parts of the readers into a writer behind an empty buffer, flushes it, and gives the writer back.
-pub(crate) fn write_buffered<P: Made, R: Source, W: Write + Drop>(
+pub(crate) fn write_buffered<
+    P: Made,
+    R: Source,
+    H: ReadAt + Drop,
+    S: Scratch + Drop,
+    W: Write + Drop,
+>(
     alloc: Global,
     product: &P,
     readers: &mut [R],
+    again: Option<Again<H, S>>,
     buffered: BufWriter<W>,
 ) -> Result<W, Left<W>>
     requires readers { All (λ reader. R.health reader ≡ Well) readers.old }
+    requires again { IfSome again (IsReadyFor R.left H.bytes S.written S.health readers.old) }
     requires empty { writer_buffer buffered ≡ [] }
     ensures ok { IfOk result (λ written. MakesStream R.left R.health R.pulls
         (P.making product.now)
@@ -118,7 +132,7 @@ pub(crate) fn write_buffered<P: Made, R: Source, W: Write + Drop>(
         outcome,
         writer,
         unwritten,
-    } = write_and_flush(alloc, product, readers, buffered);
+    } = write_and_flush(alloc, product, readers, again, buffered);
     // To free this large block behind the rows would make the allocator go over all of them.
     mem::forget(unwritten);
     match outcome {
@@ -131,13 +145,21 @@ pub(crate) fn write_buffered<P: Made, R: Source, W: Write + Drop>(
 }
 
 /// Makes something of the parts of the readers into a writer, and gives the writer back.
-pub(crate) fn write_through_buffer<P: Made, R: Source, W: Write + Drop>(
+pub(crate) fn write_through_buffer<
+    P: Made,
+    R: Source,
+    H: ReadAt + Drop,
+    S: Scratch + Drop,
+    W: Write + Drop,
+>(
     alloc: Global,
     product: &P,
     readers: &mut [R],
+    again: Option<Again<H, S>>,
     writer: W,
 ) -> Result<W, Stopped<W>>
-    requires { All (λ reader. R.health reader ≡ Well) readers.old }
+    requires readers { All (λ reader. R.health reader ≡ Well) readers.old }
+    requires again { IfSome again (IsReadyFor R.left H.bytes S.written S.health readers.old) }
     ensures ok { IfOk result (λ written. MakesStream R.left R.health R.pulls
         (P.making product.now)
         readers.old readers.new (W.contents writer) (W.contents written) None) }
@@ -151,7 +173,7 @@ pub(crate) fn write_through_buffer<P: Made, R: Source, W: Write + Drop>(
             writer: None,
         });
     };
-    match write_buffered(alloc, product, readers, buffered) {
+    match write_buffered(alloc, product, readers, again, buffered) {
         Ok(written) => Ok(written),
         Err(left) => Err(Stopped {
             why: left.why,

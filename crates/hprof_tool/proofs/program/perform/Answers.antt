@@ -1,7 +1,7 @@
 use Rattle.std.proofs.Common.{refl, List, subst, sym}
 use Rattle.std.specs.Borrow.{Bor}
 use Rattle.hprof_engine.specs.Makes.{IsMadeOf}
-use Rattle.hprof_ask.specs.Report.{report_making}
+use Rattle.hprof_tool.specs.Again.{report_of_parts}
 use Rattle.hprof_tool.specs.Folder.{MayCreateBehind}
 use Rattle.hprof_tool.specs.Program.{IsFilesRefusal, IsMadeInFile}
 use Rattle.hprof_tool.specs.SalvagedFiles.{IsSalvagedFile}
@@ -59,7 +59,7 @@ pub returns-in-Report-clause-refused : goal.returns-in-Report-clause-refused
 returns-in-Report-clause-refused g c = λ refused.
     let it = c.report-ended.ensures.refused refused in
     let why = it.2.0 in
-    let refuses = subst (λ (names : List (Bor (List _))). RefusesReport (report_making it.0) (g.F.Folder.answered c.args.files.now)
+    let refuses = subst (λ (names : List (Bor (List _))). RefusesReport (report_of_parts it.0) (g.F.Folder.answered c.args.files.now)
     g.F.Part.Source.left g.F.Part.Source.health g.F.Part.Source.pulls g.O.Write.contents names c.args.output why
     c.report-ended.result.output)
     c.deref-in-Report.ensures.value it.2.1 in

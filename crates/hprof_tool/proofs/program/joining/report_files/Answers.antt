@@ -1,6 +1,8 @@
-use Rattle.std.proofs.Common.{List, length, refl, sym, ap, subst, ◌∙◌}
+use Rattle.std.proofs.Common.{List, [], length, Some, inl, refl, sym, ap, subst, ◌∙◌}
 use Rattle.hprof_tool.specs.Folder.{AreOpened}
-use Rattle.hprof_tool.specs.Streams.{IsFrontOfFiles}
+use Rattle.hprof_tool.specs.declared.program.refused.Refused.{Refused}
+use Rattle.hprof_tool.specs.Streams.{IsFrontOfFiles, RefusesReport}
+use Rattle.hprof_tool.proofs.Making.{none_added}
 use Rattle.hprof_tool.proofs.Ends.{if_ok_more, if_err_more}
 use Rattle.hprof_tool.proofs.Files.{opening_reports, of_reporting}
 use Rattle.hprof_tool.proofs.Streams.{stream_refusal, stream_kind, stream_no_parts, stream_left, kept_at_opening}
@@ -47,3 +49,9 @@ returns-in-Err-clause-refused g c =
       kept_at_opening g.O.Write.contents (IsFrontOfFiles making.IsMade answered g.F.Part.Source.left c.args.names.now) answered
           c.args.names.now c.in-Err.why c.args.output c.in-Err.ensures.kind,
     )
+
+pub returns-in-Err-again_for-clause-refused : goal.returns-in-Err-again_for-clause-refused
+returns-in-Err-again_for-clause-refused g c =
+    subst (λ (why : Refused). RefusesReport (g.P.Made.making c.args.report.now) (g.F.Folder.answered c.args.files.now) g.F.Part.Source.left
+    g.F.Part.Source.health g.F.Part.Source.pulls g.O.Write.contents c.args.names.now c.args.output why (Some c.args.output))
+    (sym c.in-Err-again_for.ensures.refused) (tt, ([], inl (none_added (g.O.Write.contents c.args.output))))

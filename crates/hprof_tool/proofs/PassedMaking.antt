@@ -1,0 +1,57 @@
+-- What a report makes of parts, whether their objects are read again or not.
+use Rattle.std.proofs.Common.{◌≡◌, inl, inr, List, Option, ℕ}
+use Rattle.std.specs.Prelude.{◌⊎◌, ⊤}
+use Rattle.hprof_devices.specs.declared.health.Health.{Health}
+use Rattle.hprof_stream.specs.declared.limits.Limits.{Limits}
+use Rattle.hprof_engine.specs.declared.tool_fault.ToolFault.{ToolFault}
+use Rattle.hprof_engine.specs.Joining.{none_known}
+use Rattle.hprof_engine.specs.Makes.{IsMadeOf, Makes}
+use Rattle.hprof_stored.specs.Storing.{HaveObject}
+use Rattle.hprof_stored.specs.StoredMaking.{stored_making}
+use Rattle.hprof_ask.specs.declared.report.Node.{Node}
+use Rattle.hprof_ask.specs.declared.report.Node.TheVariants as that
+use Rattle.hprof_ask.specs.declared.report.NodeReport.{NodeReport}
+use Rattle.hprof_ask.specs.declared.report.Report.{Report}
+use Rattle.hprof_ask.specs.declared.report.Report.TheVariants as reports
+use Rattle.hprof_ask.specs.Report.{IsReportText, RefusesReport, TakesMemory, TakesRoom, report_making}
+use Rattle.hprof_large.specs.declared.passed_report.PassedReport.{PassedReport}
+use Rattle.hprof_large.specs.declared.passed_report.PassedReport.TheVariants as passed
+use Rattle.hprof_large.specs.PassedReport.{report_of}
+use Rattle.hprof_tool.specs.Again.{IsPassed, report_of_parts}
+use Rattle.hprof_tool.proofs.Weaker.{weaker}
+
+is_passed : (report : PassedReport) → IsPassed (report_of report)
+is_passed passed.Check = tt
+is_passed passed.Histogram = tt
+is_passed passed.Classes = tt
+is_passed (passed.Objects kind) = tt
+
+-- a report on an identifier, by its parts
+pub node_report : (report : Report) (kind known : NodeReport) (node : Node) (id : ℕ) → report ≡ reports.Node kind node → kind ≡ known
+    → node ≡ that.Identifier id → report ≡ reports.Node known (that.Identifier id)
+node_report report kind known node id is is_kind is_node = cc
+
+module _ {R W : Type 0} (left : R → Option (List ℕ)) (health : R → Health) (pulls : R → ℕ) (limits : Limits)
+    (written : W → Option (List ℕ)) (well : W → Health) (old new : List R) (before after : W) (ended : Option ToolFault) where
+  -- the objects were read again
+  pub passed_makes : (report : PassedReport)
+      → Makes left health pulls written well limits
+      (stored_making (IsReportText (report_of report)) (λ refusal heap. RefusesReport heap.facts (report_of report) refusal)) old new before
+      after ended
+      → Makes left health pulls written well limits (report_of_parts (report_of report)) old new before after ended
+  passed_makes report makes =
+      let is = is_passed report in
+      weaker left health pulls HaveObject (λ facts. IsPassed (report_of report) × HaveObject facts) (λ facts have. (is, have)) limits
+      (IsMadeOf (IsReportText (report_of report))) (λ refusal heap. RefusesReport heap.facts (report_of report) refusal) (λ count. ⊤)
+      (λ count. IsPassed (report_of report) ⊎ TakesRoom (report_of report) count) ⊤
+      (IsPassed (report_of report) ⊎ TakesMemory (report_of report)) ⊤ (IsPassed (report_of report)) (λ count all. inl is) (λ all. inl is)
+      (λ all. is) written well old new before after ended makes
+
+  -- they were in memory
+  pub heap_makes : (report : Report) → Makes left health pulls written well limits (report_making report) old new before after ended
+      → Makes left health pulls written well limits (report_of_parts report) old new before after ended
+  heap_makes report makes =
+      weaker left health pulls none_known (λ facts. IsPassed report × HaveObject facts) (λ facts none. absurd none) limits
+      (IsMadeOf (IsReportText report)) (λ refusal heap. RefusesReport heap.facts report refusal) (TakesRoom report)
+      (λ count. IsPassed report ⊎ TakesRoom report count) (TakesMemory report) (IsPassed report ⊎ TakesMemory report) ⊥ (IsPassed report)
+      (λ count takes. inr takes) (λ takes. inr takes) (λ none. absurd none) written well old new before after ended makes

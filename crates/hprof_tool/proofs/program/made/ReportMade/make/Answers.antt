@@ -1,0 +1,66 @@
+use Rattle.std.proofs.Common.{◌≡◌, subst, sym}
+use Rattle.hprof_stream.specs.declared.limits.Limits.{Limits}
+use Rattle.hprof_engine.specs.Joining.{fault_of}
+use Rattle.hprof_engine.specs.Makes.{Makes}
+use Rattle.hprof_ask.specs.declared.report.Node.TheVariants as that
+use Rattle.hprof_ask.specs.declared.report.NodeReport.TheVariants as nodes
+use Rattle.hprof_ask.specs.declared.report.Report.{Report}
+use Rattle.hprof_ask.specs.declared.report.Report.TheVariants as reports
+use Rattle.hprof_ask.specs.Report.{report_making}
+use Rattle.hprof_tool.proofs.Making.{are_usual}
+use Rattle.hprof_tool.specs.Again.{report_of_parts}
+use Rattle.hprof_tool.specs.Program.{usual_limits}
+use Rattle.hprof_tool.proofs.PassedMaking.{heap_makes, node_report, passed_makes}
+use Rattle.hprof_tool.proofs.program.made.ReportMade.make.Goals as goal
+
+pub returns-in-Some-again : goal.returns-in-Some-again
+returns-in-Some-again g c =
+    subst (λ (report : Report). Makes g.R.Source.left g.R.Source.health g.R.Source.pulls g.W.Target.written g.W.Target.health usual_limits
+    (report_of_parts report) c.args.readers.now c.make_again.new.readers c.args.target.now c.make_again.new.target
+    (fault_of c.make_again.result)) c.in-Some.ensures
+    (passed_makes g.R.Source.left g.R.Source.health g.R.Source.pulls usual_limits g.W.Target.written g.W.Target.health c.args.readers.now
+    c.make_again.new.readers c.args.target.now c.make_again.new.target (fault_of c.make_again.result) c.in-Some.passed c.make_again.ensures)
+
+pub returns-in-None : goal.returns-in-None
+returns-in-None g c = heap_makes g.R.Source.left g.R.Source.health g.R.Source.pulls usual_limits g.W.Target.written g.W.Target.health
+    c.args.readers.now c.make_of_heap.new.readers c.args.target.now c.make_of_heap.new.target (fault_of c.make_of_heap.result)
+    c.args.self.now c.make_of_heap.ensures
+
+-- references are found while parts are read
+
+pub returns-in-Node-Refs-Identifier : goal.returns-in-Node-Refs-Identifier
+returns-in-Node-Refs-Identifier g c =
+    let known = c.in-Node-Refs-Identifier in
+    let usual = c.usual.ensures in
+    let report = reports.Node nodes.Refs (that.Identifier known.id) in
+    let is : c.args.self.now ≡ report = node_report c.args.self.now known.field-0 nodes.Refs known.field-1 known.id known.is
+    (rw known.is at known.field-0-is) (rw known.is at known.field-1-is) in
+    subst (λ (report : Report). Makes g.R.Source.left g.R.Source.health g.R.Source.pulls g.W.Target.written g.W.Target.health usual_limits
+    (report_of_parts report) c.args.readers.now c.refs_to.new.readers c.args.target.now c.refs_to.new.target (fault_of c.refs_to.result)) (sym is)
+    (heap_makes g.R.Source.left g.R.Source.health g.R.Source.pulls usual_limits g.W.Target.written g.W.Target.health
+    c.args.readers.now c.refs_to.new.readers c.args.target.now c.refs_to.new.target (fault_of c.refs_to.result) report
+    (subst (λ (limits : Limits). Makes g.R.Source.left g.R.Source.health g.R.Source.pulls g.W.Target.written g.W.Target.health limits
+    (report_making report) c.args.readers.now c.refs_to.new.readers c.args.target.now c.refs_to.new.target (fault_of c.refs_to.result))
+    (are_usual c.usual.result usual.item usual.reads usual.bytes) c.refs_to.ensures))
+
+pub returns-in-Node-Who-Identifier : goal.returns-in-Node-Who-Identifier
+returns-in-Node-Who-Identifier g c =
+    let known = c.in-Node-Who-Identifier in
+    let usual = c.usual-in-Node-Who-Identifier.ensures in
+    let report = reports.Node nodes.Who (that.Identifier known.id) in
+    let is : c.args.self.now ≡ report = node_report c.args.self.now known.field-0 nodes.Who known.field-1 known.id known.is
+    (rw known.is at known.field-0-is) (rw known.is at known.field-1-is) in
+    subst (λ (report : Report). Makes g.R.Source.left g.R.Source.health g.R.Source.pulls g.W.Target.written g.W.Target.health usual_limits
+    (report_of_parts report) c.args.readers.now c.who_to.new.readers c.args.target.now c.who_to.new.target (fault_of c.who_to.result)) (sym is)
+    (heap_makes g.R.Source.left g.R.Source.health g.R.Source.pulls usual_limits g.W.Target.written g.W.Target.health
+    c.args.readers.now c.who_to.new.readers c.args.target.now c.who_to.new.target (fault_of c.who_to.result) report
+    (subst (λ (limits : Limits). Makes g.R.Source.left g.R.Source.health g.R.Source.pulls g.W.Target.written g.W.Target.health limits
+    (report_making report) c.args.readers.now c.who_to.new.readers c.args.target.now c.who_to.new.target (fault_of c.who_to.result))
+    (are_usual c.usual-in-Node-Who-Identifier.result usual.item usual.reads usual.bytes) c.who_to.ensures))
+
+-- all other reports are made of a heap
+pub returns : goal.returns
+returns g c =
+    let made = c.make_of_heap-in_default-self in
+    heap_makes g.R.Source.left g.R.Source.health g.R.Source.pulls usual_limits g.W.Target.written g.W.Target.health
+    c.args.readers.now made.new.readers c.args.target.now made.new.target (fault_of made.result) c.args.self.now made.ensures

@@ -1,0 +1,61 @@
+//! What is needed to read the objects of parts again.
+
+ghost use Rattle.std.specs.Prelude.{IfOk, IfSome};
+ghost use Rattle.hprof_tool.specs.Again.{AreHandles, IsReadyFor};
+
+use crate::program::folder::Folder;
+use hprof_objects::Keeping;
+use std::alloc::{AllocError, Global};
+
+/// What is needed to read the objects of parts again.
+#[derive(Drop)]
+pub(crate) struct Again<H, S> {
+    /// What reads each part at offsets, in order.
+    pub(crate) handles: Vec<H>,
+    /// Scratch without bytes.
+    pub(crate) scratch: S,
+    /// How objects are kept.
+    pub(crate) keeping: Keeping,
+}
+
+/// Returns what reads each part at offsets, or `None` if one of them is no regular file.
+fn handles_of<F: Folder>(
+    alloc: Global,
+    files: &F,
+    parts: &[F::Part],
+) -> Result<Option<Vec<F::Handle>>, AllocError>
+    ensures { IfOk result (λ handles. IfSome handles (λ handles. AreHandles F.Part.left F.Handle.bytes parts.now handles.items)) }
+{
+    let mut handles = Vec::new(alloc);
+    for part in parts {
+        let Some(handle) = files.handle(part)? else {
+            return Ok(None);
+        };
+        handles.push(handle)?;
+    }
+    Ok(Some(handles))
+}
+
+/// Returns what is needed to read the objects of parts again, or `None` if one of the parts is no regular file, or if they fit into the
+/// memory. Scratch is beside the new file, if one is written.
+pub(crate) fn again_of<F: Folder>(
+    alloc: Global,
+    files: &F,
+    parts: &[F::Part],
+    out: Option<&str>,
+) -> Result<Option<Again<F::Handle, F::Scratch>>, AllocError>
+    ensures { IfOk result (λ again. IfSome again (IsReadyFor F.Part.left F.Handle.bytes F.Scratch.written F.Scratch.health parts.now)) }
+{
+    if !files.are_long(parts) {
+        return Ok(None);
+    }
+    let Some(handles) = handles_of(alloc, files, parts)? else {
+        return Ok(None);
+    };
+    let scratch = files.scratch(alloc, out)?;
+    Ok(Some(Again {
+        handles,
+        scratch,
+        keeping: Keeping::usual(files.memory()),
+    }))
+}
