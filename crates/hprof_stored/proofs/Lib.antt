@@ -4,11 +4,13 @@ mod Ended
 mod Fresh
 mod Read
 mod Answered
-mod Unchanged
-mod Subs
-mod Dumped
-mod Found
-mod Joined
+pub mod Unchanged
+pub mod Subs
+pub mod Dumped
+pub mod Found
+pub mod Joined
+pub mod MadeWith
+pub mod ToldAgain
 mod ObjectSpelling
 mod ObjectTable
 mod Passed
@@ -16,5 +18,5 @@ mod Counted
 mod MadeUp
 pub mod StoredReads
 pub mod StoredMakes
-mod JoinMakes
+pub mod JoinMakes
 pub mod Untold
