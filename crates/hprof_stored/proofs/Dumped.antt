@@ -5,6 +5,8 @@ use Rattle.std.specs.List.{filter, flat_map}
 use Rattle.std.proofs.lemmas.List.{map-append}
 use Rattle.std.proofs.lemmas.List.Elements.{filter-append}
 use Rattle.hprof_values.specs.declared.ids.IdSize.{IdSize}
+use Rattle.hprof_items.specs.declared.header.Header.{Header}
+use Rattle.hprof_items.specs.declared.header.Version.{Version}
 use Rattle.hprof_items.specs.declared.header.Version.TheVariants.{V102}
 use Rattle.hprof_items.specs.FactValue.{FactValue}
 use Rattle.hprof_items.specs.Header.{header_bytes}
@@ -23,15 +25,14 @@ use Rattle.hprof_objects.proofs.Whole.{row_again, row_of}
 use Rattle.std.proofs.Common.{subst}
 use Rattle.hprof_segments.specs.ByteSegments.{IsSub}
 use Rattle.hprof_segments.proofs.FactSubs.{fact_is_sub}
-use Rattle.hprof_stored.specs.Dumping.{AreSubRecords, bytes_of, dump_with, subs_of}
+use Rattle.hprof_stored.specs.Dumping.{AreSubRecords, bytes_of, dump_with, front_bytes, subs_of}
 
--- what stands before the sub-records
-abbrev pub front_bytes : HeapValue → List ℕ
-front_bytes heap =
-    header_bytes (record { version = V102; ids = heap.ids; millis = heap.millis }) ++ record_facts_bytes heap.ids heap.facts
+-- the header with a size of identifiers and a time
+abbrev pub header_of : Version → IdSize → ℕ → Header
+header_of version ids millis = record { version = version; ids = ids; millis = millis }
 
 pub dump_is : (heap : HeapValue) (rows : List ByteRow)
-    → dump_with heap rows ≡ front_bytes heap ++ (segment_records (subs_of heap ++ bytes_of rows) ++ head_bytes 0x2c 0 0)
+    → dump_with heap rows ≡ front_bytes V102 heap ++ (segment_records (subs_of heap ++ bytes_of rows) ++ head_bytes 0x2c 0 0)
 dump_is heap rows =
     sym (append_assoc (header_bytes (record { version = V102; ids = heap.ids; millis = heap.millis }))
     (record_facts_bytes heap.ids heap.facts) (segment_records (subs_of heap ++ bytes_of rows) ++ head_bytes 0x2c 0 0))

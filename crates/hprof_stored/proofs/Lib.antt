@@ -10,7 +10,7 @@ pub mod Dumped
 pub mod Found
 pub mod Joined
 pub mod MadeWith
-pub mod ToldAgain
+mod ToldAgain
 mod ObjectSpelling
 mod ObjectTable
 mod Passed
@@ -18,5 +18,6 @@ mod Counted
 mod MadeUp
 pub mod StoredReads
 pub mod StoredMakes
-pub mod JoinMakes
+mod JoinMakes
+pub mod AgainMakes
 pub mod Untold

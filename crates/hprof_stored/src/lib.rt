@@ -18,7 +18,7 @@ mod stored_heap;
 mod stored_sink;
 mod sub_buffer;
 
-pub use dumping::write_stored_dump;
+pub use dumping::{write_front, write_stored_dump};
 pub use finding::find_conflict;
 pub use in_parts::InParts;
 pub use joining::join_stored;

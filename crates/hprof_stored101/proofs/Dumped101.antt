@@ -1,5 +1,5 @@
 -- The 1.0.1 dump of a heap, whose objects are rows.
-use Rattle.std.proofs.Common.{◌≡◌, ℕ, zero, List, [], ◌∷◌, ◌++◌, length, Option, Result, Ok, Err, refl, sym, ap, subst, ◌∙◌}
+use Rattle.std.proofs.Common.{◌≡◌, ℕ, List, [], ◌∷◌, ◌++◌, length, Option, Result, Ok, Err, refl, sym, ap, ◌∙◌}
 use Rattle.std.proofs.Common.{append_assoc, arith}
 use Rattle.std.specs.List.{flat_map}
 use Rattle.std.specs.Io.KnownBytes.{Appends}
@@ -8,11 +8,8 @@ use Rattle.std.proofs.lemmas.Grind.{flat_map-append}
 use Rattle.std.proofs.lemmas.List.Concat.{length-flat_map}
 use Rattle.std.proofs.lemmas.List.Elements.{filter-append}
 use Rattle.std.proofs.lemmas.List.Folds.{flat_map-map}
-use Rattle.hprof_devices.specs.declared.health.WriteFault.{WriteFault}
-use Rattle.hprof_devices.specs.Device.{Writes}
-use Rattle.hprof_devices.proofs.Writes.{Writes-then, WritesFront-then}
+use Rattle.hprof_devices.proofs.Writes.{WritesFront-then}
 use Rattle.hprof_values.specs.declared.ids.IdSize.{IdSize}
-use Rattle.hprof_items.specs.declared.header.Header.{Header}
 use Rattle.hprof_items.specs.declared.header.Version.TheVariants.{V101}
 use Rattle.hprof_items.specs.FactValue.{FactValue}
 use Rattle.hprof_items.specs.Header.{header_bytes}
@@ -23,7 +20,6 @@ use Rattle.hprof_rows.specs.SubFacts.{is_sub_fact, sub_facts}
 use Rattle.hprof_dump.specs.Dump.{record_facts_bytes}
 use Rattle.hprof_dump.specs.Dump101.{dump101, heap_dump, sub_len}
 use Rattle.hprof_dump.proofs.Counting101.{heap_dump_by, no_heap_dump}
-use Rattle.hprof_dump.proofs.ReadsBack.{dump_header}
 use Rattle.hprof_merge.specs.Rows.{ByteRow}
 use Rattle.hprof_objects.specs.Whole.{AreObjects}
 use Rattle.hprof_stored.specs.Dumping.{WritesOrStops}
@@ -44,23 +40,12 @@ front_and_rows heap rows len is =
     let header = header_bytes (record { version = V101; ids = heap.ids; millis = heap.millis }) in
     let records = record_facts_bytes heap.ids heap.facts in
     let own = own_bytes heap in
-    append_assoc header (records ++ (dump_head len ++ own)) (rows_bytes rows)
-    ∙ ap (λ (l : List ℕ). header ++ l)
-    (append_assoc records (dump_head len ++ own) (rows_bytes rows)
-    ∙ ap (λ (l : List ℕ). records ++ l)
+    append_assoc (header ++ records) (dump_head len ++ own) (rows_bytes rows)
+    ∙ append_assoc header records ((dump_head len ++ own) ++ rows_bytes rows)
+    ∙ ap (λ (l : List ℕ). header ++ (records ++ l))
     (append_assoc (dump_head len) own (rows_bytes rows)
     ∙ ap (λ (n : ℕ). dump_head n ++ body_with heap rows) is
-    ∙ head_and_body (body_with heap rows)))
-
--- the header was written, and then the rest as far as it went
-pub front_after_header : {B : Type 0} (heap : HeapValue) (len : ℕ) (header : Header) (old mid new : Option (List ℕ))
-    (r : Result B WriteFault) → header ≡ dump_header heap.ids heap.millis → Appends old mid (header_bytes header)
-    → Writes mid new r (record_facts_bytes heap.ids heap.facts ++ (dump_head len ++ own_bytes heap))
-    → Writes old new r (front101 heap len)
-front_after_header heap len header old mid new r is first rest =
-    Writes-then old mid new zero r (header_bytes (dump_header heap.ids heap.millis))
-    (record_facts_bytes heap.ids heap.facts ++ (dump_head len ++ own_bytes heap))
-    (subst (λ (h : Header). Appends old mid (header_bytes h)) is first) rest
+    ∙ head_and_body (body_with heap rows))
 
 -- the front was written, and then the rows as far as it went
 pub then_stops : {A E : Type 0} (old mid new : Option (List ℕ)) (r : Result A E) (front rest : List ℕ) → Appends old mid front

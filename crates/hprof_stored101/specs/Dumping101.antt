@@ -9,6 +9,7 @@ use Rattle.hprof_rows.specs.HeapValue.{HeapValue}
 use Rattle.hprof_rows.specs.SubFacts.{sub_facts}
 use Rattle.hprof_dump.specs.Dump.{record_facts_bytes}
 use Rattle.hprof_merge.specs.Rows.{ByteRow}
+use Rattle.hprof_stored.specs.Dumping.{front_bytes}
 
 -- the bytes of the sub-records of a heap
 abbrev pub own_bytes : HeapValue → List ℕ
@@ -40,6 +41,4 @@ dump_head (suc len) = head_bytes 0x0c 0 (suc len)
 
 -- what stands before the rows, where all sub-records have so many bytes
 abbrev pub front101 : HeapValue → ℕ → List ℕ
-front101 heap len =
-    header_bytes (record { version = V101; ids = heap.ids; millis = heap.millis })
-    ++ (record_facts_bytes heap.ids heap.facts ++ (dump_head len ++ own_bytes heap))
+front101 heap len = front_bytes V101 heap ++ (dump_head len ++ own_bytes heap)

@@ -14,15 +14,15 @@ ghost use Rattle.hprof_stored101.specs.Dumping101.{body_with, dump101_with, dump
 
 use crate::row_writer::RowWriter;
 use hprof_devices::{Source, Target, WriteFault};
-use hprof_dump::write_records;
 use hprof_heap::Heap;
-use hprof_items::{Header, Version, tag};
+use hprof_items::{Version, tag};
 use hprof_objects::{ObjectStop, StoredObjects};
 use hprof_parts::Parts;
 use hprof_runs::Scratch;
 use hprof_segments::SegmentFault;
+use hprof_stored::write_front;
 use hprof_stream::Limits;
-use hprof_writing::{write_head, write_header};
+use hprof_writing::write_head;
 use std::alloc::Global;
 
 /// Writes the head of a HEAP_DUMP record whose body has `len` bytes. Writes nothing if `len` is 0. If this fails, a prefix was written.
@@ -53,18 +53,12 @@ fn write_subs<W: Target>(heap: &Heap, target: &mut W) -> Result<(), WriteFault>
 
 /// Writes what stands before the objects: the header, the facts that have records, the head of the HEAP_DUMP record with a body of `len`
 /// bytes, and the heap's sub-records. If this fails, a prefix was written.
-fn write_front<W: Target>(heap: &Heap, len: u32, target: &mut W) -> Result<(), WriteFault>
+fn write_front101<W: Target>(heap: &Heap, len: u32, target: &mut W) -> Result<(), WriteFault>
     requires { W.health target.old ≡ Well }
     ensures bytes { Writes (W.written target.old) (W.written target.new) result (front101 (heap_of heap.now) len) }
     ensures health { LeavesHealth result (W.health target.new) }
 {
-    let header = Header {
-        version: Version::V101,
-        ids: heap.ids(),
-        millis: heap.millis(),
-    };
-    write_header(&header, target)?;
-    write_records(heap, target)?;
+    write_front(Version::V101, heap, target)?;
     write_dump_head(len, target)?;
     write_subs(heap, target)
 }
@@ -121,7 +115,7 @@ pub(crate) fn write_stored101<S: Scratch + Drop, R: Source + Drop, P: Parts<Read
     ensures again { IfErr result (TellsChange S.written S.health limits (P.bytes parts.now) objects.now) }
     ensures health { LeavesTarget result (W.health target.new) }
 {
-    if let Err(fault) = write_front(heap, len, target) {
+    if let Err(fault) = write_front101(heap, len, target) {
         return Err(ObjectStop::Sink(SegmentFault::Write(fault)));
     }
     write_objects(alloc, objects, parts, limits, target)

@@ -1,20 +1,15 @@
-use Rattle.std.proofs.Common.{◌≡◌, ◌≤◌, Some, arith, length, refl, sym, subst}
+use Rattle.std.proofs.Common.{◌≡◌, ◌≤◌, List, Some, arith, length, refl, sym, subst}
 use Rattle.hprof_items.specs.Spelling.{longest_body}
 use Rattle.hprof_heap.specs.Heap.{heap_of}
-use Rattle.hprof_engine.specs.declared.product.WriteStop.TheVariants as writes
-use Rattle.hprof_engine.specs.declared.product_refusal.ProductRefusal.TheVariants as products
+use Rattle.hprof_merge.specs.Rows.{ByteRow}
+use Rattle.hprof_engine.specs.declared.product_refusal.ProductRefusal.TheVariants.{DumpTooLong}
 use Rattle.hprof_engine.specs.declared.tool_fault.ToolFault.{ToolFault}
-use Rattle.hprof_engine.specs.Joining.{AreReadOut}
 use Rattle.hprof_engine.specs.Joining101.{IsDump101Text, Refuses101}
 use Rattle.hprof_engine.specs.Makes.{Makes}
-use Rattle.hprof_engine.proofs.Making.{stopped}
-use Rattle.hprof_stored.specs.Parts.{all_read}
-use Rattle.hprof_stored.specs.Storing.{HaveObject}
-use Rattle.hprof_stored.specs.StoredMaking.{pass_fault}
-use Rattle.hprof_stored.proofs.JoinMakes.{stop_makes}
-use Rattle.hprof_stored.proofs.StoredMakes.{done, heap_refused, pass_makes, reading_makes}
-use Rattle.hprof_stored.proofs.StoredReads.{all_read_so, some_readers}
-use Rattle.hprof_stored.proofs.ToldAgain.{agree_told, as_read, loss_told, same_told}
+use Rattle.hprof_stored.proofs.AgainMakes.{done_makes, loss_makes, refused_makes, stopped_makes}
+use Rattle.hprof_stored.proofs.StoredMakes.{reading_makes}
+use Rattle.hprof_stored.proofs.StoredReads.{some_readers}
+use Rattle.hprof_stored101.specs.ByteCounter.{capped}
 use Rattle.hprof_stored101.specs.Dumping101.{body_with, dump101_with}
 use Rattle.hprof_stored101.specs.StoredMaking101.{stored_dump101_making}
 use Rattle.hprof_stored101.proofs.Agreed.{is_dump101, is_too_long}
@@ -36,129 +31,66 @@ returns-in-Err g c =
 -- the objects cannot be gone through
 pub returns-in-Err-body_len : goal.returns-in-Err-body_len
 returns-in-Err-body_len g c =
-    let left = g.R.Source.left in
-    let old = c.args.readers.now in
     let e = c.in-Ok.ensures in
-    let stop = c.in-Err-body_len.stop in
-    let some = some_readers old c.if-is_empty.ensures in
-    let out = subst (AreReadOut left g.R.Source.health g.R.Source.pulls c.args.limits old c.read_stored.new.readers) e.first.so_many
-    e.first.read_out in
-    subst (λ (fault : ToolFault). Makes left g.R.Source.health g.R.Source.pulls g.W.Target.written g.W.Target.health c.args.limits
-    stored_dump101_making old c.read_stored.new.readers c.args.target.now c.args.target.now (Some fault))
-    (sym c.fault_of_first_pass.ensures)
-    (pass_makes left g.R.Source.health g.R.Source.pulls c.args.limits old c.read_stored.new.readers g.W.Target.written g.W.Target.health
-    IsDump101Text Refuses101 c.args.target.now c.args.target.now some e.reads out c.requires.target refl (pass_fault stop)
-    (λ parts told.
-    loss_told left g.S.Target.written g.S.Target.health c.args.limits old (g.P.Parts.bytes c.args.parts.now)
-    (g.S.Target.written c.args.scratch) c.in-Ok.stored c.finish-objects.result e.ok c.finish-objects.ensures.holds
-    c.requires.again some parts told c.conflicts_of_objects_come_last.ensures.objects stop c.in-Err-body_len.ensures.least
-    c.in-Err-body_len.ensures.again))
+    let finds = c.in-Err-body_len.ensures in
+    loss_makes g.R.Source.left g.R.Source.health g.R.Source.pulls c.args.limits c.args.readers.now c.read_stored.new.readers
+    g.W.Target.written g.W.Target.health IsDump101Text Refuses101 c.args.target.now c.args.target.now
+    g.S.Target.written g.S.Target.health (g.P.Parts.bytes c.args.parts.now) (g.S.Target.written c.args.scratch) c.in-Ok.stored
+    c.finish-objects.result (some_readers c.args.readers.now c.if-is_empty.ensures) c.requires.again e.ok c.finish-objects.ensures.holds
+    e.reads e.first c.in-Err-body_len.stop c.fault_of_first_pass.result c.fault_of_first_pass.ensures c.requires.target refl
+    c.conflicts_of_objects_come_last.ensures.objects finds.least finds.again
 
 -- the dump is too long
 pub returns-then-len-longest : goal.returns-then-len-longest
 returns-then-len-longest g c =
-    let left = g.R.Source.left in
-    let old = c.args.readers.now in
     let e = c.in-Ok.ensures in
-    let stored = c.in-Ok.stored in
-    let heap = heap_of stored.heap in
-    let bytes = g.P.Parts.bytes c.args.parts.now in
-    let scratch = g.S.Target.written c.args.scratch in
-    let objects = c.finish-objects.result in
-    let finished = c.finish-objects.ensures.holds in
-    let behind = c.objects_stand_behind.ensures in
-    let some = some_readers old c.if-is_empty.ensures in
-    let out = subst (AreReadOut left g.R.Source.health g.R.Source.pulls c.args.limits old c.read_stored.new.readers) e.first.so_many
-    e.first.read_out in
-    let again = as_read left g.S.Target.written g.S.Target.health c.args.limits old bytes scratch stored objects e.ok finished
-    c.requires.again some in
-    let agree = agree_told left g.S.Target.written g.S.Target.health c.args.limits old bytes scratch stored objects e.ok finished
-    c.requires.again some in
-    heap_refused left g.R.Source.health g.R.Source.pulls c.args.limits old c.read_stored.new.readers g.W.Target.written g.W.Target.health
-    IsDump101Text Refuses101 c.args.target.now c.args.target.now products.DumpTooLong
-    (stopped left g.R.Source.health g.R.Source.pulls c.args.limits old c.read_stored.new.readers HaveObject
-    (writes.Refused products.DumpTooLong)
-    (all_read_so left g.R.Source.health g.R.Source.pulls c.args.limits old c.read_stored.new.readers some e.reads out)) refl
-    (λ parts told.
-    let counted = c.in-Ok-body_len.ensures.len (all_read e.ok.parts) (again parts told) in
-    is_too_long parts heap counted.0 (agree parts told behind.objects behind.heap counted.0 counted.1)
-    (omega (arith, counted.2, c.if-len-longest.true, c.from-longest.ensures)))
+    let heap = heap_of c.in-Ok.stored.heap in
+    refused_makes g.R.Source.left g.R.Source.health g.R.Source.pulls c.args.limits c.args.readers.now c.read_stored.new.readers
+    g.W.Target.written g.W.Target.health IsDump101Text Refuses101 c.args.target.now c.args.target.now
+    g.S.Target.written g.S.Target.health (g.P.Parts.bytes c.args.parts.now) (g.S.Target.written c.args.scratch) c.in-Ok.stored
+    c.finish-objects.result (some_readers c.args.readers.now c.if-is_empty.ensures) c.requires.again e.ok c.finish-objects.ensures.holds
+    e.reads e.first (λ rows. c.in-Ok-body_len.len ≡ capped (length (body_with heap rows))) c.in-Ok-body_len.ensures.len
+    c.objects_stand_behind.ensures.objects c.objects_stand_behind.ensures.heap DumpTooLong refl
+    (λ parts rows agree known. is_too_long parts heap rows agree
+    (omega (arith, known, c.if-len-longest.true, c.from-longest.ensures)))
 
 -- all was written
 pub returns-in-Ok-write_stored101 : goal.returns-in-Ok-write_stored101
 returns-in-Ok-write_stored101 g c =
-    let left = g.R.Source.left in
-    let old = c.args.readers.now in
     let e = c.in-Ok.ensures in
-    let stored = c.in-Ok.stored in
-    let heap = heap_of stored.heap in
-    let bytes = g.P.Parts.bytes c.args.parts.now in
-    let scratch = g.S.Target.written c.args.scratch in
-    let objects = c.finish-objects.result in
-    let finished = c.finish-objects.ensures.holds in
-    let behind = c.objects_stand_behind.ensures in
-    let some = some_readers old c.if-is_empty.ensures in
-    let out = subst (AreReadOut left g.R.Source.health g.R.Source.pulls c.args.limits old c.read_stored.new.readers) e.first.so_many
-    e.first.read_out in
-    let again = as_read left g.S.Target.written g.S.Target.health c.args.limits old bytes scratch stored objects e.ok finished
-    c.requires.again some in
-    let agree = agree_told left g.S.Target.written g.S.Target.health c.args.limits old bytes scratch stored objects e.ok finished
-    c.requires.again some in
-    done left g.R.Source.health g.R.Source.pulls c.args.limits old c.read_stored.new.readers g.W.Target.written g.W.Target.health
-    IsDump101Text Refuses101 c.args.target.now c.write_stored101.new.target
-    (all_read_so left g.R.Source.health g.R.Source.pulls c.args.limits old c.read_stored.new.readers some e.reads out)
-    c.in-Ok-write_stored101.ensures.health
-    (λ parts told.
-    let counted = c.in-Ok-body_len.ensures.len (all_read e.ok.parts) (again parts told) in
-    let exact : c.in-Ok-body_len.len ≡ length (body_with heap counted.0) =
-    omega (arith, counted.2, c.if-len-longest.false, c.from-longest.ensures) in
-    let short : length (body_with heap counted.0) ≤ longest_body = omega (arith, exact, c.if-len-longest.false, c.from-longest.ensures) in (
-      dump101_with heap counted.0,
-      is_dump101 parts heap counted.0 (agree parts told behind.objects behind.heap counted.0 counted.1) short,
-      c.in-Ok-write_stored101.ensures.dump (all_read e.ok.parts) counted.0 (again parts told) counted.1 exact,
-    ))
+    let heap = heap_of c.in-Ok.stored.heap in
+    let wrote = c.in-Ok-write_stored101.ensures in
+    done_makes g.R.Source.left g.R.Source.health g.R.Source.pulls c.args.limits c.args.readers.now c.read_stored.new.readers
+    g.W.Target.written g.W.Target.health IsDump101Text Refuses101 c.args.target.now c.write_stored101.new.target
+    g.S.Target.written g.S.Target.health (g.P.Parts.bytes c.args.parts.now) (g.S.Target.written c.args.scratch) c.in-Ok.stored
+    c.finish-objects.result (some_readers c.args.readers.now c.if-is_empty.ensures) c.requires.again e.ok c.finish-objects.ensures.holds
+    e.reads e.first (λ rows. c.in-Ok-body_len.len ≡ capped (length (body_with heap rows))) c.in-Ok-body_len.ensures.len
+    c.objects_stand_behind.ensures.objects c.objects_stand_behind.ensures.heap (dump101_with heap)
+    (λ parts rows agree known.
+    let short : length (body_with heap rows) ≤ longest_body = omega (arith, known, c.if-len-longest.false, c.from-longest.ensures) in
+    is_dump101 parts heap rows agree short) wrote.health
+    (λ again rows same union known.
+    let exact : c.in-Ok-body_len.len ≡ length (body_with heap rows) =
+    omega (arith, known, c.if-len-longest.false, c.from-longest.ensures) in
+    wrote.dump again rows same union exact)
 
 -- writing stopped
 pub returns : goal.returns
 returns g c =
-    let left = g.R.Source.left in
-    let old = c.args.readers.now in
     let e = c.in-Ok.ensures in
-    let stored = c.in-Ok.stored in
-    let heap = heap_of stored.heap in
-    let bytes = g.P.Parts.bytes c.args.parts.now in
-    let scratch = g.S.Target.written c.args.scratch in
-    let objects = c.finish-objects.result in
-    let finished = c.finish-objects.ensures.holds in
-    let behind = c.objects_stand_behind.ensures in
-    let stop = c.in-Err-write_stored101.stop in
-    let w = c.in-Err-write_stored101.ensures in
-    let some = some_readers old c.if-is_empty.ensures in
-    let out = subst (AreReadOut left g.R.Source.health g.R.Source.pulls c.args.limits old c.read_stored.new.readers) e.first.so_many
-    e.first.read_out in
-    let again = as_read left g.S.Target.written g.S.Target.health c.args.limits old bytes scratch stored objects e.ok finished
-    c.requires.again some in
-    let agree = agree_told left g.S.Target.written g.S.Target.health c.args.limits old bytes scratch stored objects e.ok finished
-    c.requires.again some in
-    subst (λ (fault : ToolFault). Makes left g.R.Source.health g.R.Source.pulls g.W.Target.written g.W.Target.health c.args.limits
-    stored_dump101_making old c.read_stored.new.readers c.args.target.now c.write_stored101.new.target (Some fault))
-    (sym c.fault_of_stop.ensures)
-    (stop_makes left g.R.Source.health g.R.Source.pulls c.args.limits old c.read_stored.new.readers g.W.Target.written g.W.Target.health
-    IsDump101Text Refuses101 c.args.target.now c.write_stored101.new.target some e.reads out
-    (λ parts told.
-    let counted = c.in-Ok-body_len.ensures.len (all_read e.ok.parts) (again parts told) in
-    let exact : c.in-Ok-body_len.len ≡ length (body_with heap counted.0) =
-    omega (arith, counted.2, c.if-len-longest.false, c.from-longest.ensures) in
-    let short : length (body_with heap counted.0) ≤ longest_body = omega (arith, exact, c.if-len-longest.false, c.from-longest.ensures) in
-    let writes = w.dump (all_read e.ok.parts) counted.0 (again parts told) counted.1 exact in (
-      dump101_with heap counted.0,
-      writes.0,
-      is_dump101 parts heap counted.0 (agree parts told behind.objects behind.heap counted.0 counted.1) short,
-      writes.2,
-    )) stop w.health
-    (λ parts told.
-    let counted = c.in-Ok-body_len.ensures.len (all_read e.ok.parts) (again parts told) in (
-      w.stops (all_read e.ok.parts) counted.0 (again parts told) counted.1,
-      same_told left g.S.Target.written g.S.Target.health c.args.limits old bytes scratch stored objects e.ok finished c.requires.again
-          some parts told stop w.again,
-    )))
+    let heap = heap_of c.in-Ok.stored.heap in
+    let wrote = c.in-Err-write_stored101.ensures in
+    stopped_makes g.R.Source.left g.R.Source.health g.R.Source.pulls c.args.limits c.args.readers.now c.read_stored.new.readers
+    g.W.Target.written g.W.Target.health IsDump101Text Refuses101 c.args.target.now c.write_stored101.new.target
+    g.S.Target.written g.S.Target.health (g.P.Parts.bytes c.args.parts.now) (g.S.Target.written c.args.scratch) c.in-Ok.stored
+    c.finish-objects.result (some_readers c.args.readers.now c.if-is_empty.ensures) c.requires.again e.ok c.finish-objects.ensures.holds
+    e.reads e.first (λ rows. c.in-Ok-body_len.len ≡ capped (length (body_with heap rows))) c.in-Ok-body_len.ensures.len
+    c.objects_stand_behind.ensures.objects c.objects_stand_behind.ensures.heap (dump101_with heap)
+    (λ parts rows agree known.
+    let short : length (body_with heap rows) ≤ longest_body = omega (arith, known, c.if-len-longest.false, c.from-longest.ensures) in
+    is_dump101 parts heap rows agree short) c.in-Err-write_stored101.stop c.fault_of_stop.result c.fault_of_stop.ensures wrote.health
+    (λ again rows same union known.
+    let exact : c.in-Ok-body_len.len ≡ length (body_with heap rows) =
+    omega (arith, known, c.if-len-longest.false, c.from-longest.ensures) in
+    wrote.dump again rows same union exact)
+    (λ parts again rows agree same union. wrote.stops again rows same union) wrote.again
