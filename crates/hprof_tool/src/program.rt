@@ -35,7 +35,7 @@ use hprof_ask::ReportWord;
 use hprof_devices::{Device, Source};
 use hprof_engine::{Dump, Dump101};
 use joining::{join_stream, report_files, write_file};
-use made::{Made, OfHeap};
+use made::Made;
 use meter::Meter;
 use metered::{Clearing, Metered};
 use prompting::Prompting;
@@ -221,10 +221,7 @@ fn write_dump<F: Folder, E: Write>(
 {
     match product {
         NewFile::Dump => write_new_file(alloc, files, &Dump, out, names, errors),
-        NewFile::Dump101 => {
-            let product = OfHeap { product: Dump101 };
-            write_new_file(alloc, files, &product, out, names, errors)
-        }
+        NewFile::Dump101 => write_new_file(alloc, files, &Dump101, out, names, errors),
     }
 }
 

@@ -16,6 +16,7 @@ use hprof_objects::Keeping;
 use hprof_parts::Slices;
 use hprof_runs::MemoryScratch;
 use hprof_stored::join_stored;
+use hprof_stored101::join101_stored;
 use hprof_stream::Limits;
 use std::alloc::{AllocError, Global};
 
@@ -63,6 +64,9 @@ fn answer_stored(
     let scratch = MemoryScratch::new(alloc);
     match call {
         Call::Join => Some(join_stored(alloc, readers, &again, limits, keeping, scratch, target)),
+        Call::Join101 => Some(join101_stored(
+            alloc, readers, &again, limits, keeping, scratch, target,
+        )),
         Call::Report(report) => {
             let report = PassedReport::of(report)?;
             Some(make_stored(
