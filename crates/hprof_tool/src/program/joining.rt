@@ -25,7 +25,7 @@ use std::fs::File;
 use std::io::Write;
 
 /// Parts that are read once.
-pub(crate) const READ_ONCE: Option<Again<SharedFile<File>, MemoryScratch>> = None;
+const READ_ONCE: Option<Again<SharedFile<File>, MemoryScratch>> = None;
 
 /// Returns what is needed to read the objects of opened parts again, or `None` if the product does not need it, or if one of the parts is no
 /// regular file.

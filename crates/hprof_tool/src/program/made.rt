@@ -24,7 +24,7 @@ use std::alloc::Global;
 use std::mem;
 
 /// Makes something of the parts of the readers, without the heap, which need not be freed row by row, since the process ends.
-fn make_of_heap<P: Product, R: Source, W: Target>(
+pub(crate) fn make_of_heap<P: Product, R: Source, W: Target>(
     alloc: Global,
     product: &P,
     readers: &mut [R],
@@ -106,7 +106,7 @@ fn join101_again<R: Source, H: ReadAt + Drop, S: Scratch + Drop, W: Target>(
 }
 
 /// Makes something of passes over the objects of the parts of the readers.
-fn make_again<M: PassProduct, R: Source, H: ReadAt + Drop, S: Scratch + Drop, W: Target>(
+pub(crate) fn make_again<M: PassProduct, R: Source, H: ReadAt + Drop, S: Scratch + Drop, W: Target>(
     alloc: Global,
     product: &M,
     readers: &mut [R],
