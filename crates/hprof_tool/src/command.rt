@@ -151,7 +151,7 @@ fn memory_arg<'a>(alloc: Global) -> Arg<'a>
     Arg::new(alloc, "memory")
         .long("memory")
         .value_name("SIZE")
-        .help("Bytes of memory for objects, as 512M; others are read again")
+        .help("The memory that objects may take, as 512M or 4G")
         .action(ArgAction::Set)
 }
 
