@@ -221,7 +221,7 @@ class Zsh(Folder):
             "hprof join out f": "hprof join out friday.hprof ",
             "hprof diff a f": "hprof diff a friday.hprof ",
             "hprof diff a b f": "hprof diff a b f",
-            "hprof check --m": "hprof check --memory",
+            "hprof check --m": "hprof check --memory=",
             "hprof threads --m": "hprof threads --m",
             "hprof check --memory f": "hprof check --memory f",
             "hprof objects --memory 1M by": "hprof objects --memory 1M byte\\[\\] ",
