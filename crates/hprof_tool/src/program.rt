@@ -21,12 +21,12 @@ ghost use Rattle.hprof_tool.specs.Tasks.{DoesTask, IsMisnamedTask, MayDo, ReadsN
 ghost use Rattle.hprof_tool.specs.Telling.{TellsFaults, TellsFront, RefusesSalvage, TellsRefusal, told_line};
 ghost use Rattle.hprof_tool.specs.Words.{is_new_file};
 
-use crate::command::{Misunderstood, NewFile, OutName, Task, task_of};
+use crate::command::{Asked, Misunderstood, NewFile, OutName, Task, asked_of};
 use crate::status::Status;
 use crate::storage::Storage;
 use answers::{
-    Ended, EndedFile, answer_misnamed, answer_no_command, answer_no_words, answer_stream,
-    answer_words, refuse,
+    Ended, EndedFile, answer_misnamed, answer_no_command, answer_no_size, answer_no_words,
+    answer_stream, answer_words, refuse,
 };
 use comparing::compare_files;
 use conversing::ask_files;
@@ -421,7 +421,8 @@ where
 /// - `ask PART..` reads parts in files, and answers on `output` the questions that come as lines on `input`. It prompts for each line on
 ///   `prompts`, if there are prompts.
 ///
-/// `storage` says how many bytes of objects may be in memory, and where more of them go.
+/// `storage` says how many bytes of objects may be in memory, and where more of them go. The option `--memory SIZE` of a command gives
+/// another number of bytes.
 ///
 /// While parts in files are read, a line on `terminal`, if there is one, says how much of them was read.
 pub fn run<S: Files + Clock, I: Read + Drop, O: Write + Drop, E: Write, P: Write + Drop>(
@@ -442,11 +443,20 @@ where
         Ok(words) => words,
         Err(error) => return answer_no_words(alloc, &error, errors),
     };
-    match task_of(alloc, &words) {
-        Ok(task) => perform_metered(
-            alloc, system, storage, task, input, output, errors, prompts, terminal,
+    match asked_of(alloc, &words) {
+        Ok(Asked { task, memory }) => perform_metered(
+            alloc,
+            system,
+            storage.with_memory(memory),
+            task,
+            input,
+            output,
+            errors,
+            prompts,
+            terminal,
         ),
         Err(Misunderstood::Words(error)) => answer_words(alloc, &error, &mut output, errors),
         Err(Misunderstood::NoCommand) => answer_no_command(errors),
+        Err(Misunderstood::NoSize) => answer_no_size(errors),
     }
 }
