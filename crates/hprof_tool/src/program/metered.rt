@@ -9,7 +9,7 @@ use crate::program::scratch_place::{ScratchPlace, folder_of};
 use crate::program::writing::BUFFER_LEN;
 use crate::storage::Storage;
 use hprof_devices::{Device, ReadFault, Source};
-use hprof_handles::SharedFile;
+use hprof_handles::{ReadAt, SharedFile};
 use hprof_scratch::LateScratch;
 use std::alloc::{AllocError, Global};
 use std::fs::{File, OpenOptions};
@@ -60,6 +60,26 @@ impl<F: Read + FileExt, S: Clock, T: Write> Source for MeteredPart<'_, F, S, T> 
     }
 }
 
+/// The file of a part that is read again. The meter counts what is read of it.
+#[derive(Drop)]
+pub(crate) struct MeteredHandle<'a, F, S, T> {
+    file: SharedFile<F>,
+    clock: &'a S,
+    meter: &'a Meter<T>,
+}
+
+impl<F: FileExt, S: Clock, T: Write> ReadAt for MeteredHandle<'_, F, S, T> {
+    ghost use Rattle.std.specs.Prelude.{None};
+
+    ghost bytes = { λ _. None };
+
+    fn read_at(&self, piece: &mut [u8], at: u64) -> io::Result<usize> {
+        let count = self.file.read_at(piece, at)?;
+        self.meter.has_read_again(count, self.clock);
+        Ok(count)
+    }
+}
+
 /// The permissions of a new file: its owner reads and writes it, and no one else does, since a heap may hold secrets.
 pub(crate) const PRIVATE_MODE: u32 = 0o600;
 
@@ -78,11 +98,11 @@ where
 
     type Part = MeteredPart<'a, S::File, S, T>;
 
-    type Handle = SharedFile<S::File>;
+    type Handle = MeteredHandle<'a, S::File, S, T>;
 
     type Scratch = LateScratch<ScratchPlace<'a, S>>;
 
-    type Out = Clearing<'a, S::File, T>;
+    type Out = S::File;
 
     ghost answered = { λ _. nothing_told };
 
@@ -105,9 +125,13 @@ where
     fn handle(
         &self,
         part: &MeteredPart<'a, S::File, S, T>,
-    ) -> Result<Option<SharedFile<S::File>>, AllocError> {
+    ) -> Result<Option<MeteredHandle<'a, S::File, S, T>>, AllocError> {
         match &part.again {
-            Some(file) => Ok(Some(file.share()?)),
+            Some(file) => Ok(Some(MeteredHandle {
+                file: file.share()?,
+                clock: self.system,
+                meter: self.meter,
+            })),
             None => Ok(None),
         }
     }
@@ -140,18 +164,10 @@ where
         self.storage.memory
     }
 
-    fn create_out(
-        &self,
-        alloc: Global,
-        out: OutName<'_>,
-    ) -> Result<BufWriter<Clearing<'a, S::File, T>>, Refused> {
+    fn create_out(&self, alloc: Global, out: OutName<'_>) -> Result<BufWriter<S::File>, Refused> {
         let name = out.as_str();
         let Ok(file) = create_private(self.system, name) else {
             return Err(Refused::Create);
-        };
-        let file = Clearing {
-            meter: self.meter,
-            writer: file,
         };
         match BufWriter::with_capacity(alloc, BUFFER_LEN, file) {
             Ok(buffered) => Ok(buffered),
@@ -164,13 +180,13 @@ where
 
     fn leave_out(&self, _out: OutName<'_>) {}
 
-    fn remove_out(&self, name: &str, file: Clearing<'a, S::File, T>) {
+    fn remove_out(&self, name: &str, file: S::File) {
         drop(file);
         let _ = fs::remove_file(self.system, name);
     }
 }
 
-/// A writer, or a new file. The meter's line goes before a byte is written.
+/// A writer. The meter's line goes before a byte is written.
 #[derive(Drop)]
 pub(crate) struct Clearing<'a, W, T> {
     pub(crate) meter: &'a Meter<T>,
