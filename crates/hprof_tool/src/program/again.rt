@@ -18,26 +18,23 @@ pub(crate) struct Again<H, S> {
     pub(crate) keeping: Keeping,
 }
 
-/// Returns what reads each part at offsets, or `None` if one of them is no regular file.
+/// Returns what reads each part at offsets.
 fn handles_of<F: Folder>(
     alloc: Global,
     files: &F,
     parts: &[F::Part],
-) -> Result<Option<Vec<F::Handle>>, AllocError>
-    ensures { IfOk result (λ handles. IfSome handles (λ handles. AreHandles F.Part.left F.Handle.bytes parts.now handles.items)) }
+) -> Result<Vec<F::Handle>, AllocError>
+    ensures { IfOk result (λ handles. AreHandles F.Part.left F.Handle.bytes parts.now handles.items) }
 {
     let mut handles = Vec::new(alloc);
     for part in parts {
-        let Some(handle) = files.handle(part)? else {
-            return Ok(None);
-        };
-        handles.push(handle)?;
+        handles.push(files.handle(part)?)?;
     }
-    Ok(Some(handles))
+    Ok(handles)
 }
 
-/// Returns what is needed to read the objects of parts again, or `None` if one of the parts is no regular file, or if they fit into the
-/// memory. Scratch is beside the new file, if one is written.
+/// Returns what is needed to read the objects of parts again, or `None` if they fit into the memory. Scratch is beside the new file, if one
+/// is written.
 pub(crate) fn again_of<F: Folder>(
     alloc: Global,
     files: &F,
@@ -49,13 +46,11 @@ pub(crate) fn again_of<F: Folder>(
     if !files.are_long(parts) {
         return Ok(None);
     }
-    let Some(handles) = handles_of(alloc, files, parts)? else {
-        return Ok(None);
-    };
+    let handles = handles_of(alloc, files, parts)?;
     let scratch = files.scratch(alloc, out)?;
     Ok(Some(Again {
         handles,
         scratch,
-        keeping: Keeping::usual(files.memory()),
+        keeping: files.keeping(parts),
     }))
 }

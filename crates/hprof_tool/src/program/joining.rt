@@ -27,8 +27,8 @@ use std::io::Write;
 /// Parts that are read once.
 pub(crate) const READ_ONCE: Option<Again<SharedFile<File>, MemoryScratch>> = None;
 
-/// Returns what is needed to read the objects of opened parts again, or `None` if the product does not need it, or if one of the parts is no
-/// regular file.
+/// Returns what is needed to read the objects of opened parts again, or `None` if the product does not need it, or if they fit into the
+/// memory.
 fn again_for<P: Made, F: Folder>(
     alloc: Global,
     files: &F,

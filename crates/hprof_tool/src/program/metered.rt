@@ -10,10 +10,11 @@ use crate::program::writing::BUFFER_LEN;
 use crate::storage::Storage;
 use hprof_devices::{Device, ReadFault, Source};
 use hprof_handles::{ReadAt, SharedFile};
+use hprof_objects::Keeping;
 use hprof_scratch::LateScratch;
 use std::alloc::{AllocError, Global};
 use std::fs::{File, OpenOptions};
-use std::io::{BufWriter, Read, Write};
+use std::io::{BufWriter, ErrorKind, Read, Write};
 use std::os::unix::fs::{FileExt, OpenOptionsExt};
 use std::rt::{Clock, Files};
 use std::{fs, io};
@@ -42,10 +43,10 @@ pub(crate) struct MeteredPart<'a, F, S, T> {
 }
 
 impl<F: Read + FileExt, S: Clock, T: Write> Source for MeteredPart<'_, F, S, T> {
+    ghost use Rattle.std.specs.Prelude.{None};
     ghost use Rattle.hprof_devices.specs.Device.{health_of, pulls_of};
-    ghost use Rattle.hprof_tool.specs.MeteredPart.{left_in};
 
-    ghost left = { left_in F.remaining };
+    ghost left = { λ _. None };
 
     ghost health = { λ it. health_of it.device };
 
@@ -60,10 +61,11 @@ impl<F: Read + FileExt, S: Clock, T: Write> Source for MeteredPart<'_, F, S, T> 
     }
 }
 
-/// The file of a part that is read again. The meter counts what is read of it.
+/// What reads a part again. The meter counts what is read.
 #[derive(Drop)]
 pub(crate) struct MeteredHandle<'a, F, S, T> {
-    file: SharedFile<F>,
+    /// The file of the part, if it is a regular one. Another is read once.
+    file: Option<SharedFile<F>>,
     clock: &'a S,
     meter: &'a Meter<T>,
 }
@@ -74,10 +76,18 @@ impl<F: FileExt, S: Clock, T: Write> ReadAt for MeteredHandle<'_, F, S, T> {
     ghost bytes = { λ _. None };
 
     fn read_at(&self, piece: &mut [u8], at: u64) -> io::Result<usize> {
-        let count = self.file.read_at(piece, at)?;
+        let Some(file) = &self.file else {
+            return Err(io::Error::from(ErrorKind::Unsupported));
+        };
+        let count = file.read_at(piece, at)?;
         self.meter.has_read_again(count, self.clock);
         Ok(count)
     }
+}
+
+/// Returns whether one of the parts is read once.
+fn any_is_read_once<F, S, T>(parts: &[MeteredPart<'_, F, S, T>]) -> bool {
+    parts.iter().any(|part| part.again.is_none())
 }
 
 /// The permissions of a new file: its owner reads and writes it, and no one else does, since a heap may hold secrets.
@@ -125,23 +135,39 @@ where
     fn handle(
         &self,
         part: &MeteredPart<'a, S::File, S, T>,
-    ) -> Result<Option<MeteredHandle<'a, S::File, S, T>>, AllocError> {
-        match &part.again {
-            Some(file) => Ok(Some(MeteredHandle {
-                file: file.share()?,
-                clock: self.system,
-                meter: self.meter,
-            })),
-            None => Ok(None),
-        }
+    ) -> Result<MeteredHandle<'a, S::File, S, T>, AllocError> {
+        let file = match &part.again {
+            Some(file) => Some(file.share()?),
+            None => None,
+        };
+        Ok(MeteredHandle {
+            file,
+            clock: self.system,
+            meter: self.meter,
+        })
     }
 
     fn are_long(&self, parts: &[MeteredPart<'a, S::File, S, T>]) -> bool {
+        if any_is_read_once(parts) {
+            // It may be of any length.
+            return true;
+        }
         let mut bytes = 0u64;
         for part in parts {
             bytes = bytes.saturating_add(part.length);
         }
         bytes > self.storage.memory
+    }
+
+    fn keeping(&self, parts: &[MeteredPart<'a, S::File, S, T>]) -> Keeping {
+        let usual = Keeping::usual(self.storage.memory);
+        if any_is_read_once(parts) {
+            return Keeping {
+                stretches: 0,
+                ..usual
+            };
+        }
+        usual
     }
 
     fn scratch(
@@ -158,10 +184,6 @@ where
             system: self.system,
             folder,
         }))
-    }
-
-    fn memory(&self) -> u64 {
-        self.storage.memory
     }
 
     fn create_out(&self, alloc: Global, out: OutName<'_>) -> Result<BufWriter<S::File>, Refused> {
