@@ -1,11 +1,16 @@
 //! What is needed to read the objects of parts again.
 
-ghost use Rattle.std.specs.Prelude.{IfOk, IfSome};
+ghost use Rattle.std.specs.Prelude.{◌≡◌, IfOk, IfSome};
+ghost use Rattle.hprof_devices.specs.declared.health.Health.TheVariants.{Well};
+ghost use Rattle.hprof_runs.specs.ReadBack.{HoldsNothing};
 ghost use Rattle.hprof_tool.specs.Again.{AreHandles, IsReadyFor};
 
 use crate::program::folder::Folder;
+use hprof_handles::ReadAt;
 use hprof_objects::Keeping;
 use std::alloc::{AllocError, Global};
+use std::io;
+use std::io::ErrorKind;
 
 /// What is needed to read the objects of parts again.
 #[derive(Drop)]
@@ -16,6 +21,35 @@ pub(crate) struct Again<H, S> {
     pub(crate) scratch: S,
     /// How objects are kept.
     pub(crate) keeping: Keeping,
+}
+
+/// What stands for a part that is read once: each read fails.
+#[derive(Drop)]
+pub(crate) struct ReadOnce;
+
+impl ReadAt for ReadOnce {
+    ghost use Rattle.std.specs.Prelude.{None};
+
+    ghost bytes = { λ _. None };
+
+    fn read_at(&self, _piece: &mut [u8], _at: u64) -> io::Result<usize> {
+        Err(io::Error::from(ErrorKind::Unsupported))
+    }
+}
+
+/// Returns what is needed to go through the objects of a part that is read once. `None` is for want of memory.
+pub(crate) fn again_once<F: Folder>(alloc: Global, files: &F) -> Option<Again<ReadOnce, F::Scratch>>
+    ensures nothing { IfSome result (λ again. HoldsNothing (F.Scratch.written again.scratch)) }
+    ensures well { IfSome result (λ again. F.Scratch.health again.scratch ≡ Well) }
+{
+    let scratch = files.scratch(alloc, None).ok()?;
+    let mut handles = Vec::new(alloc);
+    handles.push(ReadOnce).ok()?;
+    Some(Again {
+        handles,
+        scratch,
+        keeping: files.keeping_once(),
+    })
 }
 
 /// Returns what reads each part at offsets.

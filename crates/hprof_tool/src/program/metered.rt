@@ -61,6 +61,27 @@ impl<F: Read + FileExt, S: Clock, T: Write> Source for MeteredPart<'_, F, S, T> 
     }
 }
 
+/// The standard input, which is read once.
+#[derive(Drop)]
+pub(crate) struct StandardInput<I> {
+    pub(crate) device: Device<I>,
+}
+
+impl<I: Read> Source for StandardInput<I> {
+    ghost use Rattle.std.specs.Prelude.{None};
+    ghost use Rattle.hprof_devices.specs.Device.{health_of, pulls_of};
+
+    ghost left = { λ _. None };
+
+    ghost health = { λ it. health_of it.device };
+
+    ghost pulls = { λ it. pulls_of it.device };
+
+    fn pull(&mut self, piece: &mut [u8]) -> Result<usize, ReadFault> {
+        self.device.pull(piece)
+    }
+}
+
 /// What reads a part again. The meter counts what is read.
 #[derive(Drop)]
 pub(crate) struct MeteredHandle<'a, F, S, T> {
@@ -160,14 +181,17 @@ where
     }
 
     fn keeping(&self, parts: &[MeteredPart<'a, S::File, S, T>]) -> Keeping {
-        let usual = Keeping::usual(self.storage.memory);
         if any_is_read_once(parts) {
-            return Keeping {
-                stretches: 0,
-                ..usual
-            };
+            return self.keeping_once();
         }
-        usual
+        Keeping::usual(self.storage.memory)
+    }
+
+    fn keeping_once(&self) -> Keeping {
+        Keeping {
+            stretches: 0,
+            ..Keeping::usual(self.storage.memory)
+        }
     }
 
     fn scratch(
