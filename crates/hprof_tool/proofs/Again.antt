@@ -1,5 +1,5 @@
 -- What reads parts again.
-use Rattle.std.proofs.Common.{◌≡◌, ◌+◌, ◌<◌, ℕ, List, [], ◌∷◌, ◌++◌, length, get_or, map, take, Option, Some, refl, sym, ap, subst, ◌∙◌}
+use Rattle.std.proofs.Common.{◌≡◌, ◌+◌, ◌<◌, ℕ, List, [], ◌∷◌, ◌++◌, length, get_or, map, take, Option, Some, None, refl, sym, ap, subst, ◌∙◌}
 use Rattle.std.proofs.lemmas.List.{take_more}
 use Rattle.std.specs.Prelude.{IsSome}
 use Rattle.hprof_engine.specs.Joining.{Tell}
@@ -53,3 +53,9 @@ module _ {P H : Type 0} (left : P → Option (List ℕ)) (bytes : H → Option (
       → ((handle : H) → IsSome (bytes handle) → IsSome scratch) → CanBeReadAgain left parts (map bytes handles) scratch
   can_be_read_again parts handles scratch are tells some told tell =
       (handles_tell parts handles are told tell, scratch_tells parts handles scratch are tells some told tell)
+
+-- a part that tells nothing
+pub untold_again : {P : Type 0} (left : P → Option (List ℕ)) (part : P) (again : List (Option (List ℕ))) (scratch : Option (List ℕ))
+    → left part ≡ None → CanBeReadAgain left (part ∷ []) again scratch
+untold_again left part again scratch none some [] tell = absurd cc
+untold_again left part again scratch none some (one ∷ told) tell = absurd cc

@@ -149,10 +149,10 @@ pub(crate) trait Made {
     // What is made.
     ghost making: { Self → Making };
 
-    /// Returns whether the objects of the parts are read again, if they can be.
+    /// Returns whether the objects of the parts are gone through again, if they do not fit into the memory.
     fn reads_again(&self) -> bool;
 
-    /// Makes it of the parts of the readers. Their objects are read again with `again`, if they can be.
+    /// Makes it of the parts of the readers. Their objects are gone through again with `again`, if it is there.
     fn make<R: Source, H: ReadAt + Drop, S: Scratch + Drop, W: Target>(
         &self,
         alloc: Global,

@@ -1,3 +1,5 @@
+use Rattle.std.proofs.Common.{refl}
+use Rattle.hprof_tool.proofs.Again.{untold_again}
 use Rattle.hprof_tool.proofs.Tasks.{may_do}
 use Rattle.hprof_tool.proofs.program.perform_metered.Goals as goal
 
