@@ -22,7 +22,8 @@ ROOT = Path(__file__).resolve().parent.parent.parent
 PROGRAM = Path(sys.argv[1] if len(sys.argv) > 1 else ROOT / "crates" / "hprof" / "out" / "hprof").resolve()
 FRIDAY, MONDAY = ((ROOT / "crates" / "hprof" / "data" / f"{day}.hprof").read_bytes() for day in ("friday", "monday"))
 HEADER = FRIDAY[:31]
-PIECE = re.compile(rb"\r(?P<line>reading (?:part (\d+) of (\d+)|again): (\d+) (%|MB))\x1b\[K|(?P<removal>\r\x1b\[K)|(?P<text>[^\r\x1b]+|\r\n)")
+LINE = rb"(?P<line>reading (?:part (\d+) of (\d+)|again): (\d+) (%|MB))"
+PIECE = re.compile(rb"\r" + LINE + rb"\x1b\[K|(?P<removal>\r\x1b\[K)|(?P<text>[^\r\x1b]+|\r\n)")
 
 
 def passed_over(length):
@@ -185,8 +186,8 @@ def again(folder):
     with open(folder / "arrays", "wb") as arrays:
         arrays.write(HEADER)
         for number in range(1, 2001):
-            length = 1_000_000
-            sub_record = b"\x23" + number.to_bytes(int.from_bytes(HEADER[19:23], "big"), "big") + bytes(4) + length.to_bytes(4, "big") + b"\x08"
+            length, id_size = 1_000_000, int.from_bytes(HEADER[19:23], "big")
+            sub_record = b"\x23" + number.to_bytes(id_size, "big") + bytes(4) + length.to_bytes(4, "big") + b"\x08"
             arrays.write(b"\x1c" + bytes(4) + (len(sub_record) + length).to_bytes(4, "big") + sub_record)
             arrays.seek(length, os.SEEK_CUR)
         arrays.truncate()
