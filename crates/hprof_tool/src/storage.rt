@@ -14,7 +14,7 @@ pub struct Storage<'a> {
 impl<'a> Storage<'a> {
     /// Returns the storage in which objects may take that number of bytes in memory, or the same storage for `None`.
     pub(crate) fn with_memory(self, memory: Option<u64>) -> Storage<'a>
-        ensures { result ≡ record self { memory = unwrap_or memory self.memory } }
+        ensures { result ≡ record self.entry { memory = unwrap_or memory self.entry.memory } }
     {
         Storage {
             memory: memory.unwrap_or(self.memory),

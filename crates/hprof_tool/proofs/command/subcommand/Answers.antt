@@ -12,7 +12,8 @@ returns c =
     let with_these : App → App = λ app. with_rules
     (with_rules (with_rules app (required_rules row.arguments.now)) (rules_if row.takes_parts parts_rule))
     (rules_if row.takes_memory memory_rule) in
-    let parts = c.in_ok-command-2.ensures ∙ ap (λ (app : App). with_rules app (rules_if row.takes_parts parts_rule)) c.in_ok-command.ensures in
+    let parts = c.in_ok-command-2.ensures
+    ∙ ap (λ (app : App). with_rules app (rules_if row.takes_parts parts_rule)) c.in_ok-command.ensures in
     IfOk-weaker c.with_memory.result _ _ (λ command added. ap (λ (app : App). app.top) (added
     ∙ ap (λ (app : App). with_rules app (rules_if row.takes_memory memory_rule)) parts ∙ ap with_these start) ∙ shape_of_these row)
     c.with_memory.ensures
