@@ -22,7 +22,8 @@ ROOT = Path(__file__).resolve().parent.parent.parent
 PROGRAM = Path(sys.argv[1] if len(sys.argv) > 1 else ROOT / "crates" / "hprof" / "out" / "hprof").resolve()
 FRIDAY, MONDAY = ((ROOT / "crates" / "hprof" / "data" / f"{day}.hprof").read_bytes() for day in ("friday", "monday"))
 HEADER = FRIDAY[:31]
-PIECE = re.compile(rb"\r(?P<line>reading part (\d+) of (\d+): (\d+) (%|MB))\x1b\[K|(?P<removal>\r\x1b\[K)|(?P<text>[^\r\x1b]+|\r\n)")
+LINE = rb"(?P<line>reading (?:part (\d+) of (\d+)|again): (\d+) (%|MB))"
+PIECE = re.compile(rb"\r" + LINE + rb"\x1b\[K|(?P<removal>\r\x1b\[K)|(?P<text>[^\r\x1b]+|\r\n)")
 
 
 def passed_over(length):
@@ -74,7 +75,8 @@ def on_terminal(words, folder, typed=None, own=("stdout", "stderr")):
 
 
 def lines_of(pieces):
-    """The lines of progress, each as (part, parts, number, unit) with its time, and all else that is left on the terminal."""
+    """The lines of progress, each as (part, parts, number, unit) with its time, and all else that is left on the terminal. Where parts are
+    read again, the part and the number of parts are 0."""
     text = b"".join(piece for _, piece in pieces)
     times = [when for when, piece in pieces for _ in piece]
     lines, left, is_shown, at = [], [], False, 0
@@ -82,7 +84,7 @@ def lines_of(pieces):
         found = PIECE.match(text, at)
         assert found, f"what is this: {text[at:at + 80]}"
         if found["line"]:
-            part, parts, number = (int(found[group]) for group in (2, 3, 4))
+            part, parts, number = (int(found[group] or 0) for group in (2, 3, 4))
             lines.append((times[at], (part, parts, number, found[5].decode())))
             is_shown = True
         elif found["removal"]:
@@ -179,6 +181,29 @@ def percents(folder):
     yield f"percents: {len(lines)} lines, {[line[2] for _, line in lines][:12]}"
 
 
+def again(folder):
+    """A file whose objects stay in it: 2,000 arrays of a megabyte each, which take no room on the disk. They are read once and again."""
+    with open(folder / "arrays", "wb") as arrays:
+        arrays.write(HEADER)
+        for number in range(1, 2001):
+            length, id_size = 1_000_000, int.from_bytes(HEADER[19:23], "big")
+            sub_record = b"\x23" + number.to_bytes(id_size, "big") + bytes(4) + length.to_bytes(4, "big") + b"\x08"
+            arrays.write(b"\x1c" + bytes(4) + (len(sub_record) + length).to_bytes(4, "big") + sub_record)
+            arrays.seek(length, os.SEEK_CUR)
+        arrays.truncate()
+    words = ["histo", "--memory", "1M", "arrays"]
+    pieces, _, status = on_terminal(words, folder)
+    lines, left = lines_of(pieces)
+    first, second = ([line for line in lines if (line[1][0] == 0) == is_again] for is_again in (False, True))
+    assert lines == first + second and len(first) >= 3 and len(second) >= 3, lines
+    check_lines(first, 1, ["%"])
+    numbers = [line[2] for _, line in second]
+    assert numbers == sorted(numbers) and numbers[-1] > 1000 and {line[3] for _, line in second} == {"MB"}, numbers
+    assert (left, b"", status) == quiet(words, folder) and status == 0, left
+    (folder / "arrays").unlink()
+    yield f"again: {len(first)} lines, and {len(second)} again"
+
+
 def refusals(folder):
     """A line is gone before a refusal: in the middle of a part, behind one that is cut, and of an output that is there."""
     (folder / "there").write_bytes(b"")
@@ -240,7 +265,7 @@ def silence(folder):
 
 
 def main():
-    cases = (reports, parts_of_three, percents, refusals, dialogue, silence)
+    cases = (reports, parts_of_three, percents, again, refusals, dialogue, silence)
     faults = 0
     for case in cases:
         with tempfile.TemporaryDirectory() as folder:

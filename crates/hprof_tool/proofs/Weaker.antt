@@ -55,7 +55,7 @@ module _ {R : Type 0} (left : R → Option (List ℕ)) (health : R → Health) (
     of_part = is.of_part;
   }
 
-  other_reads : (old new : List R) (ended : Option ToolFault) → Reads left health pulls Known limits old new ended
+  pub other_reads : (old new : List R) (ended : Option ToolFault) → Reads left health pulls Known limits old new ended
       → Reads left health pulls Other limits old new ended
   other_reads old new ended reads = record {
     no_parts = reads.no_parts;

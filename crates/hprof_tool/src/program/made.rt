@@ -24,7 +24,7 @@ use std::alloc::Global;
 use std::mem;
 
 /// Makes something of the parts of the readers, without the heap, which need not be freed row by row, since the process ends.
-fn make_of_heap<P: Product, R: Source, W: Target>(
+pub(crate) fn make_of_heap<P: Product, R: Source, W: Target>(
     alloc: Global,
     product: &P,
     readers: &mut [R],
@@ -106,7 +106,7 @@ fn join101_again<R: Source, H: ReadAt + Drop, S: Scratch + Drop, W: Target>(
 }
 
 /// Makes something of passes over the objects of the parts of the readers.
-fn make_again<M: PassProduct, R: Source, H: ReadAt + Drop, S: Scratch + Drop, W: Target>(
+pub(crate) fn make_again<M: PassProduct, R: Source, H: ReadAt + Drop, S: Scratch + Drop, W: Target>(
     alloc: Global,
     product: &M,
     readers: &mut [R],
@@ -149,10 +149,10 @@ pub(crate) trait Made {
     // What is made.
     ghost making: { Self → Making };
 
-    /// Returns whether the objects of the parts are read again, if they can be.
+    /// Returns whether the objects of the parts are gone through again, if they do not fit into the memory.
     fn reads_again(&self) -> bool;
 
-    /// Makes it of the parts of the readers. Their objects are read again with `again`, if they can be.
+    /// Makes it of the parts of the readers. Their objects are gone through again with `again`, if it is there.
     fn make<R: Source, H: ReadAt + Drop, S: Scratch + Drop, W: Target>(
         &self,
         alloc: Global,
