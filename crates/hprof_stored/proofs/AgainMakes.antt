@@ -1,5 +1,5 @@
 -- What a call answers that reads parts, and goes through their stored objects again to write something.
-use Rattle.std.proofs.Common.{◌≡◌, ℕ, List, [], length, map, take, Option, Some, None, Err, refl, sym, subst}
+use Rattle.std.proofs.Common.{◌≡◌, ℕ, List, [], length, map, Option, Some, None, Err, sym, subst}
 use Rattle.std.specs.Io.KnownBytes.{Appends}
 use Rattle.hprof_devices.specs.declared.health.Health.{Health}
 use Rattle.hprof_devices.specs.declared.health.Health.TheVariants.{Well}
@@ -69,7 +69,7 @@ module _ {R W S K : Type 0} {Keeps : K → List PartSummary → Type 0} {kept : 
 
   -- the objects were gone through, and more is known of their union
   module _ (Known : List ByteRow → Type 0)
-      (union : (again : List PartRead) → AreSame again → (rows : List ByteRow) × IsUnion (objects_of again) rows × Known rows)
+      (united : (again : List PartRead) → AreSame again → (rows : List ByteRow) × IsUnion (objects_of again) rows × Known rows)
       (behind : StandBehind) (whole : TellWhole) where
     record HaveRows (parts : List (List ℕ)) : Type 0 where
       pub same : AreSame (all_read holds.parts)
@@ -81,7 +81,7 @@ module _ {R W S K : Type 0} {Keeps : K → List PartSummary → Type 0} {kept : 
     have_rows : (parts : List (List ℕ)) → Tell left old parts → HaveRows parts
     have_rows parts tell =
         let same = as_read left stores scratch_health limits old told scratch stored objects holds finished can some parts tell in
-        let it = union (all_read holds.parts) same in
+        let it = united (all_read holds.parts) same in
         record {
           same = same;
           rows = it.0;

@@ -1,7 +1,6 @@
-use Rattle.std.proofs.Common.{List, Some, refl, sym, subst}
+use Rattle.std.proofs.Common.{Some, refl, sym, subst}
 use Rattle.std.specs.Prelude.{⊤}
 use Rattle.hprof_heap.specs.Heap.{heap_of}
-use Rattle.hprof_merge.specs.Rows.{ByteRow}
 use Rattle.hprof_engine.specs.declared.tool_fault.ToolFault.{ToolFault}
 use Rattle.hprof_engine.specs.Makes.{IsDumpText, Makes}
 use Rattle.hprof_stored.specs.Dumping.{dump_with}

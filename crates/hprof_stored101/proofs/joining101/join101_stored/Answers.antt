@@ -1,7 +1,6 @@
-use Rattle.std.proofs.Common.{◌≡◌, ◌≤◌, List, Some, arith, length, refl, sym, subst}
+use Rattle.std.proofs.Common.{◌≡◌, ◌≤◌, Some, arith, length, refl, sym, subst}
 use Rattle.hprof_items.specs.Spelling.{longest_body}
 use Rattle.hprof_heap.specs.Heap.{heap_of}
-use Rattle.hprof_merge.specs.Rows.{ByteRow}
 use Rattle.hprof_engine.specs.declared.product_refusal.ProductRefusal.TheVariants.{DumpTooLong}
 use Rattle.hprof_engine.specs.declared.tool_fault.ToolFault.{ToolFault}
 use Rattle.hprof_engine.specs.Joining101.{IsDump101Text, Refuses101}
