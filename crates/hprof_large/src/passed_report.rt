@@ -49,7 +49,7 @@ impl<'a> PassedReport<'a> {
 
     /// Returns the report.
     pub fn report(self) -> Report<'a>
-        ensures { result ≡ report_of self }
+        ensures { result ≡ report_of self.entry }
     {
         match self {
             PassedReport::Check => Report::Heap(HeapReport::Check),
