@@ -1,5 +1,5 @@
 -- What comparing the parts of two heaps tells.
-use Rattle.std.proofs.Common.{◌≡◌, inl, inr, ℕ, List, [], Option, Some, None, refl}
+use Rattle.std.proofs.Common.{inl, inr, ℕ, List, [], Option, Some, None, refl}
 use Rattle.std.specs.Prelude.{⊤}
 use Rattle.hprof_devices.specs.declared.health.Health.{Health}
 use Rattle.hprof_engine.specs.declared.tool_fault.ToolFault.{ToolFault}

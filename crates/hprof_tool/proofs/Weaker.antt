@@ -1,5 +1,5 @@
 -- What a call answers that makes something of parts, where less is said of memory and of what is read again.
-use Rattle.std.proofs.Common.{◌≡◌, inl, inr, ℕ, List, Option}
+use Rattle.std.proofs.Common.{inl, inr, ℕ, List, Option}
 use Rattle.hprof_devices.specs.declared.health.Health.{Health}
 use Rattle.hprof_items.specs.FactValue.{FactValue}
 use Rattle.hprof_stream.specs.declared.limits.Limits.{Limits}

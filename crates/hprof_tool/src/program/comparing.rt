@@ -2,7 +2,6 @@
 
 ghost use Rattle.std.specs.Prelude.{◌≡◌, ℕ, List, ⊤, All, IfOk, IfErr, IfSome};
 ghost use Rattle.hprof_devices.specs.declared.health.Health.TheVariants.{Well};
-ghost use Rattle.hprof_engine.specs.declared.tool_fault.ToolFault.{ToolFault};
 ghost use Rattle.hprof_engine.specs.Joining.{Tell, fault_of};
 ghost use Rattle.hprof_engine.specs.Makes.{WritesAll};
 ghost use Rattle.hprof_stored.specs.Storing.{HaveObject};
