@@ -4,7 +4,6 @@ use Rattle.std.specs.Prelude.{codes, option_map}
 use Rattle.clap.specs.Words.{found_of, rows_of}
 use Rattle.clap.proofs.WalkLemmas.{first_value-rows}
 use Rattle.hprof_tool.specs.Commands.{IsMemory, IsNoSize, memory_in}
-use Rattle.hprof_tool.specs.declared.command.Misunderstood.TheVariants.{NoSize}
 use Rattle.hprof_tool.proofs.command.memory_of.Goals as goal
 
 abbrev text_of : Option (Bor (List ℕ)) → Option (List ℕ)
