@@ -62,7 +62,8 @@ fn handles_of<F: Folder>(
 {
     let mut handles = Vec::new(alloc);
     for part in parts {
-        handles.push(files.handle(part)?)?;
+        let handle = files.handle(part)?;
+        handles.push(handle)?;
     }
     Ok(handles)
 }

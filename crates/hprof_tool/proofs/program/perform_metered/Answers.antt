@@ -8,4 +8,4 @@ perform-ended-requires-clause-folder g c = may_do _ (Unit {0}) c.args.task
 
 pub perform-ended-requires-clause-again : goal.perform-ended-requires-clause-again
 perform-ended-requires-clause-again g c =
-    once_ready _ _ _ _ _ refl c.again_once.result c.again_once.ensures.nothing c.again_once.ensures.well
+    once_ready _ _ _ _ _ refl c.again_once-again.result c.again_once-again.ensures.nothing c.again_once-again.ensures.well
