@@ -24,7 +24,7 @@ ghost use Rattle.hprof_tool.specs.Words.{is_new_file};
 use crate::command::{Asked, Misunderstood, NewFile, OutName, Task, asked_of};
 use crate::status::Status;
 use crate::storage::Storage;
-use again::{Again, again_once};
+use again::{Again, with_again};
 use answers::{
     Ended, EndedFile, answer_misnamed, answer_no_command, answer_no_size, answer_no_words,
     answer_stream, answer_words, refuse,
@@ -419,10 +419,10 @@ where
         meter: &meter,
         writer,
     });
-    let again = again_once(alloc, &files);
     let input = StandardInput {
         device: Device::new(input),
     };
+    let (input, again) = with_again(alloc, &files, input);
     let (ended, _) = perform(
         alloc,
         &files,

@@ -1,11 +1,12 @@
 //! What is needed to read the objects of parts again.
 
-ghost use Rattle.std.specs.Prelude.{◌≡◌, IfOk, IfSome};
+ghost use Rattle.std.specs.Prelude.{◌≡◌, [], ◌∷◌, None, IfOk, IfSome};
 ghost use Rattle.hprof_devices.specs.declared.health.Health.TheVariants.{Well};
 ghost use Rattle.hprof_runs.specs.ReadBack.{HoldsNothing};
 ghost use Rattle.hprof_tool.specs.Again.{AreHandles, IsReadyFor};
 
 use crate::program::folder::Folder;
+use hprof_devices::Source;
 use hprof_handles::ReadAt;
 use hprof_objects::Keeping;
 use std::alloc::{AllocError, Global};
@@ -38,7 +39,7 @@ impl ReadAt for ReadOnce {
 }
 
 /// Returns what is needed to go through the objects of a part that is read once. `None` is for want of memory.
-pub(crate) fn again_once<F: Folder>(alloc: Global, files: &F) -> Option<Again<ReadOnce, F::Scratch>>
+fn again_once<F: Folder>(alloc: Global, files: &F) -> Option<Again<ReadOnce, F::Scratch>>
     ensures nothing { IfSome result (λ again. HoldsNothing (F.Scratch.written again.scratch)) }
     ensures well { IfSome result (λ again. F.Scratch.health again.scratch ≡ Well) }
 {
@@ -50,6 +51,21 @@ pub(crate) fn again_once<F: Folder>(alloc: Global, files: &F) -> Option<Again<Re
         scratch,
         keeping: files.keeping_once(),
     })
+}
+
+/// Returns a part that is read once, and what is needed to go through its objects again, unless there is no memory for it.
+pub(crate) fn with_again<F: Folder, R: Source>(
+    alloc: Global,
+    files: &F,
+    part: R,
+) -> (R, Option<Again<ReadOnce, F::Scratch>>)
+    requires untold { R.left part ≡ None }
+    requires well { R.health part ≡ Well }
+    ensures same { result.0 ≡ part }
+    ensures well { R.health result.0 ≡ Well }
+    ensures ready { IfSome result.1 (IsReadyFor R.left (λ _. None) F.Scratch.written F.Scratch.health (result.0 ∷ [])) }
+{
+    (part, again_once(alloc, files))
 }
 
 /// Returns what reads each part at offsets.
