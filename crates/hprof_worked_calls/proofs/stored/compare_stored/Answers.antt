@@ -1,4 +1,4 @@
-use Rattle.std.proofs.Common.{ℕ, List, [], Option, None, refl}
+use Rattle.std.proofs.Common.{ℕ, List, [], None, refl}
 use Rattle.std.specs.Prelude.{IsSome}
 use Rattle.hprof_stored.proofs.Untold.{untold_again}
 use Rattle.hprof_worked_calls.proofs.stored.compare_stored.Goals as goal
