@@ -89,8 +89,20 @@ class Bash(Folder):
         self.assertEqual(self.replies("--"), ["--help", "--version"])
 
     def test_options_of_commands(self):
-        for reply in self.all_replies([(command, "-") for command in sorted(COMMANDS)]):
-            self.assertEqual(reply, ["-h", "--help"])
+        names, sized = sorted(COMMANDS), completions.sized()
+        for name, reply in zip(names, self.all_replies([(name, "-") for name in names])):
+            self.assertEqual(reply, ["-h", "--help", "--memory"] if name in sized else ["-h", "--help"], name)
+
+    def test_a_size_is_no_argument(self):
+        self.assertEqual(self.replies("check", "--m"), ["--memory"])
+        self.assertEqual(self.replies("threads", "--m"), [])
+        for begun in (("--memory", ""), ("--memory", "5"), ("--memory", "="), ("--memory", "=", ""), ("--memory=",), ("--memory=5",)):
+            self.assertEqual(self.replies("check", *begun), [], begun)
+        for size in (("--memory", "1M"), ("--memory", "=", "1M"), ("--memory=1M",)):
+            self.assertEqual(self.replies("objects", *size, "b"), ["boolean[]", "byte[]"], size)
+            self.assertEqual(self.replies("objects", "byte[]", *size, "f"), ["friday.hprof"], size)
+            self.assertEqual(self.replies("join", *size, ""), ["dumps"], size)
+            self.assertEqual(self.replies("diff", "a", *size, "b", ""), [], size)
 
     def test_help_takes_a_command(self):
         self.assertEqual(set(self.replies("help", "")), COMMANDS)
@@ -142,6 +154,15 @@ class Fish(Folder):
         for line in ("hprof check f", "hprof why 1 f", "hprof objects byte[] f", "hprof diff f", "hprof diff a f", "hprof join a f"):
             self.assertIn("friday.hprof", self.replies(line), line)
         self.assertEqual(self.replies("hprof diff a b "), set())
+
+    def test_a_size_is_no_argument(self):
+        self.assertEqual(self.replies("hprof check --m"), {"--memory"})
+        self.assertEqual(self.replies("hprof threads --m"), set())
+        for size in ("--memory 1M", "--memory=1M"):
+            self.assertEqual(self.replies(f"hprof objects {size} "), TYPES, size)
+            self.assertIn("friday.hprof", self.replies(f"hprof objects byte[] {size} f"), size)
+            self.assertEqual(self.replies(f"hprof join {size} "), {"dumps/"}, size)
+            self.assertEqual(self.replies(f"hprof diff a {size} b "), set(), size)
 
 
 @unittest.skipUnless(which("zsh"), "no zsh")
@@ -200,6 +221,12 @@ class Zsh(Folder):
             "hprof join out f": "hprof join out friday.hprof ",
             "hprof diff a f": "hprof diff a friday.hprof ",
             "hprof diff a b f": "hprof diff a b f",
+            "hprof check --m": "hprof check --memory=",
+            "hprof threads --m": "hprof threads --m",
+            "hprof check --memory f": "hprof check --memory f",
+            "hprof objects --memory 1M by": "hprof objects --memory 1M byte\\[\\] ",
+            "hprof join --memory=1M out f": "hprof join --memory=1M out friday.hprof ",
+            "hprof join out --memory 1M f": "hprof join out --memory 1M friday.hprof ",
         }
         self.assertEqual(dict(zip(lines, self.completed(list(lines)))), lines)
 
@@ -230,6 +257,12 @@ class Words(unittest.TestCase):
         for name in ("_hprof", "hprof.fish"):
             lines = self.faults(name, "by retained size'", "by size'")
             self.assertEqual({line.split(":")[1] for line in lines}, {" biggest", " retained"}, name)
+
+    def test_commands_with_the_option_for_the_memory(self):
+        self.assertEqual(completions.sized(), {"check", "histo", "classes", "objects", "diff", "join", "join101"})
+        for name in ("hprof.bash", "_hprof", "hprof.fish"):
+            faults = self.faults(name, "join join101 check histo", "join check path histo")
+            self.assertEqual(faults, [f"{name}: join101 with --memory", f"{name}: path with --memory"])
 
     def test_types_and_options(self):
         for name in ("hprof.bash", "_hprof", "hprof.fish"):

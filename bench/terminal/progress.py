@@ -22,7 +22,8 @@ ROOT = Path(__file__).resolve().parent.parent.parent
 PROGRAM = Path(sys.argv[1] if len(sys.argv) > 1 else ROOT / "crates" / "hprof" / "out" / "hprof").resolve()
 FRIDAY, MONDAY = ((ROOT / "crates" / "hprof" / "data" / f"{day}.hprof").read_bytes() for day in ("friday", "monday"))
 HEADER = FRIDAY[:31]
-PIECE = re.compile(rb"\r(?P<line>reading part (\d+) of (\d+): (\d+) (%|MB))\x1b\[K|(?P<removal>\r\x1b\[K)|(?P<text>[^\r\x1b]+|\r\n)")
+LINE = rb"(?P<line>reading (?:part (\d+) of (\d+)|again): (\d+) (%|MB))"
+PIECE = re.compile(rb"\r" + LINE + rb"\x1b\[K|(?P<removal>\r\x1b\[K)|(?P<text>[^\r\x1b]+|\r\n)")
 
 
 def passed_over(length):
@@ -74,7 +75,8 @@ def on_terminal(words, folder, typed=None, own=("stdout", "stderr")):
 
 
 def lines_of(pieces):
-    """The lines of progress, each as (part, parts, number, unit) with its time, and all else that is left on the terminal."""
+    """The lines of progress, each as (part, parts, number, unit) with its time, and all else that is left on the terminal. Where parts are
+    read again, the part and the number of parts are 0."""
     text = b"".join(piece for _, piece in pieces)
     times = [when for when, piece in pieces for _ in piece]
     lines, left, is_shown, at = [], [], False, 0
@@ -82,7 +84,7 @@ def lines_of(pieces):
         found = PIECE.match(text, at)
         assert found, f"what is this: {text[at:at + 80]}"
         if found["line"]:
-            part, parts, number = (int(found[group]) for group in (2, 3, 4))
+            part, parts, number = (int(found[group] or 0) for group in (2, 3, 4))
             lines.append((times[at], (part, parts, number, found[5].decode())))
             is_shown = True
         elif found["removal"]:
@@ -179,11 +181,33 @@ def percents(folder):
     yield f"percents: {len(lines)} lines, {[line[2] for _, line in lines][:12]}"
 
 
+def again(folder):
+    """A file of 1.5 GB whose objects stay in it, since they are small and ascend. They are read once and again."""
+    length, id_size = 1_000, int.from_bytes(HEADER[19:23], "big")
+    with open(folder / "arrays", "wb") as arrays:
+        arrays.write(HEADER)
+        for first in range(1, 1_500_001, 10_000):
+            ids = (number.to_bytes(id_size, "big") for number in range(first, first + 10_000))
+            segment = b"".join(b"\x23" + name + bytes(4) + length.to_bytes(4, "big") + b"\x08" + bytes(length) for name in ids)
+            arrays.write(b"\x1c" + bytes(4) + len(segment).to_bytes(4, "big") + segment)
+    words = ["histo", "--memory", "64M", "arrays"]
+    pieces, _, status = on_terminal(words, folder)
+    lines, left = lines_of(pieces)
+    first, second = ([line for line in lines if (line[1][0] == 0) == is_again] for is_again in (False, True))
+    assert lines == first + second and len(first) >= 3 and len(second) >= 3, (len(first), len(second))
+    check_lines(first, 1, ["%"])
+    numbers = [line[2] for _, line in second]
+    assert numbers == sorted(numbers) and numbers[-1] > 700 and {line[3] for _, line in second} == {"MB"}, numbers
+    assert (left, b"", status) == quiet(words, folder) and status == 0, left
+    (folder / "arrays").unlink()
+    yield f"again: {len(first)} lines, and {len(second)} again"
+
+
 def refusals(folder):
     """A line is gone before a refusal: in the middle of a part, behind one that is cut, and of an output that is there."""
     (folder / "there").write_bytes(b"")
     bad = FRIDAY + b"\x02\0\0\0\0\0\0\0\1" + FRIDAY[31:]
-    cases = [(["check"], [FRIDAY, bad], b"hprof: part 1: malformed at 5640: "), (["histo"], [FRIDAY[:5000]], b"hprof: part 0: malformed at 4982: ")]
+    cases = [(["check"], [FRIDAY, bad], b"hprof: part 1: malformed at 8081: "), (["histo"], [FRIDAY[:5000]], b"hprof: part 0: malformed at 4974: ")]
     cases += [(["join", "out"], [MONDAY, FRIDAY], b"hprof: conflict at load 1\n"), (["object", "1x"], [], b"hprof: not an identifier\n")]
     cases += [(["join", "there"], [FRIDAY], b"hprof: cannot create the output\n"), (["diff"], [FRIDAY, FRIDAY[:4000]], b"hprof: part 1: malformed at ")]
     for words, parts, told in cases:
@@ -240,7 +264,7 @@ def silence(folder):
 
 
 def main():
-    cases = (reports, parts_of_three, percents, refusals, dialogue, silence)
+    cases = (reports, parts_of_three, percents, again, refusals, dialogue, silence)
     faults = 0
     for case in cases:
         with tempfile.TemporaryDirectory() as folder:

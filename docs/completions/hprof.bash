@@ -24,6 +24,16 @@ _hprof_has() {
     [[ " $1 " == *" $2 "* ]]
 }
 
+# Counts the words before the one at the cursor, without --memory and its size. A shell may make three words of --memory=SIZE.
+_hprof_place() {
+    local word last
+    place=0
+    for word in "${COMP_WORDS[@]:1:COMP_CWORD-1}"; do
+        [[ $word == --memory* || $word == = || $last == --memory || $last == = ]] || place=$((place + 1))
+        last=$word
+    done
+}
+
 _hprof() {
     # By what a command takes before dumps: a new file, nothing, a class or a type, a class or an object. diff takes two dumps.
     local outs='join join101 salvage'
@@ -31,11 +41,19 @@ _hprof() {
     local kinds='biggest objects'
     local nodes='show why who keeps text object refs path'
     local pairs='diff'
+    # The commands that take --memory SIZE.
+    local sized='join join101 check histo classes objects diff'
     local commands="$outs $heaps $kinds $pairs $nodes"
-    local command=${COMP_WORDS[1]} place=$((COMP_CWORD - 1))
+    local command=${COMP_WORDS[1]} before=${COMP_WORDS[COMP_CWORD - 1]} place
+    _hprof_place
     COMPREPLY=()
     if ((place == 0)); then
         _hprof_words "$commands help -h --help -V --version"
+    elif [[ $before == --memory || $before == = || ${COMP_WORDS[COMP_CWORD]} == = ]]; then
+        # A size has to be typed.
+        COMPREPLY=()
+    elif [[ ${COMP_WORDS[COMP_CWORD]} == -* ]] && _hprof_has "$sized" "$command"; then
+        _hprof_words '-h --help --memory'
     elif [[ ${COMP_WORDS[COMP_CWORD]} == -* ]]; then
         _hprof_words '-h --help'
     elif ((place == 1)) && [[ $command == help ]]; then

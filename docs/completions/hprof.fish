@@ -1,14 +1,25 @@
 # Completions of hprof for fish. ./install puts this file where fish finds it; `source` reads it from anywhere.
 
+# The words before the one at the cursor, without --memory and its size.
+function __hprof_words
+    set -l last
+    for word in (commandline -opc)
+        if not string match -q -- '--memory*' $word; and test "$last" != --memory
+            echo $word
+        end
+        set last $word
+    end
+end
+
 # Whether the word at the cursor is the argument at a place behind one of some commands. The first place is 1.
 function __hprof_at
-    set -l words (commandline -opc)
+    set -l words (__hprof_words)
     test (count $words) -eq (math $argv[1] + 1); and contains -- $words[2] $argv[2..-1]
 end
 
 # The same of the arguments from a place on.
 function __hprof_from
-    set -l words (commandline -opc)
+    set -l words (__hprof_words)
     test (count $words) -gt $argv[1]; and contains -- $words[2] $argv[2..-1]
 end
 
@@ -18,6 +29,8 @@ set -l heaps check histo classes threads suspects retained ask
 set -l kinds biggest objects
 set -l nodes show why who keeps text object refs path
 set -l pairs diff
+# The commands that take --memory SIZE.
+set -l sized join join101 check histo classes objects diff
 
 complete -c hprof -f
 complete -c hprof -s h -l help -d 'Print the help'
@@ -44,6 +57,7 @@ complete -c hprof -n __fish_use_subcommand -a refs -d 'Prints each reference to 
 complete -c hprof -n __fish_use_subcommand -a path -d 'Prints the shortest path from a GC root to a class or an object'
 complete -c hprof -n __fish_use_subcommand -a ask -d 'Reads the parts once, and answers questions on standard input'
 complete -c hprof -n __fish_use_subcommand -a help -d 'Prints the help of a command'
+complete -c hprof -n "__fish_seen_subcommand_from $sized" -l memory -x -d 'The memory that objects may take, as 512M'
 complete -c hprof -n '__hprof_at 1 help' -a "$outs $heaps $kinds $pairs $nodes"
 complete -c hprof -n "__hprof_at 1 $outs" -a '(__fish_complete_directories)'
 complete -c hprof -n "__hprof_at 1 $kinds" -d Type -a "'boolean[]' 'char[]' 'float[]' 'double[]' 'byte[]' 'short[]' 'int[]' 'long[]'"

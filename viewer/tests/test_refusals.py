@@ -31,7 +31,7 @@ class Table(unittest.TestCase):
             yield text.replace("at N", "at 4982"), cause, help
 
     def test_advice_is_that_of_readme(self):
-        never_met = {"cannot create the output", "not an identifier", "no class has this name", "dump too long"}
+        never_met = {"cannot create the output", "not an identifier", "not a size", "no class has this name", "dump too long"}
         rows = {text: (cause, help) for text, cause, help in self.rows()}
         self.assertLess(never_met, set(rows))
         self.assertEqual(len(rows) - len(never_met), len(ADVICE))

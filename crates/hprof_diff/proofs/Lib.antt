@@ -2,3 +2,4 @@ pub mod NextChange
 pub mod Sums
 pub mod Keeping
 pub mod OfHeap
+pub mod Counting

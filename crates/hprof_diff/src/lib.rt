@@ -19,5 +19,5 @@ pub use change::{Change, Step};
 pub use differences::difference;
 pub use fault::DiffFault;
 pub use label_counts::LabelCounts;
-pub use parts::{GrowthReport, count_parts, diff_to};
+pub use parts::{GrowthReport, count_parts, count_stored, diff_to};
 pub use report::{write_difference, write_growth_over};

@@ -1,10 +1,13 @@
 //! The report `diff` on the parts of two heaps.
 
-ghost use Rattle.std.specs.Prelude.{◌≡◌, ℕ, List, All, IfOk};
+ghost use Rattle.std.specs.Prelude.{◌≡◌, ℕ, List, All, IfOk, ⊤};
 ghost use Rattle.hprof_devices.specs.declared.health.Health.TheVariants.{Well};
 ghost use Rattle.hprof_diff.specs.Kept.{totals_in};
-ghost use Rattle.hprof_engine.specs.Joining.{Tell, fault_of};
+ghost use Rattle.hprof_engine.specs.Joining.{Tell, fault_of, none_known};
 ghost use Rattle.hprof_engine.specs.Makes.{WritesAll};
+ghost use Rattle.hprof_runs.specs.ReadBack.{HoldsNothing};
+ghost use Rattle.hprof_stored.specs.StoredMaking.{CanBeReadAgain};
+ghost use Rattle.hprof_stored.specs.Storing.{HaveObject};
 ghost use Rattle.hprof_diff.specs.Comparing.{Counts, EndsDifference};
 ghost use Rattle.hprof_diff.specs.DifferenceText.{AreTotalsOf, IsDifferenceOf};
 
@@ -15,7 +18,12 @@ use hprof_devices::{Source, Target};
 use hprof_engine::{HeapProduct, NoSummaries, ToolFault, WriteStop, read_heap, write_to};
 use hprof_heap::{Gatherer, Heap};
 use hprof_making::PassProduct;
+use hprof_objects::Keeping;
+use hprof_parts::Parts;
 use hprof_passes::{Objects, PassStop};
+use hprof_runs::Scratch;
+use hprof_stored::laws::stored_objects_are_those_of_the_parts;
+use hprof_stored::{InParts, StoredHeap, read_stored};
 use hprof_stream::Limits;
 use std::alloc::Global;
 
@@ -79,7 +87,7 @@ pub fn count_parts<R: Source>(
     limits: Limits,
 ) -> Result<LabelCounts, ToolFault>
     requires { All (λ reader. R.health reader ≡ Well) readers.old }
-    ensures counts { Counts R.left R.health R.pulls limits readers.old readers.new (fault_of result) }
+    ensures counts { Counts R.left R.health R.pulls none_known ⊥ limits readers.old readers.new (fault_of result) }
     ensures totals { IfOk result (λ counts. (parts : List (List ℕ)) → Tell R.left readers.old parts
         → AreTotalsOf parts (totals_in counts)) }
 {
@@ -91,6 +99,59 @@ pub fn count_parts<R: Source>(
     match LabelCounts::of(alloc, &heap) {
         Ok(counts) => Ok(counts),
         Err(_) => Err(ToolFault::OutOfMemory),
+    }
+}
+
+/// Reads all parts, and counts the objects of their heap by label. Objects stay in the parts or go to scratch, as `keeping` says, and are
+/// read again to be counted: `parts` opens the same parts as the readers.
+///
+/// # Errors
+///
+/// The first of these that applies is the fault.
+///
+/// - `Part`, `NoParts`, `IdSizes`: a part was refused, there are no parts, or they have two sizes of identifiers.
+/// - `Conflict`: two facts have one key and different contents. This is the least such key.
+/// - `Lost`: the objects cannot be read again, or the scratch failed.
+/// - `OutOfMemory`: memory ran out, but not while a part was read.
+pub fn count_stored<R: Source, S: Scratch + Drop, P: Parts>(
+    alloc: Global,
+    readers: &mut [R],
+    parts: &P,
+    limits: Limits,
+    keeping: Keeping,
+    scratch: S,
+) -> Result<LabelCounts, ToolFault>
+    requires readers { All (λ reader. R.health reader ≡ Well) readers.old }
+    requires nothing { HoldsNothing (S.written scratch) }
+    requires well { S.health scratch ≡ Well }
+    requires again { CanBeReadAgain R.left readers.old (P.bytes parts.now) (S.written scratch) }
+    ensures counts { Counts R.left R.health R.pulls HaveObject ⊤ limits readers.old readers.new (fault_of result) }
+    ensures totals { IfOk result (λ counts. (parts : List (List ℕ)) → Tell R.left readers.old parts
+        → AreTotalsOf parts (totals_in counts)) }
+{
+    if readers.is_empty() {
+        return Err(ToolFault::NoParts);
+    }
+    stored_objects_are_those_of_the_parts::<R, S, P>();
+    let stored = match read_stored(
+        alloc,
+        readers,
+        limits,
+        keeping,
+        scratch,
+        &NoSummaries,
+        &mut (),
+    ) {
+        Ok(stored) => stored,
+        Err(fault) => return Err(ToolFault::from(fault)),
+    };
+    let StoredHeap { heap, objects } = stored;
+    let objects = objects.finish();
+    let objects = InParts::new(&objects, parts, limits);
+    match LabelCounts::over(alloc, &heap, &objects) {
+        Ok(counts) => Ok(counts),
+        Err(PassStop::Sink(_)) => Err(ToolFault::OutOfMemory),
+        Err(PassStop::Lost(fault)) => Err(ToolFault::from(fault)),
     }
 }
 

@@ -1,7 +1,6 @@
 -- Reports that are made of passes over objects.
 use Rattle.hprof_ask.specs.declared.report.HeapReport.TheVariants as heaps
 use Rattle.hprof_ask.specs.declared.report.KindReport.TheVariants as kinds
-use Rattle.hprof_ask.specs.declared.report.Kinds.TheVariants as these
 use Rattle.hprof_ask.specs.declared.report.Report.{Report}
 use Rattle.hprof_ask.specs.declared.report.Report.TheVariants as reports
 use Rattle.hprof_large.specs.declared.passed_report.PassedReport.{PassedReport}
@@ -12,4 +11,4 @@ abbrev pub report_of : PassedReport → Report
 report_of passed.Check = reports.Heap heaps.Check
 report_of passed.Histogram = reports.Heap heaps.Histogram
 report_of passed.Classes = reports.Heap heaps.Classes
-report_of (passed.Objects kind) = reports.Kind kinds.Objects (these.Of kind)
+report_of (passed.Objects these) = reports.Kind kinds.Objects these

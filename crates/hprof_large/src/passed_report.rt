@@ -3,66 +3,65 @@
 ghost use Rattle.std.specs.Prelude.{◌≡◌, ℕ, List};
 
 use crate::checked::write_check;
+use crate::named::write_objects;
 use hprof_ask::{HeapReport, KindReport, Kinds, Report};
 use hprof_devices::Target;
 use hprof_engine::{Summaries, WriteStop};
 use hprof_heap::Heap;
-use hprof_histogram::Kind;
 use hprof_making::PassProduct;
 use hprof_passes::{Objects, PassStop};
-use hprof_reports::{write_classes_over, write_histogram_over, write_objects_over};
+use hprof_reports::{write_classes_over, write_histogram_over};
 use hprof_stream::PartSummary;
 use std::alloc::{AllocError, Global};
 
 /// A report that needs every object, and goes through all of them, wherever they are.
 #[derive(Clone, Copy, Debug, PartialEq, Eq)]
-pub enum PassedReport {
+pub enum PassedReport<'a> {
     /// `check`: a summary of each part, and the numbers of facts.
     Check,
     /// `histo`: the class histogram.
     Histogram,
     /// `classes`: each class dump, with the objects of the class.
     Classes,
-    /// `objects`: the objects of a class or a type, the largest first.
-    Objects(Kind),
+    /// `objects`: the objects of a class or a type, or of all classes that a name means, the largest first.
+    Objects(Kinds<'a>),
 }
 
-impl PassedReport {
+impl<'a> PassedReport<'a> {
     ghost use Rattle.std.specs.Prelude.{MatchOption, ◌≢◌};
     ghost use Rattle.hprof_large.specs.PassedReport.{report_of};
     ghost use Rattle.hprof_large.specs.declared.passed_report.PassedReport.{PassedReport};
 
     /// Returns the report as one that is made of passes, or `None` if it is not.
-    pub fn of(report: Report<'_>) -> Option<PassedReport>
+    pub fn of(report: Report<'a>) -> Option<PassedReport<'a>>
         ensures { MatchOption result ((passed : PassedReport) → report_of passed ≢ report.entry) (λ passed. report_of passed ≡ report.entry) }
     {
         match report {
             Report::Heap(HeapReport::Check) => Some(PassedReport::Check),
             Report::Heap(HeapReport::Histogram) => Some(PassedReport::Histogram),
             Report::Heap(HeapReport::Classes) => Some(PassedReport::Classes),
-            Report::Kind(KindReport::Objects, Kinds::Of(kind)) => Some(PassedReport::Objects(kind)),
+            Report::Kind(KindReport::Objects, kinds) => Some(PassedReport::Objects(kinds)),
             Report::Heap(HeapReport::Threads | HeapReport::Suspects | HeapReport::Retained)
-            | Report::Kind(KindReport::Objects, Kinds::Named(_))
             | Report::Kind(KindReport::Biggest, _)
             | Report::Node(_, _) => None,
         }
     }
 
     /// Returns the report.
-    pub fn report(self) -> Report<'static>
-        ensures { result ≡ report_of self }
+    pub fn report(self) -> Report<'a>
+        ensures { result ≡ report_of self.entry }
     {
         match self {
             PassedReport::Check => Report::Heap(HeapReport::Check),
             PassedReport::Histogram => Report::Heap(HeapReport::Histogram),
             PassedReport::Classes => Report::Heap(HeapReport::Classes),
-            PassedReport::Objects(kind) => Report::Kind(KindReport::Objects, Kinds::Of(kind)),
+            PassedReport::Objects(kinds) => Report::Kind(KindReport::Objects, kinds),
         }
     }
 }
 
 /// It wants the summaries that the report wants.
-impl Summaries for PassedReport {
+impl Summaries for PassedReport<'_> {
     ghost use Rattle.hprof_ask.specs.Report.{TakesRoom};
     ghost use Rattle.hprof_ask.specs.Summarised.{HasRoom, Holds, no_room_for_none};
     ghost use Rattle.hprof_large.specs.PassedReport.{report_of};
@@ -86,7 +85,7 @@ impl Summaries for PassedReport {
     ghost no_room = { λ passed. no_room_for_none (report_of passed) };
 }
 
-impl PassProduct for PassedReport {
+impl PassProduct for PassedReport<'_> {
     ghost use Rattle.hprof_ask.specs.Report.{IsReportText, RefusesReport};
     ghost use Rattle.hprof_large.specs.PassedReport.{report_of};
 
@@ -106,7 +105,7 @@ impl PassProduct for PassedReport {
             PassedReport::Check => write_check(alloc, kept, heap, objects, target),
             PassedReport::Histogram => write_histogram_over(alloc, heap, objects, target),
             PassedReport::Classes => write_classes_over(alloc, heap, objects, target),
-            PassedReport::Objects(kind) => write_objects_over(alloc, heap, objects, kind, target),
+            PassedReport::Objects(kinds) => write_objects(alloc, heap, objects, kinds, target),
         }
     }
 }

@@ -1,4 +1,4 @@
-mod StoredOf
-mod Made
-mod OfParts
+pub mod StoredOf
+pub mod Made
+pub mod OfParts
 pub mod Passed

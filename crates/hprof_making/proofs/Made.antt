@@ -38,7 +38,8 @@ module _ (heap : HeapValue) (MakeUp : List FactValue → Type 0) (agreed : Type 
     pub contents : (id : ℕ) → Tells (faults.TwoContents id) → Disagree told (keys.Object id)
     pub same : (fault : PassFault) → Tells fault → IsOfSame fault
 
-  of_loss : AreOfParts → (fault : PassFault) → Tells fault → IsOfLoss told fault
+  -- what a fault says of the parts
+  pub of_loss : AreOfParts → (fault : PassFault) → Tells fault → IsOfLoss told fault
   of_loss are (faults.TwoContents id) tells = are.contents id tells
   of_loss are faults.TooMany tells = are.same faults.TooMany tells
   of_loss are faults.OutOfMemory tells = tt

@@ -93,8 +93,9 @@ fn sort_classes(classes: &mut Vec<u64>)
 
 /// Returns the identifiers of all classes, ascending, each once: those of class dumps, of loads, and of the kinds that rows count.
 fn classes_of(alloc: Global, heap: &Heap, rows: &[Row]) -> Result<Vec<u64>, AllocError>
-    ensures { (all : List FactValue) → IsWhole (size_of heap.now) (facts_of heap.now) all → IsHistogram (size_of heap.now) all rows.now
+    ensures all { (all : List FactValue) → IsWhole (size_of heap.now) (facts_of heap.now) all → IsHistogram (size_of heap.now) all rows.now
         → IfOk result (λ classes. AreAll (IsClass all) classes.items) }
+    ensures ascend { IfOk result (λ classes. IsStrictlyIncreasing classes.items) }
 {
     let mut classes = Vec::new(alloc);
     push_of_rows(&mut classes, rows)?;
@@ -111,9 +112,10 @@ pub(crate) fn all_classes<O: Objects>(
     heap: &Heap,
     objects: &O,
 ) -> Result<Vec<u64>, PassStop<AllocError, O::Fault>>
-    ensures { Finds (O.make_up objects.now (size_of heap.now) (facts_of heap.now))
+    ensures all { Finds (O.make_up objects.now (size_of heap.now) (facts_of heap.now))
         (O.agree objects.now (size_of heap.now) (facts_of heap.now))
         (O.tells objects.now (size_of heap.now) (facts_of heap.now)) (λ all classes. AreAll (IsClass all) classes.items) result }
+    ensures ascend { IfOk result (λ classes. IsStrictlyIncreasing classes.items) }
 {
     let rows = match histogram_over(alloc, heap, objects) {
         Ok(rows) => rows,

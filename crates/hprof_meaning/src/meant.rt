@@ -1,6 +1,7 @@
 //! The classes that a word means.
 
 ghost use Rattle.std.specs.Prelude.{ℕ, IfOk, List};
+ghost use Rattle.std.specs.List.Sorted.{IsStrictlyIncreasing};
 ghost use Rattle.hprof_heap.specs.HeapFacts.{facts_of, size_of};
 ghost use Rattle.hprof_passes.specs.Finding.{Finds};
 ghost use Rattle.hprof_naming.specs.ClassNames.{AreClassNames};
@@ -31,9 +32,10 @@ pub fn classes_meant_over<O: Objects>(
     meant: &MeantLabel<'_>,
 ) -> Result<Vec<u64>, PassStop<AllocError, O::Fault>>
     requires { AreClassNames (facts_of heap.now) names.now }
-    ensures { (word : List ℕ) → IsMeantBy word meant.now
+    ensures meant { (word : List ℕ) → IsMeantBy word meant.now
         → Finds (O.make_up objects.now (size_of heap.now) (facts_of heap.now)) (O.agree objects.now (size_of heap.now) (facts_of heap.now))
         (O.tells objects.now (size_of heap.now) (facts_of heap.now)) (λ all classes. AreMeantClasses all word classes.items) result }
+    ensures ascend { (word : List ℕ) → IsMeantBy word meant.now → IfOk result (λ classes. IsStrictlyIncreasing classes.items) }
 {
     holds_of_heap(heap);
     let classes = match all_classes(alloc, heap, objects) {

@@ -1,11 +1,10 @@
 -- What reading answers, by how it ended.
-use Rattle.std.proofs.Common.{◌≡◌, ◌≤◌, ◌⊎◌, ℕ, true, List, [], ◌∷◌, length, take, map, Option, Some, None, Result, Ok, Err, inl, inr}
+use Rattle.std.proofs.Common.{◌≡◌, ◌≤◌, ◌⊎◌, ℕ, List, [], ◌∷◌, length, take, map, Option, Some, None, Result, Ok, Err, inl, inr}
 use Rattle.std.proofs.Common.{refl, sym}
 use Rattle.std.proofs.Common.{subst}
 use Rattle.std.specs.Prelude.{slice_get}
 use Rattle.std.specs.List.{All}
 use Rattle.std.specs.Result.{IsErrAnd}
-use Rattle.std.specs.Io.KnownBytes.{Consumes}
 use Rattle.std.proofs.Math.Seq.{take-length}
 use Rattle.hprof_values.specs.declared.ids.IdSize.{IdSize}
 use Rattle.hprof_items.specs.FactValue.{FactValue}
@@ -15,14 +14,12 @@ use Rattle.hprof_devices.specs.declared.health.Health.TheVariants as healths
 use Rattle.hprof_devices.specs.declared.target.Target.{Ghosts}
 use Rattle.hprof_stream.specs.declared.limits.Limits.{Limits}
 use Rattle.hprof_stream.specs.declared.part_fault.PartFault.{PartFault}
-use Rattle.hprof_stream.specs.declared.part_fault.PartFault.TheVariants as faults
-use Rattle.hprof_stream.specs.declared.sink.SinkFault.TheVariants as sinks
 use Rattle.hprof_rows.specs.declared.key.Key.{Key}
 use Rattle.hprof_rows.specs.HeapValue.{HeapValue}
 use Rattle.hprof_heap.specs.declared.heap.Heap.{Heap}
 use Rattle.hprof_heap.specs.declared.standing.Refusal.{Refusal}
 use Rattle.hprof_heap.specs.declared.standing.Refusal.TheVariants as refusals
-use Rattle.hprof_heap.specs.Gathering.{Given, Tells}
+use Rattle.hprof_heap.specs.Gathering.{Tells}
 use Rattle.hprof_heap.specs.Heap.{heap_of}
 use Rattle.hprof_heap.specs.State.{HaveTwoSizes, IsState}
 use Rattle.hprof_heap.proofs.Least.{no_least}

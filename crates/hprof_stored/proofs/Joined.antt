@@ -1,5 +1,5 @@
--- The dump of parts, of the heap without objects and of the stored objects.
-use Rattle.std.proofs.Common.{◌≡◌, ℕ, zero, suc, List, [], ◌∷◌, length, map, take, Option, Some, Ok, Err, refl, sym, ap, subst}
+-- What the heap without objects and the stored objects say of the parts.
+use Rattle.std.proofs.Common.{◌≡◌, ℕ, zero, suc, List, [], ◌∷◌, ◌++◌, length, map, take, Option, Some, Ok, Err, refl, sym, ap, subst}
 use Rattle.std.specs.Prelude.{slice_get, ⊤}
 use Rattle.std.specs.List.{AllByRecursion}
 use Rattle.std.proofs.Math.Seq.{take-length}
@@ -26,18 +26,14 @@ use Rattle.hprof_runs.specs.declared.run_fault.RunFault.TheVariants as runs
 use Rattle.hprof_objects.specs.ReadAgain.{IsSame, IsSameAt}
 use Rattle.hprof_objects.specs.StoredObjects.{AreToldAgain, HoldsObjects, objects_of}
 use Rattle.hprof_objects.specs.Whole.{AreObjects, FitGiven, rows_given, with_objects, without_objects}
-use Rattle.hprof_engine.specs.Joining.{AreGiven, Tell}
-use Rattle.hprof_engine.specs.Makes.{IsDump}
-use Rattle.hprof_engine.specs.Summaries.{AreSummaries}
+use Rattle.hprof_engine.specs.Joining.{Agree, AreGiven, Tell}
 use Rattle.hprof_engine.proofs.Answers.{agree, disagree}
-use Rattle.hprof_engine.proofs.OneSummary.{some_summary_each}
 use Rattle.hprof_engine.proofs.Together.{part_fits}
 use Rattle.hprof_objects.specs.StretchFault.{ByFault}
 use Rattle.hprof_runs.specs.RunFault.{IfDamaged}
-use Rattle.hprof_stored.specs.Dumping.{AreSubRecords, IsOfTarget, FindsLeast, dump_with}
+use Rattle.hprof_stored.specs.Dumping.{IsOfTarget, FindsLeast}
 use Rattle.hprof_stored.specs.StoredMaking.{IsOfLoss, pass_fault}
 use Rattle.hprof_stored.specs.Parts.{AreStored, PartStored, all_read, given_of, others_of, read_of}
-use Rattle.hprof_stored.proofs.Dumped.{dump_of_all, rows_are_subs}
 
 -- ---- parts that are read again
 
@@ -137,6 +133,12 @@ ComeLast = (parts : List Given) (heap : HeapValue) (key : ℕ) → Tells (map wi
 
 -- ---- the parts
 
+-- objects with these rows stand behind the heap, and the parts agree on all
+pub record AgreeWith (parts : List (List ℕ)) (heap : HeapValue) (rows : List ByteRow) : Type 0 where
+  pub objects : List FactValue
+  pub are : AreObjects heap.ids rows objects
+  pub agree : Agree parts heap.ids heap.millis (heap.facts ++ objects)
+
 module _ {R : Type 0} (left : R → Option (List ℕ)) (limits : Limits) (old : List R) (stored : List PartStored)
     (are : AreStored limits (map left old) stored) (given : AreGiven limits (map left old) (given_of stored)) (heap : HeapValue)
     (tells : Tells (others_of stored) (Ok heap)) (parts : List (List ℕ)) (told : Tell left old parts) where
@@ -146,22 +148,17 @@ module _ {R : Type 0} (left : R → Option (List ℕ)) (limits : Limits) (old : 
   pub by_all : AreGiven limits (map left (take (length old) old)) (given_of stored)
   by_all = subst (λ (rs : List R). AreGiven limits (map left rs) (given_of stored)) (sym (take-length old)) given
 
-  pub is_dump : StandBehind → TellWhole → (rows : List ByteRow) → IsUnion (objects_of (all_read stored)) rows
-      → IsDump parts (dump_with heap rows)
-  is_dump behind whole rows union =
+  -- the parts agree, where their objects have a union
+  pub agreed : StandBehind → TellWhole → (rows : List ByteRow) → IsUnion (objects_of (all_read stored)) rows → AgreeWith parts heap rows
+  agreed behind whole rows union =
       let fit = fits limits parts stored by_parts in
       let same = subst (λ (l : List (List ByteRow)). IsUnion l rows) (rows_same stored) union in
       let objects = behind (given_of stored) heap.ids rows (same_ids heap.ids (given_of stored) tells.0) fit same in
-      let all = with_objects heap objects.0 in
-      let agrees = agree left limits old (given_of stored) by_all parts told all
-      (whole (given_of stored) heap rows objects.0 tells fit same objects.1) in
-      let summaries = some_summary_each agrees.state.states agrees.state.each in
       record {
-        heap = all;
-        agree = agrees;
-        summaries = summaries.0;
-        of_parts = subst (λ (l : List (List ℕ)). AreSummaries l summaries.0) agrees.state.of_parts summaries.1;
-        is = dump_of_all heap rows objects.0 objects.1;
+        objects = objects.0;
+        are = objects.1;
+        agree = agree left limits old (given_of stored) by_all parts told (with_objects heap objects.0)
+            (whole (given_of stored) heap rows objects.0 tells fit same objects.1);
       }
 
   -- why objects cannot be gone through for the first time
@@ -175,9 +172,3 @@ module _ {R : Type 0} (left : R → Option (List ℕ)) (limits : Limits) (old : 
   is_of_loss last (stops.Scratch fault) finds same = same
   is_of_loss last (stops.Part part fault) finds same = same
   is_of_loss last (stops.Sink fault) finds same = absurd finds
-
-  pub are_subs : StandBehind → (rows : List ByteRow) → IsUnion (objects_of (all_read stored)) rows → AreSubRecords rows
-  are_subs behind rows union =
-      let objects = behind (given_of stored) heap.ids rows (same_ids heap.ids (given_of stored) tells.0) (fits limits parts stored by_parts)
-      (subst (λ (l : List (List ByteRow)). IsUnion l rows) (rows_same stored) union) in
-      rows_are_subs heap.ids rows objects.0 objects.1

@@ -4,11 +4,13 @@ mod Ended
 mod Fresh
 mod Read
 mod Answered
-mod Unchanged
-mod Subs
-mod Dumped
-mod Found
-mod Joined
+pub mod Unchanged
+pub mod Subs
+pub mod Dumped
+pub mod Found
+pub mod Joined
+pub mod MadeWith
+mod ToldAgain
 mod ObjectSpelling
 mod ObjectTable
 mod Passed
@@ -17,4 +19,5 @@ mod MadeUp
 pub mod StoredReads
 pub mod StoredMakes
 mod JoinMakes
+pub mod AgainMakes
 pub mod Untold

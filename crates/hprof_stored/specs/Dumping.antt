@@ -5,6 +5,7 @@ use Rattle.std.specs.Io.KnownBytes.{Appends}
 use Rattle.hprof_devices.specs.declared.health.Health.{Health}
 use Rattle.hprof_devices.specs.declared.health.Health.TheVariants.{Well}
 use Rattle.hprof_devices.specs.Device.{health_after}
+use Rattle.hprof_items.specs.declared.header.Version.{Version}
 use Rattle.hprof_items.specs.declared.header.Version.TheVariants.{V102}
 use Rattle.hprof_items.specs.Header.{header_bytes}
 use Rattle.hprof_items.specs.Head.{head_bytes}
@@ -28,6 +29,11 @@ subs_of heap = map (dump_bytes heap.ids) (sub_facts heap.facts)
 -- the bytes of each row
 abbrev pub bytes_of : List ByteRow → List (List ℕ)
 bytes_of rows = map (λ row. row.1) rows
+
+-- what stands before the sub-records: the header of a version, and the facts of a heap that have records
+abbrev pub front_bytes : Version → HeapValue → List ℕ
+front_bytes version heap =
+    header_bytes (record { version = version; ids = heap.ids; millis = heap.millis }) ++ record_facts_bytes heap.ids heap.facts
 
 -- the header of version 1.0.2, the facts of a heap that have records, and its sub-records with those of the rows behind them, in segments
 abbrev pub dump_with : HeapValue → List ByteRow → List ℕ

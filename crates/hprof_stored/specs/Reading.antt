@@ -1,8 +1,7 @@
 -- What reading parts answers, whose objects are kept apart.
-use Rattle.std.specs.Prelude.{◌≡◌, ◌≢◌, ◌⊎◌, ℕ, ◌+◌, ◌<◌, ◌≤◌, true, List, [], ◌∷◌, ◌++◌, length, take, map, Option, Some, None, Result, Ok}
-use Rattle.std.specs.Prelude.{Err, ⊤, IsSome, slice_get}
+use Rattle.std.specs.Prelude.{◌≡◌, ◌≢◌, ◌⊎◌, ℕ, ◌≤◌, true, List, [], length, take, map, Option, Some, None, Result, Ok}
+use Rattle.std.specs.Prelude.{Err, ⊤, IsSome}
 use Rattle.std.specs.List.{AllByRecursion}
-use Rattle.std.specs.Io.KnownBytes.{Consumes}
 use Rattle.hprof_devices.specs.declared.health.Health.{Health}
 use Rattle.hprof_devices.specs.declared.health.Health.TheVariants as healths
 use Rattle.hprof_devices.specs.declared.target.Target.{Ghosts}
@@ -11,13 +10,10 @@ use Rattle.hprof_stream.specs.declared.part_fault.PartFault.{PartFault}
 use Rattle.hprof_stream.specs.declared.part_fault.PartFault.TheVariants as faults
 use Rattle.hprof_stream.specs.declared.sink.SinkFault.TheVariants as sinks
 use Rattle.hprof_stream.specs.declared.summary.PartSummary.{PartSummary}
-use Rattle.hprof_stream.specs.Part.{all_facts}
-use Rattle.hprof_stream.specs.Item.{header_before}
-use Rattle.hprof_stream.specs.Reader.{IsReadingFault}
 use Rattle.hprof_rows.specs.declared.key.Key.{Key}
 use Rattle.hprof_heap.specs.declared.heap.Heap.{Heap}
 use Rattle.hprof_heap.specs.declared.standing.Refusal.TheVariants as refusals
-use Rattle.hprof_heap.specs.Gathering.{Given, IsNewBehind, Tells}
+use Rattle.hprof_heap.specs.Gathering.{Given, Tells}
 use Rattle.hprof_heap.specs.Heap.{heap_of}
 use Rattle.hprof_heap.specs.State.{HaveTwoSizes}
 use Rattle.hprof_runs.specs.declared.scratch_fault.ScratchFault.{ScratchFault}

@@ -24,7 +24,8 @@ use Rattle.hprof_stored.specs.InParts.{IsOfSame}
 use Rattle.hprof_stored.specs.Storing.{HaveObject}
 
 -- what is made of parts, by what a product says of one heap; memory is taken for each object, also for one that is known
-abbrev pub stored_making : (IsText : List PartSummary → HeapValue → List ℕ → Type 0) (Refuses : ProductRefusal → HeapValue → Type 0) → Making
+abbrev pub stored_making : (IsText : List PartSummary → HeapValue → List ℕ → Type 0) (Refuses : ProductRefusal → HeapValue → Type 0)
+    → Making
 stored_making IsText Refuses = record {
   IsMade = IsMadeOf IsText;
   Refuses = Refuses;
@@ -68,8 +69,8 @@ fault_of_pass (passes.Part part stretches.Changed) = tool.Lost (losses.Changed p
 fault_of_pass passes.NoObject = tool.Lost losses.Objects
 fault_of_pass passes.TooMany = tool.OutOfMemory
 
--- and by why a merge of objects into segments stopped, which went through them before; where objects have two contents, or one is no sub-record, that were none before, they
--- have changed
+-- and by why their writing stopped, where they were gone through before; if objects have two contents, or one is no sub-record, that were
+-- none before, they have changed
 abbrev pub fault_of_stop : ObjectStop SegmentFault → ToolFault
 fault_of_stop objects.OutOfMemory = tool.OutOfMemory
 fault_of_stop (objects.TwoContents id) = tool.Lost losses.Objects

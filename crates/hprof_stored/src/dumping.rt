@@ -4,11 +4,8 @@ ghost use Rattle.std.specs.Prelude.{◌≡◌, ◌∷◌, ◌++◌, [], ℕ, Lis
 ghost use Rattle.hprof_devices.specs.declared.health.Health.TheVariants.{Well};
 ghost use Rattle.hprof_devices.specs.Device.{LeavesHealth, Writes};
 ghost use Rattle.hprof_items.specs.Head.{head_bytes};
-ghost use Rattle.hprof_items.specs.Header.{header_bytes};
-ghost use Rattle.hprof_items.specs.declared.header.Version.TheVariants.{V102};
 ghost use Rattle.hprof_items.specs.SubRecord.{dump_bytes};
 ghost use Rattle.hprof_rows.specs.SubRow.{sub_fact, IsWritable};
-ghost use Rattle.hprof_dump.specs.Dump.{record_facts_bytes};
 ghost use Rattle.hprof_heap.specs.Heap.{heap_of};
 ghost use Rattle.hprof_merge.specs.Rows.{ByteRow};
 ghost use Rattle.hprof_merge.specs.Union.{IsUnion};
@@ -19,7 +16,7 @@ ghost use Rattle.hprof_segments.specs.ByteSegments.{segment_records};
 ghost use Rattle.hprof_segments.specs.Taking.{HasTaken};
 ghost use Rattle.hprof_segments.specs.Writer.{held_bytes};
 ghost use Rattle.hprof_stored.specs.Dumping.{AreSubRecords, IsOfDevices, IsOfTarget, LeavesTarget, TakesSubs, WritesOrStops};
-ghost use Rattle.hprof_stored.specs.Dumping.{bytes_of, dump_with, subs_of};
+ghost use Rattle.hprof_stored.specs.Dumping.{bytes_of, dump_with, front_bytes, subs_of};
 
 use crate::sub_buffer::SubBuffer;
 use hprof_devices::{Source, Target, WriteFault};
@@ -117,16 +114,19 @@ fn take_objects<S: Scratch + Drop, R: Source + Drop, P: Parts<Reader = R>, W: Ta
     objects.merge(alloc, parts, limits, &mut sink)
 }
 
-/// Writes what stands before the sub-records: the header, and the facts that have records. If this fails, a prefix was written.
-fn write_front<W: Target>(heap: &Heap, target: &mut W) -> Result<(), WriteFault>
+/// Writes what stands before the sub-records: the header of a version, and the facts that have records. If this fails, a prefix was
+/// written.
+pub fn write_front<W: Target>(
+    version: Version,
+    heap: &Heap,
+    target: &mut W,
+) -> Result<(), WriteFault>
     requires { W.health target.old ≡ Well }
-    ensures bytes { Writes (W.written target.old) (W.written target.new) result
-        (header_bytes (record { version = V102; ids = (heap_of heap.now).ids; millis = (heap_of heap.now).millis })
-        ++ record_facts_bytes (heap_of heap.now).ids (heap_of heap.now).facts) }
+    ensures bytes { Writes (W.written target.old) (W.written target.new) result (front_bytes version (heap_of heap.now)) }
     ensures health { LeavesHealth result (W.health target.new) }
 {
     let header = Header {
-        version: Version::V102,
+        version,
         ids: heap.ids(),
         millis: heap.millis(),
     };
@@ -177,7 +177,7 @@ pub fn write_stored_dump<S: Scratch + Drop, R: Source + Drop, P: Parts<Reader = 
     ensures again { IfErr result (TellsChange S.written S.health limits (P.bytes parts.now) objects.now) }
     ensures health { LeavesTarget result (W.health target.new) }
 {
-    if let Err(fault) = write_front(heap, target) {
+    if let Err(fault) = write_front(Version::V102, heap, target) {
         return Err(ObjectStop::Sink(SegmentFault::Write(fault)));
     }
     if let Err(stop) = take_subs(alloc, heap, writer, target) {

@@ -9,7 +9,7 @@ ghost use Rattle.hprof_stored.specs.StoredMaking.{CanBeReadAgain, stored_dump_ma
 
 use crate::dumping::write_stored_dump;
 use crate::finding::find_conflict;
-use crate::merge_stop::{fault_of_stop, pass_fault};
+use crate::merge_stop::{fault_of_first_pass, fault_of_stop};
 use crate::reading::read_stored;
 use crate::stored_heap::StoredHeap;
 use hprof_devices::{Source, Target};
@@ -75,7 +75,7 @@ pub fn join_stored<R: Source, S: Scratch + Drop, Q: Source + Drop, P: Parts<Read
     let StoredHeap { heap, objects } = stored;
     let objects = objects.finish();
     if let Err(stop) = find_conflict(alloc, &objects, parts, limits) {
-        return Err(ToolFault::from(pass_fault(stop)));
+        return Err(fault_of_first_pass(stop));
     }
     match write_stored_dump(alloc, &heap, &objects, parts, limits, &mut writer, target) {
         Ok(()) => Ok(()),

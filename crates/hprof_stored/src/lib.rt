@@ -18,10 +18,11 @@ mod stored_heap;
 mod stored_sink;
 mod sub_buffer;
 
-pub use dumping::write_stored_dump;
+pub use dumping::{write_front, write_stored_dump};
 pub use finding::find_conflict;
 pub use in_parts::InParts;
 pub use joining::join_stored;
+pub use merge_stop::{fault_of_first_pass, fault_of_stop};
 pub use pass_fault::PassFault;
 pub use reading::read_stored;
 pub use stored_fault::StoredFault;

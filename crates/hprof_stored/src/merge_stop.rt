@@ -1,7 +1,7 @@
-//! Why a merge of objects into segments stopped.
+//! Why a merge of objects stopped.
 
 ghost use Rattle.std.specs.Prelude.{◌≡◌};
-ghost use Rattle.hprof_stored.specs.StoredMaking.{fault_of_stop, pass_fault};
+ghost use Rattle.hprof_stored.specs.StoredMaking.{fault_of_pass, fault_of_stop, pass_fault};
 
 use crate::pass_fault::PassFault;
 use hprof_engine::{Loss, ToolFault};
@@ -9,7 +9,7 @@ use hprof_objects::ObjectStop;
 use hprof_segments::SegmentFault;
 
 /// Returns the fault of objects that were gone through once, and now cannot be written.
-pub(crate) fn fault_of_stop(stop: ObjectStop<SegmentFault>) -> ToolFault
+pub fn fault_of_stop(stop: ObjectStop<SegmentFault>) -> ToolFault
     ensures { result ≡ fault_of_stop stop }
 {
     match stop {
@@ -25,7 +25,7 @@ pub(crate) fn fault_of_stop(stop: ObjectStop<SegmentFault>) -> ToolFault
 }
 
 /// Returns why objects cannot be gone through for the first time.
-pub(crate) fn pass_fault(stop: ObjectStop<SegmentFault>) -> PassFault
+fn pass_fault(stop: ObjectStop<SegmentFault>) -> PassFault
     ensures { result ≡ pass_fault stop }
 {
     match stop {
@@ -36,4 +36,11 @@ pub(crate) fn pass_fault(stop: ObjectStop<SegmentFault>) -> PassFault
         // No sink refuses an object.
         ObjectStop::Sink(_) => PassFault::NoObject,
     }
+}
+
+/// Returns the fault of objects that cannot be gone through for the first time.
+pub fn fault_of_first_pass(stop: ObjectStop<SegmentFault>) -> ToolFault
+    ensures { result ≡ fault_of_pass (pass_fault stop) }
+{
+    ToolFault::from(pass_fault(stop))
 }

@@ -1,10 +1,14 @@
 -- What reads parts again.
-use Rattle.std.proofs.Common.{◌≡◌, ◌+◌, ◌<◌, ℕ, List, [], ◌∷◌, ◌++◌, length, get_or, map, take, Option, Some, refl, sym, ap, subst, ◌∙◌}
+use Rattle.std.proofs.Common.{◌≡◌, ◌+◌, ◌<◌, ℕ, List, [], ◌∷◌, ◌++◌, length, get_or, map, take, Option, Some, None, refl, sym, ap, subst, ◌∙◌}
 use Rattle.std.proofs.lemmas.List.{take_more}
-use Rattle.std.specs.Prelude.{IsSome}
+use Rattle.std.specs.Prelude.{IfSome, IsSome}
+use Rattle.hprof_devices.specs.declared.health.Health.{Health}
+use Rattle.hprof_devices.specs.declared.health.Health.TheVariants.{Well}
+use Rattle.hprof_runs.specs.ReadBack.{HoldsNothing}
 use Rattle.hprof_engine.specs.Joining.{Tell}
 use Rattle.hprof_stored.specs.StoredMaking.{CanBeReadAgain}
-use Rattle.hprof_tool.specs.Again.{AreHandles}
+use Rattle.hprof_tool.specs.Again.{AreHandles, IsReadyFor}
+use Rattle.hprof_tool.specs.declared.program.again.Again.{Again}
 
 module _ {P H : Type 0} (left : P → Option (List ℕ)) (bytes : H → Option (List ℕ)) where
   -- one more
@@ -53,3 +57,18 @@ module _ {P H : Type 0} (left : P → Option (List ℕ)) (bytes : H → Option (
       → ((handle : H) → IsSome (bytes handle) → IsSome scratch) → CanBeReadAgain left parts (map bytes handles) scratch
   can_be_read_again parts handles scratch are tells some told tell =
       (handles_tell parts handles are told tell, scratch_tells parts handles scratch are tells some told tell)
+
+-- a part that tells nothing
+untold_again : {P : Type 0} (left : P → Option (List ℕ)) (part : P) (again : List (Option (List ℕ))) (scratch : Option (List ℕ))
+    → left part ≡ None → CanBeReadAgain left (part ∷ []) again scratch
+untold_again left part again scratch none some [] tell = absurd cc
+untold_again left part again scratch none some (one ∷ told) tell = absurd cc
+
+-- so with what is needed to go through its objects again, if that is there
+pub once_ready : {P H S : Type 0} (left : P → Option (List ℕ)) (bytes : H → Option (List ℕ)) (written : S → Option (List ℕ))
+    (health : S → Health) (part : P) → left part ≡ None → (again : Option (Again H S))
+    → IfSome again (λ it. HoldsNothing (written it.scratch)) → IfSome again (λ it. health it.scratch ≡ Well)
+    → IfSome again (IsReadyFor left bytes written health (part ∷ []))
+once_ready left bytes written health part none None nothing well = tt
+once_ready left bytes written health part none (Some again) nothing well =
+    (untold_again left part (map bytes again.handles.items) (written again.scratch) none, nothing, well)

@@ -8,6 +8,7 @@ use Rattle.std.proofs.lemmas.List.{append-nil}
 use Rattle.clap.specs.Words.{App, Rule, Shape, new_app, with_rule, with_subcommand}
 use Rattle.std.specs.Prelude.{IsErrAnd, MatchResult, option_map, unwrap_or}
 use Rattle.std.specs.Borrow.{Bor}
+use Rattle.clap.specs.Faults.{fault_of}
 use Rattle.clap.specs.Simple.{subcommand_of}
 use Rattle.clap.specs.Walk.{Row, is_empty}
 use Rattle.clap.specs.Simple.{new_shape}
@@ -15,8 +16,9 @@ use Rattle.hprof_tool.specs.declared.command.subcommands.Argument.{Argument}
 use Rattle.hprof_tool.specs.declared.command.subcommands.CommandRow.{CommandRow}
 use Rattle.hprof_tool.specs.declared.command.Misunderstood.{Misunderstood}
 use Rattle.hprof_tool.specs.declared.command.Misunderstood.TheVariants as misunderstood
-use Rattle.hprof_tool.specs.CommandLine.{IsMisunderstanding, command_line, with_rules, parts_rule, required_rule, shape_of_row}
-use Rattle.hprof_tool.specs.Commands.{IsNoCommand, IsUnmatched}
+use Rattle.hprof_tool.specs.CommandLine.{IsMisunderstanding, command_line, with_rules, memory_rule, parts_rule, required_rule}
+use Rattle.hprof_tool.specs.CommandLine.{rules_if, shape_of_row}
+use Rattle.hprof_tool.specs.Commands.{IsNoCommand, IsNoSizeOf, IsUnmatched}
 
 -- one rule more
 pub rule_more : {X : Type 0} (app : App) (f : X → Rule) (xs : List X) (i : ℕ) (d : X) → i < length xs
@@ -34,18 +36,25 @@ by_name : (arguments : List Argument) → required_rules arguments ≡ map requi
 by_name [] = refl
 by_name (argument ∷ arguments) = ap (λ (rules : List Rule). required_rule argument.name.now ∷ rules) (by_name arguments)
 
-module _ (row : CommandRow) where
-  abbrev with_these : List Rule → Shape
-  with_these rules = record (new_shape row.word.now) { rules = rules }
+-- an argument that is taken, and one that is not
+pub rule_taken : (app : App) (takes : Bool) (rule : Rule) → takes ≡ true → with_rule app rule ≡ with_rules app (rules_if takes rule)
+rule_taken app takes rule is = rw is refl
 
-  -- a command with the arguments of its row is that of the row
-  pub shape_without_parts : row.takes_parts ≡ false → (with_rules (new_app row.word.now) (required_rules row.arguments.now)).top
-      ≡ shape_of_row row
-  shape_without_parts none = rw none (ap with_these (by_name row.arguments.now ∙ sym (append-nil _)))
+pub rule_left : (app : App) (takes : Bool) (rule : Rule) → takes ≡ false → app ≡ with_rules app (rules_if takes rule)
+rule_left app takes rule is = rw is
+    (ap (λ (rules : List Rule). record app { top = record app.top { rules = rules } }) (sym (append-nil app.top.rules)))
 
-  pub shape_with_parts : row.takes_parts ≡ true
-      → (with_rule (with_rules (new_app row.word.now) (required_rules row.arguments.now)) parts_rule).top ≡ shape_of_row row
-  shape_with_parts some = rw some (ap (λ (rules : List Rule). with_these (rules ++ parts_rule ∷ [])) (by_name row.arguments.now))
+-- a command with the arguments of its row is that of the row
+pub shape_of_these : (row : CommandRow)
+    → (with_rules (with_rules (with_rules (new_app row.word.now) (required_rules row.arguments.now)) (rules_if row.takes_parts parts_rule))
+    (rules_if row.takes_memory memory_rule)).top
+    ≡ shape_of_row row
+shape_of_these row =
+    let parts = rules_if row.takes_parts parts_rule in
+    let memory = rules_if row.takes_memory memory_rule in
+    ap (λ (rules : List Rule). record (new_shape row.word.now) { rules = rules })
+    (append_assoc (required_rules row.arguments.now) parts memory
+    ∙ ap (λ (rules : List Rule). rules ++ (parts ++ memory)) (by_name row.arguments.now))
 
 -- a plain command has no global argument
 pub no_globals : (first second third rest : Bool) → (first && (not second && (not third && rest))) ≡ true → third ≡ false
@@ -101,8 +110,9 @@ pub match_error : {A E : Type 0} (P : A → Type 0) (Q : E → Type 0) (outcome 
 match_error P Q (Ok x) error is holds = absurd is
 match_error P Q (Err e) error is holds = subst Q (sym is) holds
 
--- words that clap has understood, and of which no task was made
+-- words that clap has understood, and that ask for nothing
 pub unmatched : (words : List (List ℕ)) (found : Option (List ℕ × List Row)) → found ≡ subcommand_of command_line words
-    → (why : Misunderstood) → IsUnmatched found why → IsMisunderstanding words why
-unmatched words found same (misunderstood.Words error) kind = inl kind
-unmatched words found same misunderstood.NoCommand none = subst IsNoCommand same none
+    → fault_of command_line words ≡ [] → (why : Misunderstood) → IsUnmatched found why → IsMisunderstanding words why
+unmatched words found same taken (misunderstood.Words error) kind = inl kind
+unmatched words found same taken misunderstood.NoCommand none = (taken, subst IsNoCommand same none)
+unmatched words found same taken misunderstood.NoSize none = (taken, subst IsNoSizeOf same none)

@@ -1,22 +1,25 @@
 -- What comparing the parts of two heaps tells.
-use Rattle.std.proofs.Common.{◌≡◌, ◌⊎◌, inl, inr, ℕ, List, [], Option, Some, None, refl}
+use Rattle.std.proofs.Common.{inl, inr, ℕ, List, [], Option, Some, None, refl}
+use Rattle.std.specs.Prelude.{⊤}
 use Rattle.hprof_devices.specs.declared.health.Health.{Health}
 use Rattle.hprof_engine.specs.declared.tool_fault.ToolFault.{ToolFault}
 use Rattle.hprof_engine.specs.declared.tool_fault.ToolFault.TheVariants as tool
-use Rattle.hprof_engine.specs.Joining.{Tell}
+use Rattle.hprof_engine.specs.Joining.{Tell, none_known}
 use Rattle.hprof_engine.specs.Makes.{IsMadeOf, WritesFront}
+use Rattle.hprof_stored.specs.Storing.{HaveObject}
 use Rattle.hprof_diff.specs.Counts.{Totals}
 use Rattle.hprof_diff.specs.Comparing.{Counts}
-use Rattle.hprof_diff.specs.DifferenceText.{AreTotalsOf, IsDifferenceOf, IsGrowthReport, growth_making}
+use Rattle.hprof_diff.specs.DifferenceText.{AreTotalsOf, IsDifferenceOf, IsGrowthReport}
 use Rattle.hprof_tool.specs.declared.program.refused.Refused.{Refused}
 use Rattle.hprof_tool.specs.declared.program.refused.Refused.TheVariants as refusals
 use Rattle.hprof_tool.specs.Comparing.{IsFrontOfBoth, IsOfComparing, IsOfOpeningOne, IsOneOpened, OfDumps, OverBoth, RefusesDiff}
-use Rattle.hprof_tool.specs.Comparing.{SaysOfTwo, StopsComparing}
+use Rattle.hprof_tool.specs.Comparing.{SaysOfTwo, StopsComparing, growth_of_parts}
 use Rattle.hprof_tool.specs.Folder.{Answered}
 use Rattle.hprof_tool.specs.Program.{IsOfMaking, IsRefusal, of_dump, refused_of, usual_limits}
 use Rattle.hprof_tool.specs.Streams.{Leaves, LeavesFront}
 use Rattle.hprof_tool.proofs.Files.{one_told}
 use Rattle.hprof_tool.proofs.Making.{no_parts_told, none_added}
+use Rattle.hprof_tool.proofs.Weaker.{other_reads}
 
 -- ---- what kind of refusal it is
 
@@ -48,14 +51,22 @@ new_kind refusals.OutOfMemory kind = tt
 -- ---- the older parts were refused
 
 module _ {R : Type 0} (left : R → Option (List ℕ)) (health : R → Health) (pulls : R → ℕ) (old new : List R) where
-  abbrev Counted : ToolFault → Type 0
-  Counted fault = Counts left health pulls usual_limits old new (Some fault)
+  -- what counting objects in memory answers, where they may be read again
+  pub counts_too : (ended : Option ToolFault) → Counts left health pulls none_known ⊥ usual_limits old new ended
+      → Counts left health pulls HaveObject ⊤ usual_limits old new ended
+  counts_too ended counts = record {
+    reads = other_reads left health pulls none_known HaveObject (λ facts none. absurd none) usual_limits old new ended counts.reads;
+    kind = counts.kind;
+    lost = λ loss e. absurd (counts.lost loss e).0;
+    memory = λ e. elim (counts.memory e) [
+      | inl out ↦ inl out
+      | inr again ↦ absurd again.0
+    ];
+    no_other = counts.no_other;
+  }
 
-  -- no fault of writing ends the counting
-  never : {ended : Option ToolFault} {Kind Rest : Type 0} → Kind ⊎ ((ended ≡ Some tool.OutOfMemory) × Rest) → (Kind → ⊥)
-      → (ended ≡ Some tool.OutOfMemory → ⊥) → ⊥
-  never (inl kind) none other = none kind
-  never (inr wants) none other = other wants.0
+  abbrev Counted : ToolFault → Type 0
+  Counted fault = Counts left health pulls HaveObject ⊤ usual_limits old new (Some fault)
 
   pub old_says : (others : List R) (fault : ToolFault) → Counted fault → (olds news : List (List ℕ)) → Tell left old olds
       → SaysOfTwo left health pulls old new others others (of_dump 0 (refused_of fault)) olds news
@@ -68,9 +79,10 @@ module _ {R : Type 0} (left : R → Option (List ℕ)) (health : R → Health) (
   )
   old_says others tool.IdSizes counts olds news told = inl (refl, refl, counts.reads.id_sizes refl olds told)
   old_says others (tool.Conflict key) counts olds news told = inl (refl, refl, counts.reads.conflict key refl olds told)
-  old_says others (tool.Write fault) counts olds news told = absurd (never counts.kind (λ k. k) (λ same. cc))
-  old_says others (tool.Refused refusal) counts olds news told = absurd (never counts.kind (λ k. k) (λ same. cc))
-  old_says others (tool.Lost loss) counts olds news told = absurd (never counts.kind (λ k. k) (λ same. cc))
+  old_says others (tool.Write fault) counts olds news told = absurd counts.kind
+  old_says others (tool.Refused refusal) counts olds news told = absurd counts.kind
+  old_says others (tool.Lost loss) counts olds news told =
+      let is = counts.lost loss refl in inl (refl, refl, (is.0, is.1 olds told))
   old_says others tool.OutOfMemory counts olds news told = tt
 
   -- the stream is as it was
@@ -80,10 +92,9 @@ module _ {R : Type 0} (left : R → Option (List ℕ)) (health : R → Health) (
   old_leaves contents IsFront before tool.NoParts counts = refl
   old_leaves contents IsFront before tool.IdSizes counts = refl
   old_leaves contents IsFront before (tool.Conflict key) counts = refl
-  old_leaves contents IsFront before (tool.Write fault) counts =
-      absurd (never counts.kind (λ k. k) (λ same. cc))
+  old_leaves contents IsFront before (tool.Write fault) counts = absurd counts.kind
   old_leaves contents IsFront before (tool.Refused refusal) counts = refl
-  old_leaves contents IsFront before (tool.Lost loss) counts = absurd (never counts.kind (λ k. k) (λ same. cc))
+  old_leaves contents IsFront before (tool.Lost loss) counts = ([], inl (none_added (contents before)))
   old_leaves contents IsFront before tool.OutOfMemory counts = ([], inl (none_added (contents before)))
 
 -- ---- the newer parts were
@@ -100,7 +111,7 @@ module _ (totals : Totals) (olds : List (List ℕ)) (are : AreTotalsOf olds tota
   }
 
   pub new_says : {R : Type 0} (left : R → Option (List ℕ)) (health : R → Health) (pulls : R → ℕ) (others others_then old new : List R)
-      (why : Refused) → IsOfMaking why → (news : List (List ℕ)) → IsRefusal left health pulls old new (growth_making totals) why news
+      (why : Refused) → IsOfMaking why → (news : List (List ℕ)) → IsRefusal left health pulls old new (growth_of_parts totals) why news
       → SaysOfTwo left health pulls others others_then old new (of_dump 1 why) olds news
   new_says left health pulls others others_then old new (refusals.Engine (tool.Part index fault)) kind news says = inr (
     refl,
@@ -125,7 +136,11 @@ module _ (totals : Totals) (olds : List (List ℕ)) (are : AreTotalsOf olds tota
   new_says left health pulls others others_then old new (refusals.Engine (tool.Write fault)) kind news says =
       (says.0, difference_made news says.0 says.1)
   new_says left health pulls others others_then old new (refusals.Engine (tool.Refused refusal)) kind news says = absurd says.1
-  new_says left health pulls others others_then old new (refusals.Engine (tool.Lost loss)) kind news says = absurd says.0
+  new_says left health pulls others others_then old new (refusals.Engine (tool.Lost loss)) kind news says = inr (
+    refl,
+    (are.heap, are.agree),
+    says,
+  )
   new_says left health pulls others others_then old new (refusals.Engine tool.OutOfMemory) kind news says = absurd kind
   new_says left health pulls others others_then old new (refusals.Dump place fault) kind news says = absurd kind
   new_says left health pulls others others_then old new (refusals.Open index) kind news says = absurd kind

@@ -1,5 +1,5 @@
 -- What a call answers that makes something of parts, where less is said of memory and of what is read again.
-use Rattle.std.proofs.Common.{◌≡◌, inl, inr, ℕ, List, Option}
+use Rattle.std.proofs.Common.{inl, inr, ℕ, List, Option}
 use Rattle.hprof_devices.specs.declared.health.Health.{Health}
 use Rattle.hprof_items.specs.FactValue.{FactValue}
 use Rattle.hprof_stream.specs.declared.limits.Limits.{Limits}
@@ -55,7 +55,7 @@ module _ {R : Type 0} (left : R → Option (List ℕ)) (health : R → Health) (
     of_part = is.of_part;
   }
 
-  other_reads : (old new : List R) (ended : Option ToolFault) → Reads left health pulls Known limits old new ended
+  pub other_reads : (old new : List R) (ended : Option ToolFault) → Reads left health pulls Known limits old new ended
       → Reads left health pulls Other limits old new ended
   other_reads old new ended reads = record {
     no_parts = reads.no_parts;

@@ -8,7 +8,6 @@ use Rattle.hprof_stored.specs.StoredMaking.{CanBeReadAgain}
 use Rattle.hprof_stored.specs.Storing.{HaveObject}
 use Rattle.hprof_ask.specs.declared.report.HeapReport.TheVariants as heaps
 use Rattle.hprof_ask.specs.declared.report.KindReport.TheVariants as kinds
-use Rattle.hprof_ask.specs.declared.report.Kinds.TheVariants as these
 use Rattle.hprof_ask.specs.declared.report.Report.{Report}
 use Rattle.hprof_ask.specs.declared.report.Report.TheVariants as reports
 use Rattle.hprof_ask.specs.Report.{IsReportText, RefusesReport, TakesMemory, TakesRoom}
@@ -35,7 +34,7 @@ abbrev pub IsPassed : Report → Type 0
 IsPassed (reports.Heap heaps.Check) = ⊤
 IsPassed (reports.Heap heaps.Histogram) = ⊤
 IsPassed (reports.Heap heaps.Classes) = ⊤
-IsPassed (reports.Kind kinds.Objects (these.Of kind)) = ⊤
+IsPassed (reports.Kind kinds.Objects these) = ⊤
 IsPassed other = ⊥
 
 -- what a report makes of parts; where objects may be read again, memory is taken for each, also for one that is known

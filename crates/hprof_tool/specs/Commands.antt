@@ -1,5 +1,5 @@
 -- The words of the commands.
-use Rattle.std.specs.Prelude.{◌≡◌, ◌≢◌, ℕ, List, [], Option, Some, None, map, unwrap_or, codes}
+use Rattle.std.specs.Prelude.{◌≡◌, ◌≢◌, ◌<◌, ◌^◌, ℕ, List, [], Option, Some, None, map, unwrap_or, codes}
 use Rattle.std.specs.Borrow.{Bor}
 use Rattle.clap.specs.declared.error.ErrorKind.TheVariants.{OutOfMemory}
 use Rattle.clap.specs.Values.{kind_of}
@@ -7,11 +7,13 @@ use Rattle.clap.specs.Walk.{Row, all_of, first_of}
 use Rattle.hprof_ask.specs.declared.report_word.Follows.{Follows}
 use Rattle.hprof_ask.specs.declared.report_word.Follows.TheVariants as follow
 use Rattle.hprof_ask.specs.Words.{follows_of, word_of}
+use Rattle.hprof_scratch.specs.Size.{IsSize}
 use Rattle.hprof_tool.specs.declared.command.NewFile.TheVariants as files
 use Rattle.hprof_tool.specs.declared.command.Misunderstood.{Misunderstood}
 use Rattle.hprof_tool.specs.declared.command.Misunderstood.TheVariants as misunderstood
 use Rattle.hprof_tool.specs.declared.command.subcommands.CommandWord.{CommandWord}
 use Rattle.hprof_tool.specs.declared.command.subcommands.CommandWord.TheVariants as commands
+use Rattle.hprof_tool.specs.declared.command.Asked.{Asked}
 use Rattle.hprof_tool.specs.declared.command.Task.{Task}
 use Rattle.hprof_tool.specs.declared.command.Task.TheVariants as tasks
 
@@ -38,6 +40,20 @@ subject_in follow.Identifier rows = text_in (codes "id") rows
 subject_in follow.ClassOrObject rows = text_in (codes "id") rows
 subject_in follow.ClassOrType rows = text_in (codes "kind") rows
 
+-- the text of the option for the memory, if clap found it
+abbrev pub memory_in : List Row → Option (List ℕ)
+memory_in rows = first_of (codes "memory") rows
+
+-- the text is the size of that memory; without a text no size is asked for
+abbrev pub IsMemory : Option (List ℕ) → Option ℕ → Type 0
+IsMemory None memory = memory ≡ None
+IsMemory (Some text) memory = (bytes : ℕ) × (memory ≡ Some bytes) × IsSize text bytes
+
+-- there is a text, and it is no size below 2^64 bytes
+abbrev pub IsNoSize : Option (List ℕ) → Type 0
+IsNoSize None = ⊥
+IsNoSize (Some text) = (bytes : ℕ) → bytes < 2 ^ 64 → ¬ (IsSize text bytes)
+
 -- the word and what clap found behind it ask for the task: each task has one word
 abbrev pub AsksFor : List ℕ → List Row → Task → Type 0
 AsksFor word rows tasks.JoinInput = ⊥
@@ -56,11 +72,32 @@ abbrev pub IsTaskOf : Option (List ℕ × List Row) → Task → Type 0
 IsTaskOf None task = task ≡ tasks.JoinInput
 IsTaskOf (Some (word, rows)) task = AsksFor word rows task
 
+-- the memory of words among which clap found that command, with that behind it, or none
+abbrev pub IsMemoryOf : Option (List ℕ × List Row) → Option ℕ → Type 0
+IsMemoryOf None memory = memory ≡ None
+IsMemoryOf (Some (word, rows)) memory = IsMemory (memory_in rows) memory
+
+-- what they ask for
+abbrev pub IsAsked : Option (List ℕ × List Row) → Asked → Type 0
+IsAsked found asked = IsTaskOf found asked.task × IsMemoryOf found asked.memory
+
 -- a word that is in no row is not understood
 abbrev pub IsNoCommand : Option (List ℕ × List Row) → Type 0
 IsNoCommand found = (it : List ℕ × List Row) × (found ≡ Some it) × ((command : CommandWord) → it.0 ≢ command_word command)
 
--- why there is no task of words that clap has understood: there was no memory, or the command is in no row
+-- nor is the text of the option for the memory, if it is no size
+abbrev pub IsNoSizeOf : Option (List ℕ × List Row) → Type 0
+IsNoSizeOf None = ⊥
+IsNoSizeOf (Some (word, rows)) = IsNoSize (memory_in rows)
+
+-- why what clap found behind a command asks for nothing: there was no memory, or a text is no size
+abbrev pub AsksForNothing : List Row → Misunderstood → Type 0
+AsksForNothing rows (misunderstood.Words error) = kind_of error ≡ OutOfMemory
+AsksForNothing rows misunderstood.NoCommand = ⊥
+AsksForNothing rows misunderstood.NoSize = IsNoSize (memory_in rows)
+
+-- why words that clap has understood ask for nothing: so it is, or the command is in no row
 abbrev pub IsUnmatched : Option (List ℕ × List Row) → Misunderstood → Type 0
 IsUnmatched found (misunderstood.Words error) = kind_of error ≡ OutOfMemory
 IsUnmatched found misunderstood.NoCommand = IsNoCommand found
+IsUnmatched found misunderstood.NoSize = IsNoSizeOf found

@@ -5,8 +5,10 @@ use Rattle.hprof_rows.specs.HeapValue.{HeapValue}
 use Rattle.hprof_engine.specs.declared.tool_fault.ToolFault.{ToolFault}
 use Rattle.hprof_engine.specs.declared.tool_fault.ToolFault.TheVariants as tool
 use Rattle.hprof_engine.specs.Joining.{Agree, Tell}
-use Rattle.hprof_engine.specs.Makes.{WritesAll, WritesFront, dump_making}
-use Rattle.hprof_diff.specs.DifferenceText.{IsDifferenceOf}
+use Rattle.hprof_engine.specs.Makes.{Making, WritesAll, WritesFront}
+use Rattle.hprof_stored.specs.StoredMaking.{stored_dump_making, stored_making}
+use Rattle.hprof_diff.specs.Counts.{Totals}
+use Rattle.hprof_diff.specs.DifferenceText.{IsDifferenceOf, IsGrowthReport}
 use Rattle.hprof_tool.specs.declared.program.refused.Refused.{Refused}
 use Rattle.hprof_tool.specs.declared.program.refused.Refused.TheVariants as refusals
 use Rattle.hprof_tool.specs.Folder.{Answered}
@@ -14,6 +16,10 @@ use Rattle.hprof_tool.specs.Program.{IsRefusal}
 use Rattle.hprof_tool.specs.Streams.{Leaves}
 
 -- ---- parts
+
+-- what is made of the newer parts beside the totals of the older ones; the objects of both may be read again
+abbrev pub growth_of_parts : Totals → Making
+growth_of_parts old = stored_making (IsGrowthReport old) (λ refusal heap. ⊥)
 
 -- the parts were refused, or the writer failed, or there was no memory
 abbrev pub IsOfComparing : Refused → Type 0
@@ -38,9 +44,9 @@ module _ {R : Type 0} (left : R → Option (List ℕ)) (health : R → Health) (
   -- the older parts are refused with the fault and none of the newer ones is touched, or they agree and the newer ones are refused
   abbrev pub RefusesDump : (old_parts new_parts : List (List ℕ)) → (place : ℕ) → ToolFault → Type 0
   RefusesDump old_parts new_parts place fault =
-      ((place ≡ 0) × (news_then ≡ news) × IsRefusal left health pulls olds olds_then dump_making (refusals.Engine fault) old_parts)
+      ((place ≡ 0) × (news_then ≡ news) × IsRefusal left health pulls olds olds_then stored_dump_making (refusals.Engine fault) old_parts)
       ⊎ ((place ≡ 1) × ((heap : HeapValue) × Agree old_parts heap.ids heap.millis heap.facts)
-      × IsRefusal left health pulls news news_then dump_making (refusals.Engine fault) new_parts)
+      × IsRefusal left health pulls news news_then stored_dump_making (refusals.Engine fault) new_parts)
 
   -- what a refusal to compare parts says of them
   abbrev pub SaysOfTwo : Refused → (old_parts new_parts : List (List ℕ)) → Type 0

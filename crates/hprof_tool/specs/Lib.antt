@@ -1,6 +1,5 @@
 pub mod Again
 pub mod PartFile
-pub mod MeteredPart
 pub mod Conversing
 pub mod Folder
 pub mod Program

@@ -1,11 +1,12 @@
 -- What the program's calls come to.
-use Rattle.std.specs.Prelude.{◌≡◌, ◌≢◌, ℕ, List, [], ◌∷◌, ◌++◌, Option, Some, ⊤, codes, decimal}
+use Rattle.std.specs.Prelude.{◌≡◌, ◌≢◌, ℕ, List, [], ◌∷◌, ◌++◌, Option, Some, None, ⊤, codes, decimal}
 use Rattle.std.specs.Borrow.{Bor}
 use Rattle.clap.specs.declared.error.ErrorKind.{ErrorKind}
 use Rattle.clap.specs.declared.error.ErrorKind.TheVariants as kinds
 use Rattle.hprof_stream.specs.declared.limits.Limits.{Limits}
 use Rattle.hprof_rows.specs.HeapValue.{HeapValue}
 use Rattle.hprof_heap.specs.State.{HaveTwoSizes}
+use Rattle.hprof_engine.specs.declared.loss.Loss.TheVariants as losses
 use Rattle.hprof_engine.specs.declared.tool_fault.ToolFault.{ToolFault}
 use Rattle.hprof_engine.specs.declared.tool_fault.ToolFault.TheVariants as tool
 use Rattle.hprof_tool.specs.Folder.{Answered, AreOpened, CannotOpenAt}
@@ -111,11 +112,22 @@ of_dump place (refusals.Engine (tool.Write fault)) = refusals.Engine (tool.Write
 of_dump place (refusals.Engine fault) = refusals.Dump place fault
 of_dump place other = other
 
--- this is the text of a refusal of the dump at that place: that of a part, or `part`, its number, and why
+-- the fault of the only part of a dump, with the number of the dump as that of the part; other faults are of no part
+abbrev pub of_only_part : ℕ → ToolFault → Option ToolFault
+of_only_part place (tool.Part index fault) = Some (tool.Part place fault)
+of_only_part place (tool.Lost (losses.Changed index)) = Some (tool.Lost (losses.Changed place))
+of_only_part place (tool.Lost (losses.Read index)) = Some (tool.Lost (losses.Read place))
+of_only_part place other = None
+
+-- this is the text of a fault of the dump at that place, by the fault of its only part, if it is one
+abbrev pub IsDumpFaultText : ℕ → ToolFault → Option ToolFault → List ℕ → Type 0
+IsDumpFaultText place fault (Some of_part) text = IsFaultText of_part text
+IsDumpFaultText place fault None text =
+    (why : List ℕ) × IsFaultText fault why × (text ≡ codes "part " ++ (decimal place ++ (codes ": " ++ why)))
+
+-- this is the text of a refusal of the dump at that place: that of its part, or `part`, its number, and why
 abbrev pub IsDumpRefusalText : ℕ → ToolFault → List ℕ → Type 0
-IsDumpRefusalText place (tool.Part index fault) text = IsFaultText (tool.Part place fault) text
-IsDumpRefusalText place other text =
-    (why : List ℕ) × IsFaultText other why × (text ≡ codes "part " ++ (decimal place ++ (codes ": " ++ why)))
+IsDumpRefusalText place fault text = IsDumpFaultText place fault (of_only_part place fault) text
 
 -- this is the text of a refusal
 abbrev pub IsRefusalText : Refused → List ℕ → Type 0

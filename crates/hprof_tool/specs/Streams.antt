@@ -6,7 +6,8 @@ use Rattle.hprof_devices.specs.declared.health.Health.{Health}
 use Rattle.hprof_engine.specs.declared.tool_fault.ToolFault.{ToolFault}
 use Rattle.hprof_engine.specs.declared.tool_fault.ToolFault.TheVariants as tool
 use Rattle.hprof_engine.specs.Joining.{IsBeforeWriting}
-use Rattle.hprof_engine.specs.Makes.{Making, WritesFront, IsDump, dump_making}
+use Rattle.hprof_engine.specs.Makes.{Making, WritesFront, IsDump}
+use Rattle.hprof_stored.specs.StoredMaking.{stored_dump_making}
 use Rattle.hprof_tool.specs.declared.program.refused.Refused.{Refused}
 use Rattle.hprof_tool.specs.declared.program.refused.Refused.TheVariants as refusals
 use Rattle.hprof_tool.specs.Folder.{Answered}
@@ -64,7 +65,7 @@ abbrev pub RefusesStream : {I O : Type 0} → (I → Option (List ℕ)) → (I �
     → (new : Option O) → Type 0
 RefusesStream {I} left health pulls contents input old why new =
     ((read : List I) × ((part : List ℕ) → left input ≡ Some part
-    → IsRefusal left health pulls (input ∷ []) read dump_making why (part ∷ [])))
+    → IsRefusal left health pulls (input ∷ []) read stored_dump_making why (part ∷ [])))
     × Leaves contents (IsFrontOfStream IsDump left input) why old new
 
 -- what a refusal to report on the parts of these names says of them, and leaves of the stream

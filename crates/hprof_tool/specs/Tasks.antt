@@ -4,7 +4,7 @@ use Rattle.std.specs.Io.KnownBytes.{Appends}
 use Rattle.hprof_devices.specs.declared.health.Health.{Health}
 use Rattle.hprof_engine.specs.Makes.{IsDump, IsMadeOf, Making}
 use Rattle.hprof_stored.specs.StoredMaking.{stored_dump_making}
-use Rattle.hprof_engine.specs.Joining101.{dump101_making}
+use Rattle.hprof_stored101.specs.StoredMaking101.{stored_dump101_making}
 use Rattle.hprof_ask.specs.declared.report.Report.{Report}
 use Rattle.hprof_ask.specs.declared.subject.Misnamed.{Misnamed}
 use Rattle.hprof_ask.specs.Asked.{AsksReport, IsMisnamed}
@@ -33,7 +33,7 @@ IsMisnamedTask other fault = ⊥
 -- how a dump is made for a new file
 abbrev pub new_file_making : NewFile → Making
 new_file_making files.Dump = stored_dump_making
-new_file_making files.Dump101 = dump101_making
+new_file_making files.Dump101 = stored_dump101_making
 
 -- the task writes no new file
 abbrev pub WritesNoFile : Task → Type 0

@@ -1,19 +1,31 @@
 //! The words of the command line.
 
-ghost use Rattle.std.specs.Prelude.{◌≡◌, false, map, MatchResult, IfOk, string_bytes, codes};
+ghost use Rattle.std.specs.Prelude.{◌≡◌, ◌<◌, ◌^◌, ℕ, false, map, MatchResult, IfOk, string_bytes, codes};
 ghost use Rattle.clap.specs.Words.{app_of, found_of, rows_of, rule_of, shape_of, subcommand_rows_of, with_subcommand};
 ghost use Rattle.hprof_ask.specs.Words.{follows_of};
-ghost use Rattle.hprof_tool.specs.CommandLine.{IsMisunderstanding, IsTaskOfWords, command_line, parts_rule, required_rule, shape_of_row};
-ghost use Rattle.hprof_tool.specs.CommandLine.{with_rules};
-ghost use Rattle.hprof_tool.specs.Commands.{AsksFor, ArePartsIn, IsTaskOf, IsUnmatched, command_word, subject_in, text_in};
+ghost use Rattle.hprof_scratch.specs.Size.{IsSize};
+ghost use Rattle.hprof_tool.specs.CommandLine.{IsAskedByWords, IsMisunderstanding, command_line, memory_rule, parts_rule, required_rule};
+ghost use Rattle.hprof_tool.specs.CommandLine.{rules_if, shape_of_row, with_rules};
+ghost use Rattle.hprof_tool.specs.Commands.{ArePartsIn, AsksFor, AsksForNothing, IsAsked, IsMemory, IsNoSize, IsUnmatched, command_word};
+ghost use Rattle.hprof_tool.specs.Commands.{memory_in, subject_in, text_in};
 
 use clap::{Arg, ArgAction, ArgMatches, Command, Error};
 use hprof_ask::{Follows, ReportWord};
+use hprof_scratch::parse_size;
 use std::alloc::{AllocError, Global};
 use subcommands::{Argument, COMMANDS, CommandRow, CommandWord};
 
 mod help;
 mod subcommands;
+
+/// What the words ask for.
+#[derive(Drop)]
+pub(crate) struct Asked<'a> {
+    /// The task.
+    pub(crate) task: Task<'a>,
+    /// The number of bytes that objects may take in memory, if the words say it.
+    pub(crate) memory: Option<u64>,
+}
 
 /// The task that the words ask for.
 #[derive(Drop)]
@@ -91,6 +103,8 @@ pub(crate) enum Misunderstood {
     Words(Error),
     /// The first of them is none of the commands.
     NoCommand,
+    /// The text of the option `--memory` is no size.
+    NoSize,
 }
 
 impl From<Error> for Misunderstood {
@@ -129,6 +143,18 @@ fn parts_arg<'a>(alloc: Global) -> Arg<'a>
         .action(ArgAction::Append)
 }
 
+/// Returns the option for the number of bytes that objects may take in memory.
+fn memory_arg<'a>(alloc: Global) -> Arg<'a>
+    ensures rule { rule_of result ≡ memory_rule }
+    ensures local { result.global ≡ false }
+{
+    Arg::new(alloc, "memory")
+        .long("memory")
+        .value_name("SIZE")
+        .help("The memory that objects may take, as 512M or 4G")
+        .action(ArgAction::Set)
+}
+
 /// Returns an argument that a command must be given.
 fn required_arg<'a>(alloc: Global, argument: Argument) -> Arg<'a>
     ensures rule { rule_of result ≡ required_rule argument.name.now }
@@ -157,6 +183,34 @@ fn with_required<'a>(
     Ok(command)
 }
 
+/// Adds the names of the parts to a command, if it takes them.
+fn with_parts<'a>(
+    alloc: Global,
+    command: Command<'a>,
+    takes_parts: bool,
+) -> Result<Command<'a>, AllocError>
+    ensures { IfOk result (λ command_then. app_of command_then ≡ with_rules (app_of command.entry) (rules_if takes_parts parts_rule)) }
+{
+    if takes_parts {
+        return command.arg(parts_arg(alloc));
+    }
+    Ok(command)
+}
+
+/// Adds the option for the memory to a command, if it takes it.
+fn with_memory<'a>(
+    alloc: Global,
+    command: Command<'a>,
+    takes_memory: bool,
+) -> Result<Command<'a>, AllocError>
+    ensures { IfOk result (λ command_then. app_of command_then ≡ with_rules (app_of command.entry) (rules_if takes_memory memory_rule)) }
+{
+    if takes_memory {
+        return command.arg(memory_arg(alloc));
+    }
+    Ok(command)
+}
+
 /// Returns a command of the program.
 fn subcommand<'a>(alloc: Global, row: &CommandRow) -> Result<Command<'a>, AllocError>
     ensures { IfOk result (λ command. shape_of command ≡ shape_of_row row.now) }
@@ -165,10 +219,8 @@ fn subcommand<'a>(alloc: Global, row: &CommandRow) -> Result<Command<'a>, AllocE
         .about(row.about)
         .after_help(row.help);
     let command = with_required(alloc, command, row.arguments)?;
-    if row.takes_parts {
-        return command.arg(parts_arg(alloc));
-    }
-    Ok(command)
+    let command = with_parts(alloc, command, row.takes_parts)?;
+    with_memory(alloc, command, row.takes_memory)
 }
 
 /// Adds a command to the program.
@@ -210,6 +262,31 @@ fn value_of<'a>(words: &ArgMatches<'a>, argument: &str) -> &'a str
     ensures { result.now ≡ text_in argument.now (rows_of (found_of words.now)) }
 {
     words.get_str(argument).unwrap_or("")
+}
+
+/// Returns the number of bytes of a size.
+fn size_of(text: &str) -> Result<u64, Misunderstood>
+    ensures { MatchResult result (λ bytes. IsSize text.now bytes)
+        (λ why. (why ≡ Misunderstood.NoSize) × ((bytes : ℕ) → bytes < 2 ^ 64 → ¬ (IsSize text.now bytes))) }
+{
+    match parse_size(text) {
+        Some(bytes) => Ok(bytes),
+        None => Err(Misunderstood::NoSize),
+    }
+}
+
+/// Returns the number of bytes that objects may take in memory, or `None` if the words do not say it.
+fn memory_of(words: &ArgMatches<'_>) -> Result<Option<u64>, Misunderstood>
+    ensures { MatchResult result (IsMemory (memory_in (rows_of (found_of words.now))))
+        (λ why. (why ≡ Misunderstood.NoSize) × IsNoSize (memory_in (rows_of (found_of words.now)))) }
+{
+    match words.get_str("memory") {
+        Some(text) => match size_of(text) {
+            Ok(bytes) => Ok(Some(bytes)),
+            Err(why) => Err(why),
+        },
+        None => Ok(None),
+    }
 }
 
 /// Returns the name of the new file.
@@ -264,23 +341,44 @@ fn task_of_command<'a>(
     })
 }
 
-/// Returns the task of words that clap has understood.
-fn task_matched<'a>(alloc: Global, matches: &ArgMatches<'a>) -> Result<Task<'a>, Misunderstood>
-    ensures { MatchResult result (IsTaskOf (subcommand_rows_of matches.now)) (IsUnmatched (subcommand_rows_of matches.now)) }
+/// Returns what a command asks for that was given these words.
+fn asked_of_command<'a>(
+    alloc: Global,
+    command: CommandWord,
+    words: &ArgMatches<'a>,
+) -> Result<Asked<'a>, Misunderstood>
+    ensures { MatchResult result (λ asked. AsksFor (command_word command) (rows_of (found_of words.now)) asked.task
+        × IsMemory (memory_in (rows_of (found_of words.now))) asked.memory) (AsksForNothing (rows_of (found_of words.now))) }
+{
+    match memory_of(words) {
+        Ok(memory) => {
+            let task = task_of_command(alloc, command, words)?;
+            Ok(Asked { task, memory })
+        }
+        Err(why) => Err(why),
+    }
+}
+
+/// Returns what the words ask for that clap has understood.
+fn asked_matched<'a>(alloc: Global, matches: &ArgMatches<'a>) -> Result<Asked<'a>, Misunderstood>
+    ensures { MatchResult result (IsAsked (subcommand_rows_of matches.now)) (IsUnmatched (subcommand_rows_of matches.now)) }
 {
     let Some((name, words)) = matches.subcommand() else {
-        return Ok(Task::JoinInput);
+        return Ok(Asked {
+            task: Task::JoinInput,
+            memory: None,
+        });
     };
     let Some(command) = CommandWord::of(name) else {
         return Err(Misunderstood::NoCommand);
     };
-    Ok(task_of_command(alloc, command, words)?)
+    asked_of_command(alloc, command, words)
 }
 
-/// Returns the task that the words ask for. The first word is the program's name.
-pub(crate) fn task_of<'a>(alloc: Global, words: &'a [String]) -> Result<Task<'a>, Misunderstood>
-    ensures { MatchResult result (IsTaskOfWords (map string_bytes words.now)) (IsMisunderstanding (map string_bytes words.now)) }
+/// Returns what the words ask for. The first word is the program's name.
+pub(crate) fn asked_of<'a>(alloc: Global, words: &'a [String]) -> Result<Asked<'a>, Misunderstood>
+    ensures { MatchResult result (IsAskedByWords (map string_bytes words.now)) (IsMisunderstanding (map string_bytes words.now)) }
 {
     let matches = command(alloc)?.try_get_matches_from(words)?;
-    task_matched(alloc, &matches)
+    asked_matched(alloc, &matches)
 }

@@ -1,6 +1,6 @@
 //! The program: the task that its words ask for, over files and standard streams that the caller passes.
 
-ghost use Rattle.std.specs.Prelude.{◌≡◌, ◌≢◌, ℕ, List, Some, None};
+ghost use Rattle.std.specs.Prelude.{◌≡◌, ◌≢◌, ℕ, List, [], ◌∷◌, Some, None, IfSome};
 ghost use Rattle.std.specs.Io.KnownBytes.{Appends};
 ghost use Rattle.hprof_devices.specs.declared.health.Health.TheVariants.{Well};
 ghost use Rattle.hprof_engine.specs.Makes.{IsDump, IsMadeOf};
@@ -9,7 +9,7 @@ ghost use Rattle.hprof_ask.specs.declared.subject.Misnamed.{Misnamed};
 ghost use Rattle.hprof_ask.specs.Asked.{AsksReport, IsMisnamed};
 ghost use Rattle.hprof_ask.specs.HeapAnswers.{misnamed_text};
 ghost use Rattle.hprof_ask.specs.Report.{IsReportText};
-ghost use Rattle.hprof_tool.specs.Again.{report_of_parts};
+ghost use Rattle.hprof_tool.specs.Again.{IsReadyFor, report_of_parts};
 ghost use Rattle.hprof_tool.specs.Comparing.{ComparesFiles, RefusesDiff};
 ghost use Rattle.hprof_tool.specs.Conversing.{AnswersQuestions, HasFailed, RefusesQuestions};
 ghost use Rattle.hprof_engine.specs.declared.salvaged.Salvaged.{Salvaged};
@@ -21,12 +21,13 @@ ghost use Rattle.hprof_tool.specs.Tasks.{DoesTask, IsMisnamedTask, MayDo, ReadsN
 ghost use Rattle.hprof_tool.specs.Telling.{TellsFaults, TellsFront, RefusesSalvage, TellsRefusal, told_line};
 ghost use Rattle.hprof_tool.specs.Words.{is_new_file};
 
-use crate::command::{Misunderstood, NewFile, OutName, Task, task_of};
+use crate::command::{Asked, Misunderstood, NewFile, OutName, Task, asked_of};
 use crate::status::Status;
 use crate::storage::Storage;
+use again::{Again, with_again};
 use answers::{
-    Ended, EndedFile, answer_misnamed, answer_no_command, answer_no_words, answer_stream,
-    answer_words, refuse,
+    Ended, EndedFile, answer_misnamed, answer_no_command, answer_no_size, answer_no_words,
+    answer_stream, answer_words, refuse,
 };
 use comparing::compare_files;
 use conversing::ask_files;
@@ -34,10 +35,12 @@ use folder::Folder;
 use hprof_ask::ReportWord;
 use hprof_devices::{Device, Source};
 use hprof_engine::{Dump, Dump101};
+use hprof_handles::ReadAt;
+use hprof_runs::Scratch;
 use joining::{join_stream, report_files, write_file};
-use made::{Made, OfHeap};
+use made::Made;
 use meter::Meter;
-use metered::{Clearing, Metered};
+use metered::{Clearing, Metered, StandardInput};
 use prompting::Prompting;
 use refused::Refused;
 use salvaging::{Written, salvage_file, tell_faults};
@@ -66,14 +69,16 @@ mod scratch_place;
 mod telling;
 mod writing;
 
-/// Joins the part on `input` to `output`, which it gives back.
-fn join_input<I: Source + Drop, O: Write + Drop, W, E: Write>(
+/// Joins the part on `input` to `output`, which it gives back. Its objects are gone through again with `again`, if it is there.
+fn join_input<I: Source + Drop, H: ReadAt + Drop, S: Scratch + Drop, O: Write + Drop, W, E: Write>(
     alloc: Global,
     input: I,
+    again: Option<Again<H, S>>,
     output: O,
     errors: &mut E,
 ) -> Ended<O, W>
-    requires { I.health input ≡ Well }
+    requires input { I.health input ≡ Well }
+    requires again { IfSome again (IsReadyFor I.left H.bytes S.written S.health (input ∷ [])) }
     ensures done { result.status ≡ Status.Done → (written : O) × (result.output ≡ Some written)
         × IsMadeOfStream IsDump I.left O.contents input output written }
     ensures refused { result.status ≡ Status.Refused → (why : Refused)
@@ -83,7 +88,7 @@ fn join_input<I: Source + Drop, O: Write + Drop, W, E: Write>(
     ensures understood { result.status ≢ Status.NotUnderstood }
     ensures no_file { result.file ≡ None }
 {
-    answer_stream(alloc, join_stream(alloc, input, output), errors)
+    answer_stream(alloc, join_stream(alloc, input, again, output), errors)
 }
 
 /// Writes the product of parts in files to a new file, which it gives back.
@@ -221,10 +226,7 @@ fn write_dump<F: Folder, E: Write>(
 {
     match product {
         NewFile::Dump => write_new_file(alloc, files, &Dump, out, names, errors),
-        NewFile::Dump101 => {
-            let product = OfHeap { product: Dump101 };
-            write_new_file(alloc, files, &product, out, names, errors)
-        }
+        NewFile::Dump101 => write_new_file(alloc, files, &Dump101, out, names, errors),
     }
 }
 
@@ -294,18 +296,28 @@ struct Unread<I, P> {
 }
 
 /// Does what a task asks for. It gives back `output`, unless there was no memory for the buffer before it, and the new file, if it wrote
-/// one; and beside them `input` and `prompts`, if the task does not read.
-fn perform<F: Folder, I: Source + Drop, O: Write + Drop, E: Write, P: Write + Drop>(
+/// one; and beside them `input` and `prompts`, if the task does not read. With `again`, if it is there, the objects of a part on `input`
+/// are gone through again.
+fn perform<
+    F: Folder,
+    I: Source + Drop,
+    H: ReadAt + Drop,
+    O: Write + Drop,
+    E: Write,
+    P: Write + Drop,
+>(
     alloc: Global,
     files: &F,
     task: Task<'_>,
     input: I,
+    again: Option<Again<H, F::Scratch>>,
     mut output: O,
     errors: &mut E,
     prompts: Option<P>,
 ) -> (Ended<O, F::Out>, Option<Unread<I, P>>)
     requires folder { MayDo (F.answered files.now) task }
     requires input { I.health input ≡ Well }
+    requires again { IfSome again (IsReadyFor I.left H.bytes F.Scratch.written F.Scratch.health (input ∷ [])) }
     ensures done { result.0.status ≡ Status.Done → (after : O) × (result.0.output ≡ Some after) × DoesTask (F.answered files.now)
         F.Part.left F.Part.health F.Part.pulls F.Out.contents I.left I.health I.pulls O.contents result.0.file task.entry input output
         after }
@@ -321,7 +333,7 @@ fn perform<F: Folder, I: Source + Drop, O: Write + Drop, E: Write, P: Write + Dr
     ensures unread { ReadsNothing task.entry → result.1 ≡ Some (record { input = input; prompts = prompts }) }
 {
     match task {
-        Task::JoinInput => (join_input(alloc, input, output, errors), None),
+        Task::JoinInput => (join_input(alloc, input, again, output, errors), None),
         Task::Write {
             product,
             out,
@@ -407,8 +419,20 @@ where
         meter: &meter,
         writer,
     });
-    let input = Device::new(input);
-    let (ended, _) = perform(alloc, &files, task, input, output, &mut errors, prompts);
+    let input = StandardInput {
+        device: Device::new(input),
+    };
+    let (input, again) = with_again(alloc, &files, input);
+    let (ended, _) = perform(
+        alloc,
+        &files,
+        task,
+        input,
+        again,
+        output,
+        &mut errors,
+        prompts,
+    );
     meter.clear();
     ended.status
 }
@@ -424,7 +448,8 @@ where
 /// - `ask PART..` reads parts in files, and answers on `output` the questions that come as lines on `input`. It prompts for each line on
 ///   `prompts`, if there are prompts.
 ///
-/// `storage` says how many bytes of objects may be in memory, and where more of them go.
+/// `storage` says how many bytes of objects may be in memory, and where more of them go. The option `--memory SIZE` of a command gives
+/// another number of bytes.
 ///
 /// While parts in files are read, a line on `terminal`, if there is one, says how much of them was read.
 pub fn run<S: Files + Clock, I: Read + Drop, O: Write + Drop, E: Write, P: Write + Drop>(
@@ -445,11 +470,20 @@ where
         Ok(words) => words,
         Err(error) => return answer_no_words(alloc, &error, errors),
     };
-    match task_of(alloc, &words) {
-        Ok(task) => perform_metered(
-            alloc, system, storage, task, input, output, errors, prompts, terminal,
+    match asked_of(alloc, &words) {
+        Ok(Asked { task, memory }) => perform_metered(
+            alloc,
+            system,
+            storage.with_memory(memory),
+            task,
+            input,
+            output,
+            errors,
+            prompts,
+            terminal,
         ),
         Err(Misunderstood::Words(error)) => answer_words(alloc, &error, &mut output, errors),
         Err(Misunderstood::NoCommand) => answer_no_command(errors),
+        Err(Misunderstood::NoSize) => answer_no_size(errors),
     }
 }

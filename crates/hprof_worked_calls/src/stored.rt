@@ -4,11 +4,14 @@ ghost use Rattle.std.specs.Prelude.{◌≡◌, All};
 ghost use Rattle.hprof_devices.specs.declared.health.Health.TheVariants.{Well};
 ghost use Rattle.hprof_devices.specs.Device.{health_of};
 
-use crate::engine::{Call, Ways, outcome_of, plain, readers_of, target_of, text_of_fault};
+use crate::engine::{
+    Call, Ways, outcome_of, plain, readers_of, target_of, text_of_difference, text_of_fault,
+};
 use crate::outcome::Outcome;
 use crate::streams::{Reader, Writer};
 use crate::trouble::Trouble;
 use hprof_devices::Device;
+use hprof_diff::{DiffFault, GrowthReport, count_stored};
 use hprof_engine::ToolFault;
 use hprof_large::PassedReport;
 use hprof_making::make_stored;
@@ -16,6 +19,7 @@ use hprof_objects::Keeping;
 use hprof_parts::Slices;
 use hprof_runs::MemoryScratch;
 use hprof_stored::join_stored;
+use hprof_stored101::join101_stored;
 use hprof_stream::Limits;
 use std::alloc::{AllocError, Global};
 
@@ -46,7 +50,39 @@ fn text_of(alloc: Global, done: &str, answer: Result<(), ToolFault>) -> Result<S
     }
 }
 
-/// Makes the call of parts whose objects are kept so, and returns its answer, if it can be made so.
+/// Compares the heap of the first reader, the older one, with that of the others. The objects of both are kept so.
+fn compare_stored(
+    alloc: Global,
+    parts: &[&[u8]],
+    readers: &mut [Device<Reader<'_>>],
+    target: &mut Device<Writer>,
+    limits: Limits,
+    keeping: Keeping,
+) -> Result<(), DiffFault>
+    requires readers { All (λ reader. health_of reader ≡ Well) readers.old }
+    requires writer { health_of target.old ≡ Well }
+{
+    let (olds, news) = readers.split_at_mut(readers.len().min(1));
+    let (old_parts, new_parts) = parts.split_at(parts.len().min(1));
+    let again = Slices::new(old_parts);
+    let scratch = MemoryScratch::new(alloc);
+    let old = match count_stored(alloc, olds, &again, limits, keeping, scratch) {
+        Ok(old) => old,
+        Err(fault) => return Err(DiffFault::Old(fault)),
+    };
+    let growth = GrowthReport { old: &old };
+    let again = Slices::new(new_parts);
+    let scratch = MemoryScratch::new(alloc);
+    match make_stored(
+        alloc, &growth, news, &again, limits, keeping, scratch, target,
+    ) {
+        Ok(()) => Ok(()),
+        Err(fault) => Err(DiffFault::New(fault)),
+    }
+}
+
+/// Makes the call of parts whose objects are kept so, and returns the text of its answer, if it can be made so. `done` is that of a call that
+/// was done.
 fn answer_stored(
     alloc: Global,
     call: Call<'_>,
@@ -55,22 +91,31 @@ fn answer_stored(
     target: &mut Device<Writer>,
     limits: Limits,
     keeping: Keeping,
-) -> Option<Result<(), ToolFault>>
+    done: &str,
+) -> Result<Option<String>, AllocError>
     requires readers { All (λ reader. health_of reader ≡ Well) readers.old }
     requires writer { health_of target.old ≡ Well }
 {
     let again = Slices::new(parts);
     let scratch = MemoryScratch::new(alloc);
-    match call {
-        Call::Join => Some(join_stored(alloc, readers, &again, limits, keeping, scratch, target)),
+    let answer = match call {
+        Call::Join => join_stored(alloc, readers, &again, limits, keeping, scratch, target),
+        Call::Join101 => join101_stored(alloc, readers, &again, limits, keeping, scratch, target),
         Call::Report(report) => {
-            let report = PassedReport::of(report)?;
-            Some(make_stored(
+            let Some(report) = PassedReport::of(report) else {
+                return Ok(None);
+            };
+            make_stored(
                 alloc, &report, readers, &again, limits, keeping, scratch, target,
-            ))
+            )
         }
-        _ => None,
-    }
+        Call::Diff => {
+            let answer = compare_stored(alloc, parts, readers, target, limits, keeping);
+            return Ok(Some(text_of_difference(alloc, answer)?));
+        }
+        _ => return Ok(None),
+    };
+    Ok(Some(text_of(alloc, done, answer)?))
 }
 
 /// Makes the call of parts whose objects are kept so, and returns its result, if it can be made so. `done` is the answer of a call that was
@@ -85,7 +130,7 @@ fn made_stored(
 ) -> Result<Option<Outcome>, AllocError> {
     let mut readers = readers_of(alloc, parts, ways.feed)?;
     let mut target = target_of(alloc, ways.room);
-    let Some(answer) = answer_stored(
+    let Some(text) = answer_stored(
         alloc,
         call,
         parts,
@@ -93,10 +138,11 @@ fn made_stored(
         &mut target,
         ways.limits,
         keeping,
-    ) else {
+        done,
+    )?
+    else {
         return Ok(None);
     };
-    let text = text_of(alloc, done, answer)?;
     let found = outcome_of(plain(alloc, text), readers, target.into_inner());
     Ok(Some(found))
 }

@@ -24,6 +24,12 @@ without 0x or @. A reader that closes early, as head does, is a failed write:
 cut with sed -n 1,10p instead. While files are read, a terminal shows how much
 of them was read.
 
+Commands with the option --memory SIZE read dumps that are larger than the
+memory: objects may take SIZE bytes there. More of them are read again from the
+dump, or go to a file in TMPDIR that is removed. SIZE is a number, with K, M, G
+or T behind it for powers of 1024. Without the option it is a quarter of the
+memory that is available.
+
 Exit status: 0 done, 1 refused (one line on standard error), 2 not understood.";
 
 /// The command `diff`.
@@ -43,6 +49,8 @@ reference has 4 or 8 bytes: compare dumps with identifiers of one size.
 
 OLD is part 0 of a refusal, NEW is part 1. A compressed dump goes through zcat:
     $ hprof diff <(zcat old.hprof.gz) new.hprof
+
+`hprof --help` explains --memory.
 
 Exit status: 0 done, 1 refused (one line on standard error), 2 not understood.";
 
@@ -80,6 +88,8 @@ Parts are pieces of one heap, in any order. Two dumps of one process are two
 heaps, and cannot be joined: `conflict at load 1`, or at another fact. A
 compressed part goes through zcat: hprof join all.hprof <(zcat part.hprof.gz)
 
+`hprof --help` explains --memory. The file for objects is beside OUT.
+
 Exit status: 0 done, 1 refused (one line on standard error), 2 not understood.";
 
 /// The command `join101`.
@@ -96,6 +106,8 @@ refuses later, it removes OUT.
 Parts are pieces of one heap, in any order. Two dumps of one process are two
 heaps, and cannot be joined: `conflict at load 1`, or at another fact. A
 compressed part goes through zcat: hprof join101 old.hprof <(zcat part.hprof.gz)
+
+`hprof --help` explains --memory. The file for objects is beside OUT.
 
 Exit status: 0 done, 1 refused (one line on standard error), 2 not understood.";
 

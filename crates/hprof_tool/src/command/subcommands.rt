@@ -2,7 +2,8 @@
 
 ghost use Rattle.std.specs.Prelude.{◌≡◌, ◌≢◌, map, MatchOption};
 ghost use Rattle.hprof_tool.specs.declared.command.subcommands.CommandWord.{CommandWord};
-ghost use Rattle.hprof_tool.specs.CommandLine.{arguments_of, shape_of_command, shape_of_row};
+ghost use Rattle.hprof_tool.specs.CommandLine.{arguments_of, heap_reads_again, kind_reads_again, reads_again, shape_of_command};
+ghost use Rattle.hprof_tool.specs.CommandLine.{shape_of_row};
 ghost use Rattle.hprof_tool.specs.Commands.{command_word};
 
 use super::{NewFile, help};
@@ -83,6 +84,8 @@ pub(crate) struct CommandRow {
     pub(crate) arguments: &'static [Argument],
     /// Whether names of parts follow.
     pub(crate) takes_parts: bool,
+    /// Whether it takes the option for the memory.
+    pub(crate) takes_memory: bool,
 }
 
 /// All commands, in the order in which the program's help lists them.
@@ -122,6 +125,37 @@ fn arguments_of(follows: Follows) -> &'static [Argument]
     }
 }
 
+/// Returns whether a report on the parts, or on the whole heap, reads objects again.
+fn heap_reads_again(report: HeapReport) -> bool
+    ensures { result ≡ heap_reads_again report }
+{
+    match report {
+        HeapReport::Check | HeapReport::Histogram | HeapReport::Classes => true,
+        HeapReport::Threads | HeapReport::Suspects | HeapReport::Retained => false,
+    }
+}
+
+/// Returns whether a report on the objects of a class or a type reads objects again.
+fn kind_reads_again(report: KindReport) -> bool
+    ensures { result ≡ kind_reads_again report }
+{
+    match report {
+        KindReport::Biggest => false,
+        KindReport::Objects => true,
+    }
+}
+
+/// Returns whether a report reads objects again.
+fn reads_again(report: ReportWord) -> bool
+    ensures { result ≡ reads_again report }
+{
+    match report {
+        ReportWord::Heap(report) => heap_reads_again(report),
+        ReportWord::Kind(report) => kind_reads_again(report),
+        ReportWord::Node(_) => false,
+    }
+}
+
 /// Returns the row of a report.
 fn report_row(report: ReportWord) -> CommandRow
     ensures word { result.word.now ≡ command_word (CommandWord.Report report) }
@@ -134,6 +168,7 @@ fn report_row(report: ReportWord) -> CommandRow
         help: row.help,
         arguments: arguments_of(row.follows),
         takes_parts: true,
+        takes_memory: reads_again(report),
     }
 }
 
@@ -150,6 +185,7 @@ impl CommandWord {
                 help: help::JOIN,
                 arguments: &[OUT],
                 takes_parts: true,
+                takes_memory: true,
             },
             CommandWord::Write(NewFile::Dump101) => CommandRow {
                 word: "join101",
@@ -157,6 +193,7 @@ impl CommandWord {
                 help: help::JOIN101,
                 arguments: &[OUT],
                 takes_parts: true,
+                takes_memory: true,
             },
             CommandWord::Salvage => CommandRow {
                 word: "salvage",
@@ -164,6 +201,7 @@ impl CommandWord {
                 help: help::SALVAGE,
                 arguments: &[OUT],
                 takes_parts: true,
+                takes_memory: false,
             },
             CommandWord::Report(report) => report_row(report),
             CommandWord::Compare => CommandRow {
@@ -172,6 +210,7 @@ impl CommandWord {
                 help: help::DIFF,
                 arguments: &[OLDER, NEWER],
                 takes_parts: false,
+                takes_memory: true,
             },
             CommandWord::Ask => CommandRow {
                 word: "ask",
@@ -179,6 +218,7 @@ impl CommandWord {
                 help: help::ASK,
                 arguments: &[],
                 takes_parts: true,
+                takes_memory: false,
             },
         }
     }

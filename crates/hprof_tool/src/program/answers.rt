@@ -127,6 +127,15 @@ pub(crate) fn answer_misnamed<E: Write>(fault: Misnamed, errors: &mut E) -> Stat
     Status::NotUnderstood
 }
 
+/// Answers that the text of the option `--memory` is no size.
+pub(crate) fn answer_no_size<E: Write>(errors: &mut E) -> Status
+    ensures status { result ≡ Status.NotUnderstood }
+    ensures told { TellsFront (told_line (codes "not a size")) (E.contents errors.old) (E.contents errors.new) }
+{
+    tell_line("not a size", errors);
+    Status::NotUnderstood
+}
+
 /// Answers that a word is none of the commands.
 pub(crate) fn answer_no_command<E: Write>(errors: &mut E) -> Status
     ensures status { result ≡ Status.NotUnderstood }

@@ -10,6 +10,7 @@ use crate::command::OutName;
 use crate::program::refused::Refused;
 use hprof_devices::Source;
 use hprof_handles::ReadAt;
+use hprof_objects::Keeping;
 use hprof_runs::Scratch;
 use std::alloc::{AllocError, Global};
 use std::io;
@@ -41,13 +42,18 @@ pub(crate) trait Folder {
         ensures well { IfOk result (λ part. Self.Part.health part ≡ Well) }
         ensures fails { OnErr result ((answered self.now).CannotOpen name.now) };
 
-    /// Returns what reads the part again, or `None` if it is no regular file.
-    fn handle(&self, part: &Self::Part) -> Result<Option<Self::Handle>, AllocError>
-        ensures { IfOk result (λ handle. IfSome handle (λ handle. (told : List ℕ) → Self.Part.left part.now ≡ Some told
-            → Self.Handle.bytes handle ≡ Some told)) };
+    /// Returns what reads the part again. Of a part that is read once it reads nothing: each read fails.
+    fn handle(&self, part: &Self::Part) -> Result<Self::Handle, AllocError>
+        ensures { IfOk result (λ handle. (told : List ℕ) → Self.Part.left part.now ≡ Some told → Self.Handle.bytes handle ≡ Some told) };
 
-    /// Returns whether the parts are too long for their objects to stay in memory.
+    /// Returns whether the parts may be too long for their objects to stay in memory.
     fn are_long(&self, parts: &[Self::Part]) -> bool;
+
+    /// Returns how the objects of the parts are kept: none stays in a part that is read once.
+    fn keeping(&self, parts: &[Self::Part]) -> Keeping;
+
+    /// Returns the same of a part that is read once.
+    fn keeping_once(&self) -> Keeping;
 
     /// Returns scratch without bytes. It is beside the new file, if one is written.
     fn scratch(&self, alloc: Global, out: Option<&str>) -> Result<Self::Scratch, AllocError>
@@ -55,9 +61,6 @@ pub(crate) trait Folder {
         ensures well { IfOk result (λ scratch. Self.Scratch.health scratch ≡ Well) }
         ensures told { IfOk result (λ scratch. (handle : Self.Handle) → IsSome (Self.Handle.bytes handle)
             → IsSome (Self.Scratch.written scratch)) };
-
-    /// Returns the number of bytes that objects may take in memory.
-    fn memory(&self) -> u64;
 
     /// Creates a new file, if there is none, behind a buffer. If there is no memory for the buffer, the file is removed; if it cannot be
     /// removed, it stays.

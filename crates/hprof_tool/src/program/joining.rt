@@ -1,6 +1,6 @@
 //! Products of a stream, or of files.
 
-ghost use Rattle.std.specs.Prelude.{◌≡◌, length, Err, IfOk, IfErr, IfSome};
+ghost use Rattle.std.specs.Prelude.{◌≡◌, length, [], ◌∷◌, Err, IfOk, IfErr, IfSome};
 ghost use Rattle.hprof_devices.specs.declared.health.Health.TheVariants.{Well};
 ghost use Rattle.hprof_engine.specs.Makes.{IsDump};
 ghost use Rattle.hprof_tool.specs.Again.{IsReadyFor};
@@ -12,23 +12,23 @@ ghost use Rattle.hprof_tool.specs.Streams.{RefusesStream, RefusesReport};
 use crate::command::OutName;
 use crate::program::again::{Again, again_of};
 use crate::program::folder::Folder;
-use crate::program::made::{Made, OfHeap};
+use crate::program::made::Made;
 use crate::program::opening::{Started, open_parts, start_file};
 use crate::program::refused::{Refused, Stopped};
 use crate::program::writing::{write_buffered, write_through_buffer};
 use hprof_devices::Source;
 use hprof_engine::{Dump, ToolFault};
-use hprof_handles::SharedFile;
-use hprof_runs::MemoryScratch;
+use hprof_handles::{ReadAt, SharedFile};
+use hprof_runs::{MemoryScratch, Scratch};
 use std::alloc::Global;
 use std::fs::File;
 use std::io::Write;
 
 /// Parts that are read once.
-pub(crate) const READ_ONCE: Option<Again<SharedFile<File>, MemoryScratch>> = None;
+const READ_ONCE: Option<Again<SharedFile<File>, MemoryScratch>> = None;
 
-/// Returns what is needed to read the objects of opened parts again, or `None` if the product does not need it, or if one of the parts is no
-/// regular file.
+/// Returns what is needed to read the objects of opened parts again, or `None` if the product does not need it, or if they fit into the
+/// memory.
 fn again_for<P: Made, F: Folder>(
     alloc: Global,
     files: &F,
@@ -48,13 +48,16 @@ fn again_for<P: Made, F: Folder>(
     }
 }
 
-/// Joins the one part that a reader gives into a stream, which it gives back.
-pub(crate) fn join_stream<I: Source + Drop, O: Write + Drop>(
+/// Joins the one part that a reader gives into a stream, which it gives back. Its objects are gone through again with `again`, if it is
+/// there.
+pub(crate) fn join_stream<I: Source + Drop, H: ReadAt + Drop, S: Scratch + Drop, O: Write + Drop>(
     alloc: Global,
     input: I,
+    again: Option<Again<H, S>>,
     output: O,
 ) -> Result<O, Stopped<O>>
-    requires { I.health input ≡ Well }
+    requires input { I.health input ≡ Well }
+    requires again { IfSome again (IsReadyFor I.left H.bytes S.written S.health (input ∷ [])) }
     ensures ok { IfOk result (IsMadeOfStream IsDump I.left O.contents input output) }
     ensures kind { IfErr result (λ stopped. IsOfMaking stopped.why) }
     ensures refused { IfErr result (λ stopped. RefusesStream I.left I.health I.pulls O.contents input output stopped.why stopped.writer) }
@@ -66,8 +69,7 @@ pub(crate) fn join_stream<I: Source + Drop, O: Write + Drop>(
             writer: Some(output),
         });
     };
-    let product = OfHeap { product: Dump };
-    write_through_buffer(alloc, &product, &mut part, READ_ONCE, output)
+    write_through_buffer(alloc, &Dump, &mut part, again, output)
 }
 
 /// Writes the product of parts in files to a new file, which it gives back. It is created once all parts are opened. After a refusal it

@@ -5,24 +5,26 @@ ghost use Rattle.hprof_devices.specs.declared.health.Health.TheVariants.{Well};
 ghost use Rattle.hprof_engine.specs.Joining.{fault_of};
 ghost use Rattle.hprof_engine.specs.Makes.{Makes, making_of};
 ghost use Rattle.hprof_stored.specs.StoredMaking.{stored_dump_making, stored_making};
+ghost use Rattle.hprof_stored101.specs.StoredMaking101.{stored_dump101_making};
 ghost use Rattle.hprof_tool.specs.Again.{IsReadyFor};
 ghost use Rattle.hprof_tool.specs.Program.{usual_limits};
 
 use crate::program::again::Again;
 use hprof_ask::{Node, NodeReport, Report, refs_to, who_to};
 use hprof_devices::{Source, Target};
-use hprof_engine::{Dump, Product, ToolFault, make_to};
+use hprof_engine::{Dump, Dump101, Product, ToolFault, make_to};
 use hprof_handles::{Handles, ReadAt};
 use hprof_large::PassedReport;
 use hprof_making::{PassProduct, make_stored};
 use hprof_runs::Scratch;
 use hprof_stored::join_stored;
+use hprof_stored101::join101_stored;
 use hprof_stream::Limits;
 use std::alloc::Global;
 use std::mem;
 
 /// Makes something of the parts of the readers, without the heap, which need not be freed row by row, since the process ends.
-fn make_of_heap<P: Product, R: Source, W: Target>(
+pub(crate) fn make_of_heap<P: Product, R: Source, W: Target>(
     alloc: Global,
     product: &P,
     readers: &mut [R],
@@ -73,8 +75,38 @@ fn join_again<R: Source, H: ReadAt + Drop, S: Scratch + Drop, W: Target>(
     )
 }
 
+/// Joins the parts of the readers into a 1.0.1 dump. Their objects are read again.
+fn join101_again<R: Source, H: ReadAt + Drop, S: Scratch + Drop, W: Target>(
+    alloc: Global,
+    readers: &mut [R],
+    again: Again<H, S>,
+    target: &mut W,
+) -> Result<(), ToolFault>
+    requires readers { All (λ reader. R.health reader ≡ Well) readers.old }
+    requires writer { W.health target.old ≡ Well }
+    requires again { IsReadyFor R.left H.bytes S.written S.health readers.old again }
+    ensures { Makes R.left R.health R.pulls W.written W.health usual_limits stored_dump101_making readers.old readers.new target.old
+        target.new (fault_of result) }
+{
+    let Again {
+        handles,
+        scratch,
+        keeping,
+    } = again;
+    let parts = Handles::new(&handles);
+    join101_stored(
+        alloc,
+        readers,
+        &parts,
+        Limits::usual(),
+        keeping,
+        scratch,
+        target,
+    )
+}
+
 /// Makes something of passes over the objects of the parts of the readers.
-fn make_again<M: PassProduct, R: Source, H: ReadAt + Drop, S: Scratch + Drop, W: Target>(
+pub(crate) fn make_again<M: PassProduct, R: Source, H: ReadAt + Drop, S: Scratch + Drop, W: Target>(
     alloc: Global,
     product: &M,
     readers: &mut [R],
@@ -117,10 +149,10 @@ pub(crate) trait Made {
     // What is made.
     ghost making: { Self → Making };
 
-    /// Returns whether the objects of the parts are read again, if they can be.
+    /// Returns whether the objects of the parts are gone through again, if they do not fit into the memory.
     fn reads_again(&self) -> bool;
 
-    /// Makes it of the parts of the readers. Their objects are read again with `again`, if they can be.
+    /// Makes it of the parts of the readers. Their objects are gone through again with `again`, if it is there.
     fn make<R: Source, H: ReadAt + Drop, S: Scratch + Drop, W: Target>(
         &self,
         alloc: Global,
@@ -153,6 +185,29 @@ impl Made for Dump {
     ) -> Result<(), ToolFault> {
         match again {
             Some(again) => join_again(alloc, readers, again, target),
+            None => make_of_heap(alloc, self, readers, target),
+        }
+    }
+}
+
+impl Made for Dump101 {
+    ghost use Rattle.hprof_stored101.specs.StoredMaking101.{stored_dump101_making};
+
+    ghost making = { λ _. stored_dump101_making };
+
+    fn reads_again(&self) -> bool {
+        true
+    }
+
+    fn make<R: Source, H: ReadAt + Drop, S: Scratch + Drop, W: Target>(
+        &self,
+        alloc: Global,
+        readers: &mut [R],
+        again: Option<Again<H, S>>,
+        target: &mut W,
+    ) -> Result<(), ToolFault> {
+        match again {
+            Some(again) => join101_again(alloc, readers, again, target),
             None => make_of_heap(alloc, self, readers, target),
         }
     }

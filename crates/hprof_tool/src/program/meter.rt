@@ -14,6 +14,9 @@ const PAUSE: u64 = 100;
 /// The number of bytes of room for a line. Each line is shorter.
 const LINE_LEN: usize = 96;
 
+/// The number of bytes of a megabyte.
+const BYTES_OF_MEGABYTE: u64 = 1_000_000;
+
 /// Goes to the start of the terminal's line and erases it.
 const ERASURE: &[u8] = b"\r\x1b[K";
 
@@ -28,31 +31,49 @@ pub(crate) struct Part {
     length: u64,
 }
 
-/// The part that is read, and the number of parts.
-#[derive(Clone, Copy)]
-struct Reading {
-    part: Part,
-    parts: usize,
-}
-
-impl fmt::Display for Reading {
+impl fmt::Display for Part {
+    /// Prints how much of it was read: in percent of its length, if it has one, and else in megabytes.
     fn fmt<W: fmt::Write>(&self, f: &mut fmt::Formatter<W>) -> fmt::Result {
-        let Part {
-            number,
-            read,
-            length,
-        } = self.part;
-        let parts = self.parts;
-        write!(f, "reading part {number} of {parts}: ")?;
-        match read.saturating_mul(100).checked_div(length) {
+        match self.read.saturating_mul(100).checked_div(self.length) {
             Some(percent) => {
                 // A file that is still written may grow.
                 let percent = percent.min(100);
                 write!(f, "{percent} %")
             }
             None => {
-                let megabytes = read / 1_000_000;
+                let megabytes = self.read / BYTES_OF_MEGABYTE;
                 write!(f, "{megabytes} MB")
+            }
+        }
+    }
+}
+
+/// What is read.
+#[derive(Clone, Copy)]
+enum Reading {
+    /// A part, for the first time.
+    First {
+        part: Part,
+        /// The number of parts.
+        parts: usize,
+    },
+    /// The objects of all parts, again.
+    Again {
+        /// The number of bytes that were read again.
+        read: u64,
+    },
+}
+
+impl fmt::Display for Reading {
+    fn fmt<W: fmt::Write>(&self, f: &mut fmt::Formatter<W>) -> fmt::Result {
+        match *self {
+            Reading::First { part, parts } => {
+                let number = part.number;
+                write!(f, "reading part {number} of {parts}: {part}")
+            }
+            Reading::Again { read } => {
+                let megabytes = read / BYTES_OF_MEGABYTE;
+                write!(f, "reading again: {megabytes} MB")
             }
         }
     }
@@ -102,6 +123,8 @@ pub(crate) struct Meter<T> {
     line: Option<RefCell<Line<T>>>,
     /// The number of parts that were opened. All are opened before one is read.
     parts: Cell<usize>,
+    /// The number of bytes that were read again, of all parts.
+    again: Cell<u64>,
 }
 
 impl<T: Write> Meter<T> {
@@ -117,6 +140,7 @@ impl<T: Write> Meter<T> {
                 None => None,
             },
             parts: Cell::new(0),
+            again: Cell::new(0),
         }
     }
 
@@ -145,18 +169,28 @@ impl<T: Write> Meter<T> {
             self.clear();
             return;
         }
-        if let Ok(now) = Instant::now(clock) {
-            self.tell(Reading { part: *part, parts }, now);
-        }
+        let reading = Reading::First { part: *part, parts };
+        self.tell(reading, clock);
+    }
+
+    /// Counts bytes that were read again, and writes the line, if it is time.
+    pub(crate) fn has_read_again<C: Clock>(&self, count: usize, clock: &C) {
+        let read = self.again.get().saturating_add(count as u64);
+        self.again.set(read);
+        self.tell(Reading::Again { read }, clock);
     }
 
     /// Writes the line, if it is time.
-    fn tell(&self, reading: Reading, now: Instant) {
-        if let Some(line) = &self.line {
-            if let Ok(mut line) = line.try_borrow_mut() {
-                if line.is_due(now) {
-                    line.show(reading);
-                }
+    fn tell<C: Clock>(&self, reading: Reading, clock: &C) {
+        let Some(line) = &self.line else {
+            return;
+        };
+        let Ok(now) = Instant::now(clock) else {
+            return;
+        };
+        if let Ok(mut line) = line.try_borrow_mut() {
+            if line.is_due(now) {
+                line.show(reading);
             }
         }
     }

@@ -9,11 +9,12 @@ use crate::program::scratch_place::{ScratchPlace, folder_of};
 use crate::program::writing::BUFFER_LEN;
 use crate::storage::Storage;
 use hprof_devices::{Device, ReadFault, Source};
-use hprof_handles::SharedFile;
+use hprof_handles::{ReadAt, SharedFile};
+use hprof_objects::Keeping;
 use hprof_scratch::LateScratch;
 use std::alloc::{AllocError, Global};
 use std::fs::{File, OpenOptions};
-use std::io::{BufWriter, Read, Write};
+use std::io::{BufWriter, ErrorKind, Read, Write};
 use std::os::unix::fs::{FileExt, OpenOptionsExt};
 use std::rt::{Clock, Files};
 use std::{fs, io};
@@ -42,10 +43,10 @@ pub(crate) struct MeteredPart<'a, F, S, T> {
 }
 
 impl<F: Read + FileExt, S: Clock, T: Write> Source for MeteredPart<'_, F, S, T> {
+    ghost use Rattle.std.specs.Prelude.{None};
     ghost use Rattle.hprof_devices.specs.Device.{health_of, pulls_of};
-    ghost use Rattle.hprof_tool.specs.MeteredPart.{left_in};
 
-    ghost left = { left_in F.remaining };
+    ghost left = { λ _. None };
 
     ghost health = { λ it. health_of it.device };
 
@@ -58,6 +59,56 @@ impl<F: Read + FileExt, S: Clock, T: Write> Source for MeteredPart<'_, F, S, T> 
         }
         Ok(count)
     }
+}
+
+/// The standard input, which is read once.
+#[derive(Drop)]
+pub(crate) struct StandardInput<I> {
+    pub(crate) device: Device<I>,
+}
+
+impl<I: Read> Source for StandardInput<I> {
+    ghost use Rattle.std.specs.Prelude.{None};
+    ghost use Rattle.hprof_devices.specs.Device.{health_of, pulls_of};
+
+    ghost left = { λ _. None };
+
+    ghost health = { λ it. health_of it.device };
+
+    ghost pulls = { λ it. pulls_of it.device };
+
+    fn pull(&mut self, piece: &mut [u8]) -> Result<usize, ReadFault> {
+        self.device.pull(piece)
+    }
+}
+
+/// What reads a part again. The meter counts what is read.
+#[derive(Drop)]
+pub(crate) struct MeteredHandle<'a, F, S, T> {
+    /// The file of the part, if it is a regular one. Another is read once.
+    file: Option<SharedFile<F>>,
+    clock: &'a S,
+    meter: &'a Meter<T>,
+}
+
+impl<F: FileExt, S: Clock, T: Write> ReadAt for MeteredHandle<'_, F, S, T> {
+    ghost use Rattle.std.specs.Prelude.{None};
+
+    ghost bytes = { λ _. None };
+
+    fn read_at(&self, piece: &mut [u8], at: u64) -> io::Result<usize> {
+        let Some(file) = &self.file else {
+            return Err(io::Error::from(ErrorKind::Unsupported));
+        };
+        let count = file.read_at(piece, at)?;
+        self.meter.has_read_again(count, self.clock);
+        Ok(count)
+    }
+}
+
+/// Returns whether one of the parts is read once.
+fn any_is_read_once<F, S, T>(parts: &[MeteredPart<'_, F, S, T>]) -> bool {
+    parts.iter().any(|part| part.again.is_none())
 }
 
 /// The permissions of a new file: its owner reads and writes it, and no one else does, since a heap may hold secrets.
@@ -78,11 +129,11 @@ where
 
     type Part = MeteredPart<'a, S::File, S, T>;
 
-    type Handle = SharedFile<S::File>;
+    type Handle = MeteredHandle<'a, S::File, S, T>;
 
     type Scratch = LateScratch<ScratchPlace<'a, S>>;
 
-    type Out = Clearing<'a, S::File, T>;
+    type Out = S::File;
 
     ghost answered = { λ _. nothing_told };
 
@@ -105,19 +156,42 @@ where
     fn handle(
         &self,
         part: &MeteredPart<'a, S::File, S, T>,
-    ) -> Result<Option<SharedFile<S::File>>, AllocError> {
-        match &part.again {
-            Some(file) => Ok(Some(file.share()?)),
-            None => Ok(None),
-        }
+    ) -> Result<MeteredHandle<'a, S::File, S, T>, AllocError> {
+        let file = match &part.again {
+            Some(file) => Some(file.share()?),
+            None => None,
+        };
+        Ok(MeteredHandle {
+            file,
+            clock: self.system,
+            meter: self.meter,
+        })
     }
 
     fn are_long(&self, parts: &[MeteredPart<'a, S::File, S, T>]) -> bool {
+        if any_is_read_once(parts) {
+            // It may be of any length.
+            return true;
+        }
         let mut bytes = 0u64;
         for part in parts {
             bytes = bytes.saturating_add(part.length);
         }
         bytes > self.storage.memory
+    }
+
+    fn keeping(&self, parts: &[MeteredPart<'a, S::File, S, T>]) -> Keeping {
+        if any_is_read_once(parts) {
+            return self.keeping_once();
+        }
+        Keeping::usual(self.storage.memory)
+    }
+
+    fn keeping_once(&self) -> Keeping {
+        Keeping {
+            stretches: 0,
+            ..Keeping::usual(self.storage.memory)
+        }
     }
 
     fn scratch(
@@ -136,22 +210,10 @@ where
         }))
     }
 
-    fn memory(&self) -> u64 {
-        self.storage.memory
-    }
-
-    fn create_out(
-        &self,
-        alloc: Global,
-        out: OutName<'_>,
-    ) -> Result<BufWriter<Clearing<'a, S::File, T>>, Refused> {
+    fn create_out(&self, alloc: Global, out: OutName<'_>) -> Result<BufWriter<S::File>, Refused> {
         let name = out.as_str();
         let Ok(file) = create_private(self.system, name) else {
             return Err(Refused::Create);
-        };
-        let file = Clearing {
-            meter: self.meter,
-            writer: file,
         };
         match BufWriter::with_capacity(alloc, BUFFER_LEN, file) {
             Ok(buffered) => Ok(buffered),
@@ -164,13 +226,13 @@ where
 
     fn leave_out(&self, _out: OutName<'_>) {}
 
-    fn remove_out(&self, name: &str, file: Clearing<'a, S::File, T>) {
+    fn remove_out(&self, name: &str, file: S::File) {
         drop(file);
         let _ = fs::remove_file(self.system, name);
     }
 }
 
-/// A writer, or a new file. The meter's line goes before a byte is written.
+/// A writer. The meter's line goes before a byte is written.
 #[derive(Drop)]
 pub(crate) struct Clearing<'a, W, T> {
     pub(crate) meter: &'a Meter<T>,

@@ -1,11 +1,11 @@
 //! Reasons why the program refuses.
 
 ghost use Rattle.std.specs.Prelude.{◌≡◌, IfOk, string_bytes};
-ghost use Rattle.hprof_tool.specs.Program.{IsDumpRefusalText, IsRefusalText, of_dump};
+ghost use Rattle.hprof_tool.specs.Program.{IsDumpRefusalText, IsRefusalText, of_dump, of_only_part};
 
 use hprof_ask::{AskFault, DialogueStop};
 use hprof_devices::WriteFault;
-use hprof_engine::ToolFault;
+use hprof_engine::{Loss, ToolFault};
 use std::alloc::{AllocError, AllocFailed, Global};
 
 /// The reason why the program refused.
@@ -76,15 +76,26 @@ impl Refused {
     }
 }
 
+/// Returns the fault of the only part of the dump at that place of two, with that number as the part's, or `None` if no part is at fault.
+fn of_only_part(fault: ToolFault, place: usize) -> Option<ToolFault>
+    ensures { result ≡ of_only_part place fault }
+{
+    match fault {
+        ToolFault::Part { fault, .. } => Some(ToolFault::Part {
+            index: place,
+            fault,
+        }),
+        ToolFault::Lost(Loss::Changed(_)) => Some(ToolFault::Lost(Loss::Changed(place))),
+        ToolFault::Lost(Loss::Read(_)) => Some(ToolFault::Lost(Loss::Read(place))),
+        _ => None,
+    }
+}
+
 /// Returns the text that one of two dumps was refused, and why.
 fn text_of_dump(alloc: Global, place: usize, fault: ToolFault) -> Result<String, AllocError>
     ensures { IfOk result (λ text. IsDumpRefusalText place fault (string_bytes text)) }
 {
-    if let ToolFault::Part { fault, .. } = fault {
-        let of_part = ToolFault::Part {
-            index: place,
-            fault,
-        };
+    if let Some(of_part) = of_only_part(fault, place) {
         return of_part.text(alloc);
     }
     let why = fault.text(alloc)?;

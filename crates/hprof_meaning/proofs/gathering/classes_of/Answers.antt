@@ -7,8 +7,8 @@ use Rattle.hprof_meaning.specs.Stated.{class_dumped, class_loaded, class_of_row}
 use Rattle.hprof_meaning.proofs.ClassLists.{classes_are_all}
 use Rattle.hprof_meaning.proofs.gathering.classes_of.Goals as goal
 
-pub returns : goal.returns
-returns c = λ all whole histogram.
+pub returns-clause-all : goal.returns-clause-all
+returns-clause-all c = λ all whole histogram.
     let of_rows = c.push_of_rows.new.classes.items in
     let first : of_rows ≡ flat_map class_of_row c.args.rows.now =
     c.in_ok-push_of_rows.ensures ∙ ap (λ l. l ++ flat_map class_of_row c.args.rows.now) c.new-classes.ensures.items in

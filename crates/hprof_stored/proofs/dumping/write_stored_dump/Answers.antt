@@ -1,12 +1,13 @@
 use Rattle.std.proofs.Common.{ℕ, List, [], ◌++◌, sym, subst, append-nil}
 use Rattle.std.specs.Io.KnownBytes.{Appends}
 use Rattle.std.proofs.KnownBytes.{Appends-trans}
+use Rattle.hprof_items.specs.declared.header.Version.TheVariants.{V102}
 use Rattle.hprof_items.specs.Head.{head_bytes}
 use Rattle.hprof_devices.proofs.Writes.{WritesFront-more, WritesFront-then}
 use Rattle.hprof_heap.specs.Heap.{heap_of}
 use Rattle.hprof_segments.specs.ByteSegments.{segment_records}
-use Rattle.hprof_stored.specs.Dumping.{WritesSome, bytes_of, subs_of}
-use Rattle.hprof_stored.proofs.Dumped.{dump_is, front_bytes}
+use Rattle.hprof_stored.specs.Dumping.{WritesSome, bytes_of, front_bytes, subs_of}
+use Rattle.hprof_stored.proofs.Dumped.{dump_is}
 use Rattle.hprof_stored.proofs.Joined.{no_change}
 use Rattle.hprof_stored.proofs.dumping.write_stored_dump.Goals as goal
 
@@ -16,7 +17,7 @@ returns-in-Err-clause-dump g c = λ reads rows told union.
     let old = g.W.Target.written c.args.target.now in
     let new = g.W.Target.written c.write_front.new.target in
     subst (WritesSome old new) (sym (dump_is heap rows))
-    (WritesFront-more old new (front_bytes heap) (segment_records (subs_of heap ++ bytes_of rows) ++ head_bytes 0x2c 0 0)
+    (WritesFront-more old new (front_bytes V102 heap) (segment_records (subs_of heap ++ bytes_of rows) ++ head_bytes 0x2c 0 0)
     c.in-Err.ensures.bytes)
 
 pub returns-in-Err-take_subs-clause-dump : goal.returns-in-Err-take_subs-clause-dump
@@ -27,7 +28,7 @@ returns-in-Err-take_subs-clause-dump g c = λ reads rows told union.
     let new = g.W.Target.written c.take_subs.new.target in
     let records = segment_records (subs_of heap ++ bytes_of rows) in
     subst (WritesSome old new) (sym (dump_is heap rows))
-    (WritesFront-then old mid new (front_bytes heap) (records ++ head_bytes 0x2c 0 0) c.in_default.ensures.bytes
+    (WritesFront-then old mid new (front_bytes V102 heap) (records ++ head_bytes 0x2c 0 0) c.in_default.ensures.bytes
     (WritesFront-more mid new records (head_bytes 0x2c 0 0) (c.in-Err-take_subs.ensures.taken (bytes_of rows))))
 
 pub returns-in-Err-take_objects-clause-dump : goal.returns-in-Err-take_objects-clause-dump
@@ -38,7 +39,7 @@ returns-in-Err-take_objects-clause-dump g c = λ reads rows told union.
     let new = g.W.Target.written c.take_objects.new.target in
     let subs = subs_of heap ++ bytes_of rows in
     subst (WritesSome old new) (sym (dump_is heap rows))
-    (WritesFront-then old mid new (front_bytes heap) (segment_records subs ++ head_bytes 0x2c 0 0) c.in_default.ensures.bytes
+    (WritesFront-then old mid new (front_bytes V102 heap) (segment_records subs ++ head_bytes 0x2c 0 0) c.in_default.ensures.bytes
     (WritesFront-more mid new (segment_records subs) (head_bytes 0x2c 0 0)
     (subst (λ (l : List (List ℕ)). WritesSome mid new (segment_records l)) (append-nil subs)
     (c.in-Err-take_objects.ensures.taken reads rows told union mid (subs_of heap) c.in_default-take_subs.ensures.taken []))))
@@ -51,7 +52,7 @@ returns-in-Ok-clause-dump g c = λ reads rows told union.
     let new = g.W.Target.written c.write_end.new.target in
     let subs = subs_of heap ++ bytes_of rows in
     subst (Appends old new) (sym (dump_is heap rows))
-    (Appends-trans old mid new (front_bytes heap) (segment_records subs ++ head_bytes 0x2c 0 0) c.in_default.ensures.bytes
+    (Appends-trans old mid new (front_bytes V102 heap) (segment_records subs ++ head_bytes 0x2c 0 0) c.in_default.ensures.bytes
     (c.in-Ok.ensures.bytes mid subs
     (c.in_default-take_objects.ensures.taken reads rows told union mid (subs_of heap) c.in_default-take_subs.ensures.taken)))
 
@@ -63,7 +64,7 @@ returns-in-Err-write_end-clause-dump g c = λ reads rows told union.
     let new = g.W.Target.written c.write_end.new.target in
     let subs = subs_of heap ++ bytes_of rows in
     subst (WritesSome old new) (sym (dump_is heap rows))
-    (WritesFront-then old mid new (front_bytes heap) (segment_records subs ++ head_bytes 0x2c 0 0) c.in_default.ensures.bytes
+    (WritesFront-then old mid new (front_bytes V102 heap) (segment_records subs ++ head_bytes 0x2c 0 0) c.in_default.ensures.bytes
     (c.in-Err-write_end.ensures.bytes mid subs
     (c.in_default-take_objects.ensures.taken reads rows told union mid (subs_of heap) c.in_default-take_subs.ensures.taken)))
 

@@ -5,10 +5,9 @@ use Rattle.hprof_heap.specs.HeapFacts.{facts_of, size_of}
 use Rattle.hprof_reports.specs.Check.{IsCheck}
 use Rattle.hprof_reports.specs.ClassesText.{IsClassesText}
 use Rattle.hprof_reports.specs.HistogramText.{IsHistogramText}
-use Rattle.hprof_reports.specs.ObjectsText.{IsObjectsText}
 use Rattle.hprof_ask.specs.Summarised.{Holds}
 use Rattle.hprof_ask.specs.Report.{IsReportText, RefusesReport}
-use Rattle.hprof_making.specs.Over.{heap_with}
+use Rattle.hprof_making.specs.Over.{EndsOver, heap_with}
 use Rattle.hprof_making.proofs.Passed.{ends_over}
 use Rattle.hprof_large.specs.declared.passed_report.PassedReport.{PassedReport}
 use Rattle.hprof_large.specs.PassedReport.{report_of}
@@ -56,8 +55,7 @@ returns-in-Objects g c = λ summaries holds.
     let ids = size_of c.args.heap.now in
     let facts = facts_of c.args.heap.now in
     let objects = c.args.objects.now in
-    let report = report_of c.args.self.now in
-    ends_over (g.O.Objects.make_up objects ids facts) (g.O.Objects.agree objects ids facts) (g.O.Objects.tells objects ids facts)
-    (λ all. IsObjectsText ids all c.in-Objects.kind) (λ all. IsReportText report summaries (heap_with (heap_of c.args.heap.now) all)) g.W.Target.written g.W.Target.health
-    c.args.target.now c.write_objects_over.new.target (λ all text make is. subst (λ (p : PassedReport). IsReportText (report_of p) summaries (heap_with (heap_of c.args.heap.now) all) text) (sym c.in-Objects.is) is)
-    (λ refusal all. RefusesReport all report refusal) c.write_objects_over.result c.write_objects_over.ensures
+    subst (λ (p : PassedReport). EndsOver (g.O.Objects.make_up objects ids facts) (g.O.Objects.agree objects ids facts)
+    (g.O.Objects.tells objects ids facts) (λ all. IsReportText (report_of p) summaries (heap_with (heap_of c.args.heap.now) all))
+    (λ refusal all. RefusesReport all (report_of p) refusal) g.W.Target.written g.W.Target.health c.args.target.now
+    c.write_objects.new.target c.write_objects.result) (sym c.in-Objects.is) (c.write_objects.ensures summaries)

@@ -1,4 +1,6 @@
 use Rattle.std.proofs.Common.{List, sym, subst}
+use Rattle.std.specs.Prelude.{IfSome}
+use Rattle.hprof_tool.specs.Again.{IsReadyFor}
 use Rattle.hprof_tool.specs.Comparing.{IsOneOpened}
 use Rattle.hprof_tool.proofs.Comparing.{dumps_refused, newer_unopened, older_unopened, over_dumps}
 use Rattle.hprof_tool.proofs.Ends.{if_err_more, if_ok_more}
@@ -14,7 +16,17 @@ pub returns-in-Err-open_dump-clause-refused : goal.returns-in-Err-open_dump-clau
 returns-in-Err-open_dump-clause-refused g c =
     newer_unopened (g.F.Folder.answered c.args.files.now) g.F.Part.Source.left g.F.Part.Source.health g.F.Part.Source.pulls
     c.args.older.now c.args.newer.now g.O.Write.contents
-    c.args.output c.in-Ok.parts.items c.in-Ok.ensures.opened c.in-Err-open_dump.why c.in-Err-open_dump.ensures.kind
+    c.args.output c.in-Ok.dump.parts.items c.in-Ok.ensures.opened c.in-Err-open_dump.why c.in-Err-open_dump.ensures.kind
+
+pub compare_readers-requires-clause-olds_again : goal.compare_readers-requires-clause-olds_again
+compare_readers-requires-clause-olds_again g c =
+    subst (λ (parts : List _). IfSome c.in-Ok.dump.again (IsReadyFor g.F.Part.Source.left g.F.Handle.ReadAt.bytes
+    g.F.Scratch.Target.written g.F.Scratch.Target.health parts)) (sym c.deref_mut.ensures.value) c.in-Ok.ensures.ready
+
+pub compare_readers-requires-clause-news_again : goal.compare_readers-requires-clause-news_again
+compare_readers-requires-clause-news_again g c =
+    subst (λ (parts : List _). IfSome c.in-Ok-open_dump.dump.again (IsReadyFor g.F.Part.Source.left g.F.Handle.ReadAt.bytes
+    g.F.Scratch.Target.written g.F.Scratch.Target.health parts)) (sym c.deref_mut-2.ensures.value) c.in-Ok-open_dump.ensures.ready
 
 pub returns-clause-ok : goal.returns-clause-ok
 returns-clause-ok g c =

@@ -1,14 +1,9 @@
-use Rattle.std.specs.Prelude.{⊤}
 use Rattle.std.proofs.Common.{Some, ap, sym, subst, refl, ◌∙◌}
-use Rattle.hprof_stream.specs.declared.limits.Limits.{Limits}
 use Rattle.hprof_diff.specs.Kept.{totals_in}
-use Rattle.hprof_diff.specs.Comparing.{Counts}
-use Rattle.hprof_diff.specs.DifferenceText.{growth_making}
 use Rattle.hprof_tool.specs.declared.program.refused.Refused.{Refused}
-use Rattle.hprof_tool.specs.Comparing.{IsFrontOfBoth, StopsComparing}
+use Rattle.hprof_tool.specs.Comparing.{IsFrontOfBoth, StopsComparing, growth_of_parts}
 use Rattle.hprof_tool.specs.Program.{of_dump}
 use Rattle.hprof_tool.proofs.Comparing.{difference_made, dump_leaves, new_kind, new_says, old_kind, old_leaves, old_says}
-use Rattle.hprof_tool.proofs.Making.{are_usual}
 use Rattle.hprof_tool.proofs.Streams.{stream_kind, stream_left, stream_refusal}
 use Rattle.hprof_tool.proofs.program.comparing.compare_readers.Goals as goal
 
@@ -19,15 +14,13 @@ returns-in-Err-clause-stops g c =
     let contents = g.W.Write.contents in
     let olds = c.args.olds.now in
     let news = c.args.news.now in
-    let usual = c.usual.ensures in
-    let counts = subst (λ (limits : Limits). Counts left g.R.Source.health g.R.Source.pulls limits olds c.count_parts.new.readers
-    (Some c.in-Err.fault)) (are_usual c.usual.result usual.item usual.reads usual.bytes) c.in-Err.ensures.counts in
-    subst (λ (why : Refused). StopsComparing left g.R.Source.health g.R.Source.pulls olds c.count_parts.new.readers news news contents
+    let counts = c.in-Err.ensures.counts in
+    subst (λ (why : Refused). StopsComparing left g.R.Source.health g.R.Source.pulls olds c.count_dump.new.readers news news contents
     c.args.writer why (Some c.args.writer)) (sym (c.of_dump.ensures ∙ ap (of_dump 0) c.from.ensures)) (
       old_kind c.in-Err.fault,
-      λ old_parts new_parts told told_too. old_says left g.R.Source.health g.R.Source.pulls olds c.count_parts.new.readers news
+      λ old_parts new_parts told told_too. old_says left g.R.Source.health g.R.Source.pulls olds c.count_dump.new.readers news
           c.in-Err.fault counts old_parts new_parts told,
-      old_leaves left g.R.Source.health g.R.Source.pulls olds c.count_parts.new.readers contents
+      old_leaves left g.R.Source.health g.R.Source.pulls olds c.count_dump.new.readers contents
           (IsFrontOfBoth left olds news) c.args.writer
           c.in-Err.fault counts,
     )
@@ -48,13 +41,13 @@ returns-clause-stops g c =
     let totals = totals_in c.in-Ok.old in
     let stopped = c.in-Err-write_through_buffer.stopped in
     let stops = c.in-Err-write_through_buffer.ensures.stops in
-    let kind = stream_kind left _ _ news _ (growth_making totals) contents c.args.writer stopped.why
+    let kind = stream_kind left _ _ news _ (growth_of_parts totals) contents c.args.writer stopped.why
     stopped.writer stops in
-    let says = stream_refusal left _ _ news _ (growth_making totals) contents c.args.writer stopped.why
+    let says = stream_refusal left _ _ news _ (growth_of_parts totals) contents c.args.writer stopped.why
     stopped.writer stops in
     let health = g.R.Source.health in
     let pulls = g.R.Source.pulls in
-    let olds_then = c.count_parts.new.readers in
+    let olds_then = c.count_dump.new.readers in
     let news_then = c.write_through_buffer.new.readers in
     subst (λ (why : Refused). StopsComparing left health pulls olds olds_then news news_then contents c.args.writer why stopped.writer)
     (sym c.of_dump-in-Err-write_through_buffer.ensures) (
@@ -63,7 +56,7 @@ returns-clause-stops g c =
           new_says totals old_parts (c.in-Ok.ensures.totals old_parts told) left health pulls olds olds_then news news_then stopped.why kind
           new_parts (says new_parts told_too),
       dump_leaves contents (IsFrontOfBoth left olds news) c.args.writer stopped.why stopped.writer
-          (stream_left left _ _ news _ (growth_making totals) contents c.args.writer
+          (stream_left left _ _ news _ (growth_of_parts totals) contents c.args.writer
           (IsFrontOfBoth left olds news) (λ held holds writes old_parts new_parts told told_too.
           let front = writes new_parts told_too in (
             front.0,

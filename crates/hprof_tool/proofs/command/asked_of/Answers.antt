@@ -2,11 +2,11 @@ use Rattle.std.proofs.Common.{◌≡◌, ◌∙◌, ℕ, List, [], Option, ap, m
 use Rattle.std.specs.Prelude.{string_bytes}
 use Rattle.clap.specs.Words.{App, HasKind, Row, fault_of, is_simple, is_simple_and_free, subcommand_of, subcommand_rows_of}
 use Rattle.clap.proofs.OnLiterals.{clap_on_literals}
-use Rattle.hprof_tool.specs.CommandLine.{IsMisunderstanding, IsTaskOfWords, command_line}
-use Rattle.hprof_tool.specs.Commands.{IsTaskOf}
+use Rattle.hprof_tool.specs.CommandLine.{IsAskedByWords, IsMisunderstanding, command_line}
+use Rattle.hprof_tool.specs.Commands.{IsAsked}
 use Rattle.hprof_tool.specs.declared.command.Misunderstood.TheVariants as misunderstood
 use Rattle.hprof_tool.proofs.CommandLine.{match_error, match_more, unmatched}
-use Rattle.hprof_tool.proofs.command.task_of.Goals as goal
+use Rattle.hprof_tool.proofs.command.asked_of.Goals as goal
 
 simple : is_simple command_line ≡ true
 unfolding clap_on_literals
@@ -31,6 +31,6 @@ returns c =
     ∙ ap (λ (app : App). subcommand_of app words) c.in_ok-command.ensures in
     let taken : fault_of command_line words ≡ [] = subst (λ (app : App). fault_of app words ≡ []) c.in_ok-command.ensures
     (c.in_ok-matches.ensures.kinds (ap is_simple_and_free c.in_ok-command.ensures ∙ free)) in
-    match_more _ (IsTaskOfWords words) _ (IsMisunderstanding words) c.task_matched.result
-    (λ task is. (taken, subst (λ (f : Option (List ℕ × List Row)). IsTaskOf f task) same is))
-    (unmatched words found same) c.task_matched.ensures
+    match_more _ (IsAskedByWords words) _ (IsMisunderstanding words) c.asked_matched.result
+    (λ asked is. (taken, subst (λ (f : Option (List ℕ × List Row)). IsAsked f asked) same is))
+    (unmatched words found same taken) c.asked_matched.ensures

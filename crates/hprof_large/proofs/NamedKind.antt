@@ -1,0 +1,42 @@
+-- The report `objects` on the classes that a name means.
+use Rattle.std.proofs.Common.{◌≡◌, ℕ, List, [], ◌∷◌, Option, Err, inl, refl, sym, subst}
+use Rattle.hprof_values.specs.declared.ids.IdSize.{IdSize}
+use Rattle.hprof_devices.specs.declared.health.Health.{Health}
+use Rattle.hprof_items.specs.FactValue.{FactValue}
+use Rattle.hprof_passes.specs.declared.pass_stop.PassStop.{PassStop}
+use Rattle.hprof_passes.specs.declared.pass_stop.PassStop.TheVariants.{Sink, Lost}
+use Rattle.hprof_passes.specs.Passing.{IfLost}
+use Rattle.hprof_engine.specs.declared.product.WriteStop.{WriteStop}
+use Rattle.hprof_engine.specs.declared.product_refusal.ProductRefusal.{ProductRefusal}
+use Rattle.hprof_reports.specs.Passed.{stop_of_pass}
+use Rattle.hprof_making.specs.Over.{EndsOver}
+use Rattle.hprof_meaning.specs.MeantClasses.{AreMeantClasses}
+use Rattle.hprof_meaning.specs.ObjectsOfText.{IsObjectsOfText}
+use Rattle.hprof_ask.specs.declared.report.KindReport.TheVariants.{Objects}
+use Rattle.hprof_ask.specs.Report.{IsNamedKind, NamesClasses}
+
+-- where a name is not answered, it means no class, and is not the name of the class of all classes
+pub none_meant : {P : Type 0} (classes : List ℕ) → ¬ (classes ≡ [] → P) → (classes ≡ []) × ¬ P
+none_meant [] not = (refl, λ p. not (λ _. p))
+none_meant (class ∷ classes) not = absurd (not (λ e. absurd cc))
+
+-- the objects of the classes that a name means are the report on the name
+pub named_kind : (ids : IdSize) (facts : List FactValue) (name classes text : List ℕ) → AreMeantClasses facts name classes
+    → (classes ≡ [] → NamesClasses name) → IsObjectsOfText ids facts classes text → IsNamedKind ids facts Objects name text
+named_kind ids facts name classes text are there is = record {
+  classes = classes;
+  are_classes = are;
+  there = there;
+  is = is;
+}
+
+-- a pass before the first byte stopped, and so does the report
+module _ {W F : Type 0} (MakeUp : List FactValue → Type 0) (agree : Type 0) (tells : F → Type 0) (IsText : List FactValue → List ℕ → Type 0)
+    (Refuses : ProductRefusal → List FactValue → Type 0) (written : W → Option (List ℕ)) (well : W → Health) (writer : W) where
+  abbrev Stops : PassStop WriteStop F → Type 0
+  Stops stop = EndsOver MakeUp agree tells IsText Refuses written well writer writer {A = Unit {0}} (Err stop)
+
+  pub stops_before : {E : Type 0} → (stop : PassStop E F) (told : PassStop WriteStop F) → told ≡ stop_of_pass stop → IfLost tells stop
+      → EndsOver MakeUp agree tells IsText Refuses written well writer writer {A = Unit {0}} (Err told)
+  stops_before (Sink fault) told is lost = subst Stops (sym is) (inl refl)
+  stops_before (Lost fault) told is lost = subst Stops (sym is) (lost, refl)

@@ -1,0 +1,5 @@
+mod Pieces
+mod Counted
+mod Rows
+mod Dumped101
+mod Agreed
