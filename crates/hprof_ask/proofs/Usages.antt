@@ -1,12 +1,12 @@
 -- The lines of help, written one after the other.
-use Rattle.std.proofs.Common.{◌≡◌, ℕ, ◌+◌, ◌<◌, List, ◌∷◌, ◌++◌, Option, Result, Err, length, get_or, drop, sym, subst}
+use Rattle.std.proofs.Common.{◌≡◌, ℕ, ◌+◌, ◌<◌, List, ◌∷◌, Option, Result, Err, length, get_or, drop, sym, subst}
 use Rattle.std.specs.List.{flat_map}
 use Rattle.std.proofs.lemmas.Grind.{flat_map-append}
 use Rattle.hprof_devices.proofs.OneByOne.{Wrote}
 use Rattle.hprof_devices.proofs.Writes.{WritesFront, WritesFront-more, WritesFront-then}
 use Rattle.hprof_engine.specs.declared.product.WriteStop.{WriteStop}
-use Rattle.hprof_reports.specs.Stopping.{WritesText}
-use Rattle.hprof_reports.proofs.TextWriting.{text_stopped}
+use Rattle.hprof_lines.specs.Stopping.{WritesText}
+use Rattle.hprof_lines.proofs.TextWriting.{text_stopped}
 use Rattle.hprof_rows.proofs.Tables.{drop_from}
 use Rattle.hprof_ask.specs.declared.report_word.ReportWord.{ReportWord}
 use Rattle.hprof_ask.specs.declared.report.HeapReport.TheVariants.{Check}

@@ -9,7 +9,7 @@ use Rattle.hprof_reports.specs.OneObject.{one_object}
 use Rattle.hprof_reports.specs.OnePath.{one_path_text}
 use Rattle.hprof_reports.specs.OneRefs.{one_refs}
 use Rattle.hprof_reports.specs.OneClasses.{one_classes_text}
-use Rattle.hprof_reports.specs.OneObjects.{one_objects_text}
+use Rattle.hprof_lines.specs.OneObjects.{one_objects_text}
 use Rattle.hprof_reports.specs.OneText.{one_text_line}
 use Rattle.hprof_show.proofs.OneReport.{one_show_text}
 use Rattle.hprof_holders.proofs.SomeThreads.{text_once as threads_once}

@@ -15,7 +15,7 @@ use Rattle.hprof_histogram.specs.declared.row.Kind.{Kind}
 use Rattle.hprof_reports.specs.Check.{IsCheck}
 use Rattle.hprof_reports.specs.HistogramText.{IsHistogramText}
 use Rattle.hprof_reports.specs.ClassesText.{IsClassesText}
-use Rattle.hprof_reports.specs.ObjectsText.{IsObjectsText}
+use Rattle.hprof_lines.specs.ObjectsText.{IsObjectsText}
 use Rattle.hprof_reports.specs.ObjectText.{IsObjectText}
 use Rattle.hprof_reports.specs.PathText.{IsPathText}
 use Rattle.hprof_reports.specs.RefsText.{IsRefsText}

@@ -15,14 +15,14 @@ use Rattle.hprof_histogram.proofs.SomeHistogram.{at_least_one}
 use Rattle.hprof_reach.proofs.SomeReach.{some_distance, some_path}
 use Rattle.hprof_naming.proofs.Namings.{naming_exists}
 use Rattle.hprof_reports.specs.HistogramText.{IsHistogramText, rows_text}
-use Rattle.hprof_reports.specs.Line.{text_of_lines}
+use Rattle.hprof_lines.specs.Line.{text_of_lines}
 use Rattle.hprof_reports.specs.ObjectText.{IsObjectText, found_text}
 use Rattle.hprof_reports.specs.PathText.{IsPathText, reached_text}
 use Rattle.hprof_reports.specs.RefsText.{IsRefsText, edge_line}
 use Rattle.hprof_naming.proofs.Lookups.{class_exists, object_exists}
 use Rattle.hprof_naming.proofs.OneText.{text_exists}
 use Rattle.hprof_reports.specs.ClassesText.{IsClassesText, classes_text}
-use Rattle.hprof_reports.specs.ObjectsText.{IsObjectsText, objects_text}
+use Rattle.hprof_lines.specs.ObjectsText.{IsObjectsText, objects_text}
 use Rattle.hprof_reports.specs.TextReport.{IsTextLine, text_line}
 use Rattle.hprof_reports.proofs.ClassLists.{some_dumps}
 use Rattle.hprof_show.proofs.OneReport.{some_show}

@@ -4,7 +4,7 @@ ghost use Rattle.std.specs.Prelude.{◌≡◌, ℕ, List};
 ghost use Rattle.hprof_devices.specs.declared.health.Health.TheVariants.{Well};
 ghost use Rattle.hprof_engine.specs.Makes.{EndsWriting};
 ghost use Rattle.hprof_heap.specs.HeapFacts.{facts_of, size_of};
-ghost use Rattle.hprof_reports.specs.Stopping.{LeavesTarget, WritesText};
+ghost use Rattle.hprof_lines.specs.Stopping.{LeavesTarget, WritesText};
 ghost use Rattle.hprof_keeps.specs.BiggestText.{IsBiggestText};
 ghost use Rattle.hprof_keeps.specs.Chosen.{ClassesAscend, IsChosen};
 ghost use Rattle.hprof_ask.specs.Kept.{IsKept};
@@ -17,7 +17,7 @@ use hprof_engine::WriteStop;
 use hprof_heap::{Heap, holds_of_heap};
 use hprof_histogram::Kind;
 use hprof_keeps::{Choice, write_biggest};
-use hprof_reports::write_objects;
+use hprof_lines::write_objects;
 use hprof_stream::PartSummary;
 use std::alloc::Global;
 

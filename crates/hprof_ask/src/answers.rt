@@ -1,10 +1,10 @@
 //! The answers to questions, by reports.
 
-ghost use Rattle.std.specs.Prelude.{◌≡◌, ◌++◌, ℕ, List};
+ghost use Rattle.std.specs.Prelude.{◌≡◌, ℕ, List};
 ghost use Rattle.std.specs.List.{flat_map};
 ghost use Rattle.hprof_devices.specs.declared.health.Health.TheVariants.{Well};
 ghost use Rattle.hprof_heap.specs.HeapFacts.{facts_of, size_of};
-ghost use Rattle.hprof_reports.specs.Stopping.{LeavesTarget, WritesText};
+ghost use Rattle.hprof_lines.specs.Stopping.{LeavesTarget, WritesText};
 ghost use Rattle.hprof_ask.specs.HeapAnswers.{IsHeapAnswer, IsReply, IsReportReply, behind_reply};
 ghost use Rattle.hprof_ask.specs.Kept.{IsKept};
 ghost use Rattle.hprof_ask.specs.Words.{all_words, follows_text, help_text, usage_line};
@@ -19,7 +19,7 @@ use crate::stop::DialogueStop;
 use crate::subject::Misnamed;
 use hprof_devices::Target;
 use hprof_engine::WriteStop;
-use hprof_reports::write_str;
+use hprof_lines::write_str;
 use std::alloc::Global;
 
 /// Returns what stands in help for that which follows a word.

@@ -6,7 +6,7 @@ ghost use Rattle.hprof_heap.specs.HeapFacts.{facts_of, size_of};
 ghost use Rattle.hprof_reports.specs.Check.{IsCheck};
 ghost use Rattle.hprof_reports.specs.ClassesText.{IsClassesText};
 ghost use Rattle.hprof_reports.specs.HistogramText.{IsHistogramText};
-ghost use Rattle.hprof_reports.specs.Stopping.{LeavesTarget, WritesText};
+ghost use Rattle.hprof_lines.specs.Stopping.{LeavesTarget, WritesText};
 ghost use Rattle.hprof_by_label.specs.RetainedText.{IsRetainedText};
 ghost use Rattle.hprof_holders.specs.ThreadsText.{IsThreadsText};
 ghost use Rattle.hprof_suspects.specs.SuspectsText.{IsSuspectsText};

@@ -7,7 +7,7 @@ ghost use Rattle.hprof_engine.specs.Makes.{EndsWriting};
 ghost use Rattle.hprof_heap.specs.HeapFacts.{facts_of, size_of};
 ghost use Rattle.hprof_meaning.specs.MeantClasses.{AreMeantClasses, AreMeantDumps};
 ghost use Rattle.hprof_meaning.specs.NamedText.{IsNamedText};
-ghost use Rattle.hprof_reports.specs.Stopping.{LeavesTarget, WritesText};
+ghost use Rattle.hprof_lines.specs.Stopping.{LeavesTarget, WritesText};
 ghost use Rattle.hprof_ask.specs.Kept.{IsKept};
 ghost use Rattle.hprof_ask.specs.Report.{IsNamedKind, IsNamedReport, IsReportOfClasses, NamesClasses, RefusesReport};
 ghost use Rattle.hprof_ask.specs.declared.report.Kinds.TheVariants as these;

@@ -5,7 +5,7 @@ ghost use Rattle.hprof_devices.specs.declared.health.Health.TheVariants.{Well};
 ghost use Rattle.hprof_edges.specs.Edges.{AreReferrers};
 ghost use Rattle.hprof_heap.specs.HeapFacts.{facts_of, size_of};
 ghost use Rattle.hprof_holders.specs.WhoText.{IsWhoText};
-ghost use Rattle.hprof_reports.specs.Stopping.{LeavesTarget, WritesText};
+ghost use Rattle.hprof_lines.specs.Stopping.{LeavesTarget, WritesText};
 
 use crate::kept::OfHeap;
 use crate::survey::{References, Survey, view_of};

@@ -5,7 +5,7 @@ ghost use Rattle.std.specs.List.{flat_map};
 ghost use Rattle.hprof_devices.specs.declared.health.Health.TheVariants.{Well};
 ghost use Rattle.hprof_heap.specs.HeapFacts.{facts_of, size_of};
 ghost use Rattle.hprof_naming.specs.ClassNames.{AreClassNames};
-ghost use Rattle.hprof_reports.specs.Stopping.{LeavesTarget, WritesText};
+ghost use Rattle.hprof_lines.specs.Stopping.{LeavesTarget, WritesText};
 ghost use Rattle.hprof_retained.specs.Tree.{IsTreeOf};
 ghost use Rattle.hprof_by_label.specs.RetainedText.{IsRetainedText, row_line};
 ghost use Rattle.hprof_by_label.specs.RowValues.{row_value};
@@ -16,8 +16,8 @@ use crate::rows::rows_in;
 use hprof_devices::Target;
 use hprof_engine::WriteStop;
 use hprof_heap::{Heap, holds_of_heap};
+use hprof_lines::write_line;
 use hprof_naming::ClassNames;
-use hprof_reports::write_line;
 use hprof_retained::Retained;
 use std::alloc::{AllocError, Global};
 

@@ -2,7 +2,7 @@
 use Rattle.std.proofs.Common.{◌≡◌, ℕ, ◌+◌, ◌-◌, ◌<◌, zero, suc, List, [], ◌∷◌, ◌++◌, take, refl, sym, ap, ◌∙◌, arith}
 use Rattle.std.proofs.Common.{append_assoc, append-nil}
 use Rattle.hprof_text.specs.Printed.{printed_unit}
-use Rattle.hprof_reports.specs.TextReport.{printed_units}
+use Rattle.hprof_lines.specs.Printed.{printed_units}
 
 -- one unit more is printed
 pub printed_more : (text more : List ℕ) (unit : ℕ) (left after : List ℕ) (done : ℕ) → done < 100 → more ≡ text ++ printed_unit unit

@@ -7,7 +7,7 @@ use Rattle.std.proofs.lemmas.Str.Ascii.{IsAscii-nil, IsAscii-cons}
 use Rattle.hex.specs.Hex.{encode_lower}
 use Rattle.hprof_text.specs.Printed.{escaped_unit, is_plain, printed_unit}
 use Rattle.hprof_text.proofs.Prints.{IsAscii-hex}
-use Rattle.hprof_reports.specs.TextReport.{printed_units}
+use Rattle.hprof_lines.specs.Printed.{printed_units}
 
 plain_below : (unit : ℕ) → is_plain unit ≡ true → unit < 128
 plain_below unit plain = grind (arith, nat_tests)

@@ -1,6 +1,6 @@
 -- A text in quotes from its parts.
 use Rattle.std.proofs.Common.{◌≡◌, ℕ, List, ◌++◌, length, take, sym, ap, codes, append_assoc, ◌∙◌}
-use Rattle.hprof_reports.specs.TextReport.{printed_units}
+use Rattle.hprof_lines.specs.Printed.{printed_units}
 use Rattle.hprof_describe.specs.Quoted.{more_text, quoted}
 
 pub quoted_of_parts : (units first more : List ℕ) (count : ℕ) → first ≡ printed_units (take 100 units) → count ≡ length units

@@ -1,7 +1,7 @@
 -- A text in quotes, this project's own.
 use Rattle.std.specs.Prelude.{ℕ, ◌-◌, nat_le, List, [], ◌++◌, length, take, Option, Some, None, codes, if◌then◌else◌}
 use Rattle.std.specs.Fmt.{decimal}
-use Rattle.hprof_reports.specs.TextReport.{printed_units}
+use Rattle.hprof_lines.specs.Printed.{printed_units}
 
 -- how many units are left out of a text of so many: those behind the first 100
 abbrev pub more_text : ℕ → List ℕ

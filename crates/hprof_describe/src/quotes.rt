@@ -2,7 +2,7 @@
 
 ghost use Rattle.std.specs.Prelude.{◌≡◌, ◌++◌, IfOk, OnOk, string_bytes, take};
 ghost use Rattle.std.specs.Option.{option_map};
-ghost use Rattle.hprof_reports.specs.TextReport.{printed_units};
+ghost use Rattle.hprof_lines.specs.Printed.{printed_units};
 ghost use Rattle.hprof_threads.specs.ThreadNames.{units_value};
 ghost use Rattle.hprof_describe.specs.Quoted.{behind_label, more_text, quoted};
 

@@ -10,7 +10,7 @@ use Rattle.hprof_diff.specs.Counts.{AreTotals, Totals}
 use Rattle.hprof_diff.specs.Difference.{ChangeValue, IsDifference, StepValue}
 use Rattle.hprof_engine.specs.Joining.{Agree}
 use Rattle.hprof_engine.specs.Makes.{Making, making_of}
-use Rattle.hprof_reports.specs.Line.{line_of, text_of_lines}
+use Rattle.hprof_lines.specs.Line.{line_of, text_of_lines}
 
 -- the newer number less the older one, with its sign; 0 has none
 abbrev pub step_text : StepValue → List ℕ

@@ -1,12 +1,12 @@
 //! The report `diff` on two heaps whose objects are counted by label.
 
-ghost use Rattle.std.specs.Prelude.{◌≡◌, ◌++◌, ℕ, List, map, IfOk, OnOk, string_bytes};
+ghost use Rattle.std.specs.Prelude.{◌≡◌, ◌++◌, ℕ, List, map, OnOk, string_bytes};
 ghost use Rattle.hprof_devices.specs.declared.health.Health.TheVariants.{Well};
 ghost use Rattle.hprof_heap.specs.HeapFacts.{facts_of, size_of};
 ghost use Rattle.hprof_diff.specs.Changes.{change_value, step_value};
 ghost use Rattle.hprof_diff.specs.Kept.{totals_in};
-ghost use Rattle.hprof_reports.specs.Passed.{EndsPassed};
-ghost use Rattle.hprof_reports.specs.Stopping.{LeavesTarget, WritesText};
+ghost use Rattle.hprof_lines.specs.Passed.{EndsPassed};
+ghost use Rattle.hprof_lines.specs.Stopping.{LeavesTarget, WritesText};
 ghost use Rattle.hprof_diff.specs.DifferenceText.{IsDifferenceText, IsGrowthText, change_line, changes_text, step_text};
 
 use crate::change::{Change, Step};
@@ -15,8 +15,8 @@ use crate::label_counts::LabelCounts;
 use hprof_devices::Target;
 use hprof_engine::WriteStop;
 use hprof_heap::{Heap, holds_of_heap};
+use hprof_lines::{stop_of_pass, write_str};
 use hprof_passes::{InHeap, Objects, PassStop};
-use hprof_reports::{stop_of_pass, write_str};
 use itoa::Buffer;
 use std::alloc::{AllocError, Global};
 

@@ -6,7 +6,7 @@ use Rattle.hprof_text.specs.Identifier.{id_digits}
 use Rattle.hprof_items.specs.FactValue.{FactValue}
 use Rattle.hprof_heap.specs.Classes.{ClassValue}
 use Rattle.hprof_edges.specs.declared.edge.Edge.{Edge}
-use Rattle.hprof_reports.specs.ObjectText.{nothing_line}
+use Rattle.hprof_lines.specs.Line.{nothing_line}
 use Rattle.hprof_describe.specs.Findings.{Findings}
 use Rattle.hprof_describe.specs.Nodes.{kind_text, node_text}
 use Rattle.hprof_holders.specs.Steps.{EdgeFindings, step_kind, step_text}

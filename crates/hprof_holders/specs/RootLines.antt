@@ -4,7 +4,7 @@ use Rattle.std.specs.Fmt.{decimal}
 use Rattle.hprof_text.specs.Identifier.{id_digits}
 use Rattle.hprof_values.specs.declared.root.Root.{Root}
 use Rattle.hprof_values.specs.declared.root.Root.TheVariants as roots
-use Rattle.hprof_reports.specs.Line.{line_of}
+use Rattle.hprof_lines.specs.Line.{line_of}
 
 -- the frame of a root; heapDumper.cpp, HPROF_GC_ROOT_JAVA_FRAME: -1 for empty
 abbrev pub frame_words : ℕ → List ℕ

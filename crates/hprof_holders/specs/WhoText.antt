@@ -11,7 +11,7 @@ use Rattle.hprof_heap.specs.Classes.{ClassValue}
 use Rattle.hprof_edges.specs.declared.edge.Edge.{Edge}
 use Rattle.hprof_edges.specs.Edges.{AreReferrers}
 use Rattle.hprof_reach.specs.Roots.{AreRootsOf}
-use Rattle.hprof_reports.specs.ObjectText.{nothing_line}
+use Rattle.hprof_lines.specs.Line.{nothing_line}
 use Rattle.hprof_describe.specs.Findings.{AreFindings, Findings}
 use Rattle.hprof_describe.specs.Nodes.{kind_text, node_text}
 use Rattle.hprof_holders.specs.ThreadFindings.{AreThreadFindings, ThreadFindings}

@@ -5,7 +5,7 @@ ghost use Rattle.std.specs.List.{flat_map};
 ghost use Rattle.hprof_devices.specs.declared.health.Health.TheVariants.{Well};
 ghost use Rattle.hprof_heap.specs.HeapFacts.{facts_of, size_of};
 ghost use Rattle.hprof_naming.specs.ClassNames.{AreClassNames};
-ghost use Rattle.hprof_reports.specs.Stopping.{LeavesTarget, WritesText};
+ghost use Rattle.hprof_lines.specs.Stopping.{LeavesTarget, WritesText};
 ghost use Rattle.hprof_describe.specs.Findings.{AreFindings, Findings};
 ghost use Rattle.hprof_holders.specs.PlaceLines.{new_place_line};
 ghost use Rattle.hprof_holders.specs.ThreadsText.{elsewhere_text, held_line, place_line, same_place};
@@ -15,8 +15,8 @@ use hprof_describe::node_text;
 use hprof_devices::Target;
 use hprof_engine::WriteStop;
 use hprof_heap::Heap;
+use hprof_lines::write_line;
 use hprof_naming::ClassNames;
-use hprof_reports::write_line;
 use hprof_threads::{Held, Place};
 use std::alloc::{AllocError, Global};
 

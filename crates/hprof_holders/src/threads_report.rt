@@ -10,7 +10,7 @@ ghost use Rattle.hprof_naming.specs.ClassNames.{AreClassNames};
 ghost use Rattle.hprof_threads.specs.ThreadRoots.{AreThreadRoots};
 ghost use Rattle.hprof_threads.specs.Held.{AreHeld, AreHeldBy};
 ghost use Rattle.hprof_threads.specs.declared.held.Held.{Held};
-ghost use Rattle.hprof_reports.specs.Stopping.{LeavesTarget, WritesText};
+ghost use Rattle.hprof_lines.specs.Stopping.{LeavesTarget, WritesText};
 ghost use Rattle.hprof_describe.specs.Findings.{AreFindings, Findings};
 ghost use Rattle.hprof_holders.specs.ThreadFindings.{AreThreadFindings, ThreadFindings, frames_in};
 ghost use Rattle.hprof_holders.specs.ThreadsText.{IsThreadsText, elsewhere_text, frame_text};
@@ -22,8 +22,8 @@ use hprof_describe::node_text;
 use hprof_devices::Target;
 use hprof_engine::WriteStop;
 use hprof_heap::{Heap, holds_of_heap};
+use hprof_lines::write_line;
 use hprof_naming::ClassNames;
-use hprof_reports::write_line;
 use hprof_threads::{
     Held, HeldObjects, ThreadRoots, frame_line, thread_object, thread_serials, thread_stack,
 };

@@ -1,5 +1,5 @@
 -- The report on an identifier other than 0.
-use Rattle.std.proofs.Common.{◌≡◌, ◌≢◌, ◌⊎◌, ◌<◌, ℕ, List, ◌++◌, Option, Some, None, append_assoc, codes, refl, sym, ap, subst, ◌∙◌, inl}
+use Rattle.std.proofs.Common.{◌≡◌, ◌≢◌, ◌<◌, ℕ, List, ◌++◌, Option, Some, None, append_assoc, refl, sym, subst, inl}
 use Rattle.std.proofs.Common.{inr}
 use Rattle.hprof_values.specs.declared.ids.IdSize.{IdSize}
 use Rattle.hprof_items.specs.FactValue.{FactValue}
@@ -8,15 +8,15 @@ use Rattle.hprof_heap.specs.declared.class_dump.ClassDump.{ClassDump}
 use Rattle.hprof_heap.specs.declared.object_dump.ObjectDump.{ObjectDump}
 use Rattle.hprof_heap.specs.ClassDump.{IsFoundClass, class_value}
 use Rattle.hprof_heap.specs.ObjectDump.{IsFoundObject, fact_of_object}
-use Rattle.hprof_reach.specs.Reaching.{IsDumped, IsNode}
-use Rattle.hprof_reports.specs.ObjectText.{nothing_line}
+use Rattle.hprof_reach.specs.Reaching.{IsNode}
+use Rattle.hprof_lines.specs.Line.{nothing_line}
 use Rattle.hprof_describe.specs.Findings.{AreFindings, Findings}
 use Rattle.hprof_retained.specs.Retained.{IsSumOver, Sum}
 use Rattle.hprof_retained.specs.Tree.{IsTreeOf, count_of, node_at, total_of}
 use Rattle.hprof_retained.specs.declared.retained.Retained.{Retained}
 use Rattle.hprof_retained.specs.Weakly.{IsWeaklyHeld}
 use Rattle.hprof_keeps.specs.KeepsText.{IsHeldText, IsKeepsText, IsNodeText, IsRootsText, above_lines, child_lines, total_line, weakly_line}
-use Rattle.hprof_keeps.specs.Order.{AreChildren, AreDominators, AreRetained, node_of, retained_in}
+use Rattle.hprof_keeps.specs.Order.{AreChildren, AreDominators, node_of, retained_in}
 use Rattle.hprof_keeps.specs.Otherwise.{IsDumpedText}
 use Rattle.hprof_keeps.proofs.Held.{are_retained}
 use Rattle.hprof_keeps.proofs.Places.{node_of_some}

@@ -8,7 +8,7 @@ use Rattle.hprof_passes.specs.declared.pass_stop.PassStop.TheVariants.{Sink, Los
 use Rattle.hprof_passes.specs.Passing.{IfLost}
 use Rattle.hprof_engine.specs.declared.product.WriteStop.{WriteStop}
 use Rattle.hprof_engine.specs.declared.product_refusal.ProductRefusal.{ProductRefusal}
-use Rattle.hprof_reports.specs.Passed.{stop_of_pass}
+use Rattle.hprof_lines.specs.Passed.{stop_of_pass}
 use Rattle.hprof_making.specs.Over.{EndsOver}
 use Rattle.hprof_meaning.specs.MeantClasses.{AreMeantClasses}
 use Rattle.hprof_meaning.specs.ObjectsOfText.{IsObjectsOfText}

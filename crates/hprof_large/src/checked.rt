@@ -4,7 +4,7 @@ ghost use Rattle.std.specs.Prelude.{◌≡◌};
 ghost use Rattle.hprof_devices.specs.declared.health.Health.TheVariants.{Well};
 ghost use Rattle.hprof_heap.specs.HeapFacts.{facts_of, size_of};
 ghost use Rattle.hprof_reports.specs.Check.{IsCheck};
-ghost use Rattle.hprof_reports.specs.Passed.{EndsPassed};
+ghost use Rattle.hprof_lines.specs.Passed.{EndsPassed};
 
 use hprof_devices::Target;
 use hprof_engine::WriteStop;

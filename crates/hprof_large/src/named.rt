@@ -1,6 +1,6 @@
 //! The report `objects`, on one class or type, or on the classes that a name means.
 
-ghost use Rattle.std.specs.Prelude.{◌≡◌, ◌↔◌, ℕ, List, [], IsTrue};
+ghost use Rattle.std.specs.Prelude.{◌≡◌, ◌↔◌, List, [], IsTrue};
 ghost use Rattle.hprof_devices.specs.declared.health.Health.TheVariants.{Well};
 ghost use Rattle.hprof_heap.specs.Heap.{heap_of};
 ghost use Rattle.hprof_heap.specs.HeapFacts.{facts_of, size_of};
@@ -15,10 +15,10 @@ use hprof_ask::{Kinds, names_classes};
 use hprof_devices::Target;
 use hprof_engine::{ProductRefusal, WriteStop};
 use hprof_heap::Heap;
+use hprof_lines::{stop_of_pass, write_objects_over};
 use hprof_meaning::{classes_meant_over, write_objects_of_classes_over};
 use hprof_naming::{ClassNames, MeantLabel};
 use hprof_passes::{Objects, PassStop};
-use hprof_reports::{stop_of_pass, write_objects_over};
 use std::alloc::Global;
 
 /// Returns whether a name is answered where it means these classes: there is one, or it is the name of the class of all classes.

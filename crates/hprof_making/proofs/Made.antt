@@ -26,7 +26,7 @@ use Rattle.hprof_stored.specs.Storing.{HaveObject}
 use Rattle.hprof_stored.specs.StoredMaking.{IsOfLoss, fault_of_pass}
 use Rattle.hprof_stored.proofs.StoredMakes.{MakesStored, done, failed, heap_refused, pass_makes, wants_behind}
 use Rattle.hprof_stored.proofs.StoredReads.{all_read_so}
-use Rattle.hprof_reports.specs.Passed.{WritesSome, WritesWhole}
+use Rattle.hprof_lines.specs.Passed.{WritesSome, WritesWhole}
 use Rattle.hprof_making.specs.Over.{EndsOver, heap_with}
 
 -- what the objects make up with the facts of the heap, that they make up some facts, and what their faults tell of the parts

@@ -7,7 +7,7 @@ use Rattle.hprof_passes.specs.declared.pass_stop.PassStop.TheVariants.{Sink, Los
 use Rattle.hprof_engine.specs.declared.product.WriteStop.{WriteStop}
 use Rattle.hprof_engine.specs.declared.product.WriteStop.TheVariants as stops
 use Rattle.hprof_engine.specs.declared.product_refusal.ProductRefusal.{ProductRefusal}
-use Rattle.hprof_reports.specs.Passed.{EndsPassed}
+use Rattle.hprof_lines.specs.Passed.{EndsPassed}
 use Rattle.hprof_making.specs.Over.{EndsOver}
 
 module _ {W F : Type 0} (MakeUp : List FactValue → Type 0) (agree : Type 0) (tells : F → Type 0)

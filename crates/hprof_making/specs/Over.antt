@@ -10,7 +10,7 @@ use Rattle.hprof_passes.specs.declared.pass_stop.PassStop.TheVariants.{Sink, Los
 use Rattle.hprof_engine.specs.declared.product.WriteStop.{WriteStop}
 use Rattle.hprof_engine.specs.declared.product.WriteStop.TheVariants as stops
 use Rattle.hprof_engine.specs.declared.product_refusal.ProductRefusal.{ProductRefusal}
-use Rattle.hprof_reports.specs.Passed.{WritesSome, WritesWhole}
+use Rattle.hprof_lines.specs.Passed.{WritesSome, WritesWhole}
 
 -- the heap with all its facts
 abbrev pub heap_with : HeapValue → List FactValue → HeapValue

@@ -3,7 +3,7 @@ use Rattle.std.proofs.Common.{◌≡◌, ℕ, List, refl, sym, ap, ◌∙◌}
 use Rattle.hprof_values.specs.declared.ids.IdSize.{IdSize}
 use Rattle.hprof_items.specs.FactValue.{FactValue}
 use Rattle.hprof_rows.specs.Conflict.{IsConsistent}
-use Rattle.hprof_reports.specs.ObjectsText.{objects_text}
+use Rattle.hprof_lines.specs.ObjectsText.{objects_text}
 use Rattle.hprof_describe.specs.Findings.{Findings}
 use Rattle.hprof_describe.proofs.OneFinding.{findings_exist, one_findings}
 use Rattle.hprof_meaning.specs.NamedText.{IsNamedText, named_text}

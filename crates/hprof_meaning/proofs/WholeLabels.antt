@@ -5,7 +5,7 @@ use Rattle.hprof_items.specs.FactValue.{FactValue, Name}
 use Rattle.hprof_rows.specs.declared.table.Table.TheVariants as tables
 use Rattle.hprof_passes.specs.Passing.{IsWhole}
 use Rattle.hprof_passes.proofs.Tables.{has_same}
-use Rattle.hprof_reports.proofs.WholeNames.{names_class_same}
+use Rattle.hprof_lines.proofs.WholeNames.{names_class_same}
 use Rattle.hprof_meaning.specs.BareLabels.{AreBareLabels, IsBareLabel, IsBareLabelOf}
 
 module _ (ids : IdSize) (facts all : List FactValue) (whole : IsWhole ids facts all) where

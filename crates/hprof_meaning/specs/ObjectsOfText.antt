@@ -3,7 +3,7 @@ use Rattle.std.specs.Prelude.{◌≡◌, ℕ, List}
 use Rattle.hprof_values.specs.declared.ids.IdSize.{IdSize}
 use Rattle.hprof_items.specs.FactValue.{FactValue}
 use Rattle.hprof_histogram.specs.declared.objects.SizedObject.{SizedObject}
-use Rattle.hprof_reports.specs.ObjectsText.{objects_text}
+use Rattle.hprof_lines.specs.ObjectsText.{objects_text}
 use Rattle.hprof_meaning.specs.ObjectsOf.{AreObjectsOf}
 
 -- the text is the report of these facts on the classes: a line for each of their objects, as the report on one class has it

@@ -4,16 +4,16 @@ ghost use Rattle.std.specs.Prelude.{◌≡◌, ℕ, List};
 ghost use Rattle.std.specs.List.Sorted.{IsStrictlyIncreasing};
 ghost use Rattle.hprof_devices.specs.declared.health.Health.TheVariants.{Well};
 ghost use Rattle.hprof_heap.specs.HeapFacts.{facts_of, size_of};
-ghost use Rattle.hprof_reports.specs.Passed.{EndsPassed};
-ghost use Rattle.hprof_reports.specs.Stopping.{LeavesTarget, WritesText};
+ghost use Rattle.hprof_lines.specs.Passed.{EndsPassed};
+ghost use Rattle.hprof_lines.specs.Stopping.{LeavesTarget, WritesText};
 ghost use Rattle.hprof_meaning.specs.ObjectsOfText.{IsObjectsOfText};
 
 use hprof_devices::Target;
 use hprof_engine::WriteStop;
 use hprof_heap::{Heap, holds_of_heap};
 use hprof_histogram::{Chosen, chosen_objects};
+use hprof_lines::{stop_of_pass, write_object_lines};
 use hprof_passes::{InHeap, Objects, PassStop};
-use hprof_reports::{stop_of_pass, write_object_lines};
 use std::alloc::Global;
 
 /// Writes a line for each instance and each array of objects of the classes, with the bytes of the object, the largest first, and nothing

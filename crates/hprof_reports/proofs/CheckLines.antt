@@ -15,7 +15,7 @@ use Rattle.hprof_stream.specs.declared.summary.PartSummary.{PartSummary}
 use Rattle.hprof_rows.specs.declared.table.Table.{Table}
 use Rattle.hprof_rows.specs.Tables.{facts_of_table}
 use Rattle.hprof_reports.specs.Check.{all_tables, check_text, part_line, part_lines, table_word, table_line, version_text, yes_or_no}
-use Rattle.hprof_reports.specs.Line.{count_line}
+use Rattle.hprof_lines.specs.Line.{count_line}
 
 -- ---- the line of a part
 

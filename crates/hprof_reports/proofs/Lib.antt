@@ -1,14 +1,12 @@
 pub mod Counts
 pub mod Slices
 pub mod CheckLines
-pub mod TextWriting
 pub mod ObjectParts
 pub mod PathTold
 pub mod ClassLists
-pub mod PrintedPieces
 pub mod KnownChains
 pub mod Places
 pub mod Finding
 pub mod SomeRoots
-pub mod WholeNames
-pub mod PassedEnds
+pub mod Contents
+pub mod WholeDumps

@@ -12,7 +12,7 @@ use Rattle.hprof_rows.specs.declared.table.Table.{Table}
 use Rattle.hprof_rows.specs.declared.table.Table.TheVariants as tables
 use Rattle.hprof_rows.specs.Tables.{facts_of_table}
 use Rattle.hprof_reports.specs.Counts.{IsCountOf}
-use Rattle.hprof_reports.specs.Line.{count_line}
+use Rattle.hprof_lines.specs.Line.{count_line}
 
 -- ---- parts
 

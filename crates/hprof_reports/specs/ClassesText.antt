@@ -10,7 +10,7 @@ use Rattle.hprof_histogram.specs.declared.counted.Counted.{Counted}
 use Rattle.hprof_histogram.specs.declared.row.Kind.TheVariants as kinds
 use Rattle.hprof_histogram.specs.CountedKinds.{counted_of}
 use Rattle.hprof_naming.specs.Naming.{Naming, IsNaming}
-use Rattle.hprof_reports.specs.Line.{line_of, text_of_lines}
+use Rattle.hprof_lines.specs.Line.{line_of, text_of_lines}
 use Rattle.hprof_reports.specs.ClassDumps.{AreClassDumps}
 
 -- the objects of a class, and its label

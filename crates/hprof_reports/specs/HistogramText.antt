@@ -12,7 +12,7 @@ use Rattle.hprof_histogram.specs.declared.row.Row.{Row}
 use Rattle.hprof_histogram.specs.Histogram.{IsHistogram}
 use Rattle.hprof_naming.specs.Naming.{Naming, IsNaming}
 use Rattle.hprof_naming.specs.TypeWord.{type_word}
-use Rattle.hprof_reports.specs.Line.{line_of, text_of_lines}
+use Rattle.hprof_lines.specs.Line.{line_of, text_of_lines}
 
 -- the bytes and the number of the objects of a class that has this label
 abbrev pub class_row_line : (bytes count class : ℕ) → List ℕ → List ℕ

@@ -1,10 +1,7 @@
-pub mod Line
 pub mod Counts
 pub mod Check
 pub mod OneCheck
 pub mod Shown
-pub mod Stopping
-pub mod Passed
 pub mod ObjectText
 pub mod OneObject
 pub mod HistogramText
@@ -16,8 +13,6 @@ pub mod OneRefs
 pub mod ClassDumps
 pub mod ClassesText
 pub mod OneClasses
-pub mod ObjectsText
-pub mod OneObjects
 pub mod TextReport
 pub mod OneText
 pub mod Skipped

@@ -18,7 +18,7 @@ use Rattle.hprof_layouts.specs.declared.field_value.FieldValue.{FieldValue}
 use Rattle.hprof_layouts.specs.Fields.{FieldsValue, Values, Missing, Cyclic, WidthDiffers, AreFields}
 use Rattle.hprof_naming.specs.Naming.{Naming, IsNaming}
 use Rattle.hprof_naming.specs.TypeWord.{type_word}
-use Rattle.hprof_reports.specs.Line.{line_of, each_line, text_of_lines}
+use Rattle.hprof_lines.specs.Line.{line_of, each_line, text_of_lines}
 use Rattle.hprof_reports.specs.Shown.{bits_text}
 
 -- ---- a class dump
@@ -117,9 +117,6 @@ object_text naming ids fields (PrimArray id trace elem bytes) = values_line ids 
 object_text naming ids fields other = []
 
 -- ---- the whole
-
-abbrev pub nothing_line : ℕ → List ℕ
-nothing_line id = line_of (codes "nothing at" ∷ id_digits id ∷ [])
 
 abbrev pub found_text : Naming → IdSize → ℕ → FieldsValue → Option ClassValue → Option FactValue → List ℕ
 found_text naming ids id fields None None = nothing_line id

@@ -5,7 +5,7 @@ use Rattle.hprof_values.specs.declared.ids.IdSize.{IdSize}
 use Rattle.hprof_items.specs.FactValue.{FactValue}
 use Rattle.hprof_edges.specs.declared.edge.Edge.{Edge}
 use Rattle.hprof_edges.proofs.SortedEdges.{one_list}
-use Rattle.hprof_reports.specs.Line.{text_of_lines}
+use Rattle.hprof_lines.specs.Line.{text_of_lines}
 use Rattle.hprof_reports.specs.RefsText.{IsRefsText, edge_line}
 
 pub one_refs : (ids : IdSize) (facts : List FactValue) (id : ℕ) (one other : List ℕ) → IsRefsText ids facts id one

@@ -5,7 +5,7 @@ use Rattle.hprof_text.specs.Identifier.{id_digits}
 use Rattle.hprof_values.specs.declared.ids.IdSize.{IdSize}
 use Rattle.hprof_items.specs.FactValue.{FactValue}
 use Rattle.hprof_reach.specs.Reaching.{IsDistanceFromRoots, IsPathFromRoots}
-use Rattle.hprof_reports.specs.Line.{line_of, text_of_lines}
+use Rattle.hprof_lines.specs.Line.{line_of, text_of_lines}
 
 abbrev pub distance_line : ℕ → List ℕ
 distance_line distance = line_of (codes "distance" ∷ decimal distance ∷ [])

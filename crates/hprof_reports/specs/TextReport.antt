@@ -1,19 +1,12 @@
 -- The report `text`: the text of an identifier.
 use Rattle.std.specs.Prelude.{◌≡◌, ℕ, List, [], ◌∷◌, ◌++◌, length, codes}
 use Rattle.std.specs.Fmt.{decimal}
-use Rattle.std.specs.List.{flat_map}
 use Rattle.hprof_text.specs.Identifier.{id_digits}
-use Rattle.hprof_text.specs.Printed.{printed_unit}
 use Rattle.hprof_values.specs.declared.ids.IdSize.{IdSize}
 use Rattle.hprof_items.specs.FactValue.{FactValue}
 use Rattle.hprof_rows.specs.Conflict.{IsConsistent}
 use Rattle.hprof_naming.specs.Texts.{TextValue, Units, NoText, Nothing, IsText}
-use Rattle.hprof_reports.specs.Line.{line_of}
-use Rattle.hprof_reports.specs.ObjectText.{nothing_line}
-
--- the units in print
-abbrev pub printed_units : List ℕ → List ℕ
-printed_units units = flat_map printed_unit units
+use Rattle.hprof_lines.specs.Line.{line_of, nothing_line}
 
 -- the number of units, and the units
 abbrev pub text_start : ℕ → List ℕ

@@ -10,7 +10,7 @@ ghost use Rattle.hprof_heap.specs.HeapFacts.{facts_of, size_of};
 ghost use Rattle.hprof_passes.specs.Passing.{IsWhole, objects_among};
 ghost use Rattle.hprof_reports.specs.Check.{version_text, yes_or_no, part_line, part_lines, table_word, table_line, all_tables, IsBadName};
 ghost use Rattle.hprof_reports.specs.Check.{AreBadNames, IsCheck};
-ghost use Rattle.hprof_reports.specs.Passed.{EndsChecked};
+ghost use Rattle.hprof_lines.specs.Passed.{EndsChecked};
 
 use crate::line::{write_count, write_pieces};
 use hprof_devices::{Target, WriteFault};

@@ -5,11 +5,11 @@ ghost use Rattle.hex.specs.Hex.{encode_lower};
 ghost use Rattle.hprof_devices.specs.declared.health.Health.TheVariants.{Well};
 ghost use Rattle.hprof_devices.specs.Device.{LeavesHealth, Writes};
 ghost use Rattle.hprof_reports.specs.ObjectText.{contents_text};
-ghost use Rattle.hprof_reports.specs.Stopping.{LeavesTarget, WritesText};
+ghost use Rattle.hprof_lines.specs.Stopping.{LeavesTarget, WritesText};
 
-use crate::lines::write_str;
 use hprof_devices::{Target, WriteFault, push_all};
 use hprof_engine::WriteStop;
+use hprof_lines::write_str;
 
 /// The number of bytes that are written at a time.
 const PIECE_LEN: usize = 512;

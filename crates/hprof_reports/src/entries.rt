@@ -1,10 +1,16 @@
 //! Lists of entries, each of which a report prints in a line of its own.
 
-ghost use Rattle.std.specs.Prelude.{◌≡◌, ℕ, List, IfOk, map, string_bytes};
+ghost use Rattle.std.specs.Prelude.{◌≡◌, ℕ, List, IfOk, length, map, string_bytes};
+ghost use Rattle.hprof_devices.specs.declared.health.Health.TheVariants.{Well};
 ghost use Rattle.hprof_heap.specs.HeapFacts.{facts_of, size_of};
 ghost use Rattle.hprof_naming.specs.Naming.{IsNaming, Naming};
+ghost use Rattle.hprof_lines.specs.Line.{each_line, text_of_lines};
+ghost use Rattle.hprof_lines.specs.Stopping.{LeavesTarget, WritesText};
 
+use hprof_devices::Target;
+use hprof_engine::WriteStop;
 use hprof_heap::Heap;
+use hprof_lines::write_line;
 use hprof_values::{EntryIterator, Ids, ListEntry};
 use std::alloc::{AllocError, Global};
 
@@ -70,4 +76,28 @@ impl<'a, E: Entry> Entries for &'a [E] {
         *self = rest;
         Some(*first)
     }
+}
+
+/// Writes the line of each entry, of which there are `len`. If it stops, the bytes written are the beginning of the lines.
+pub(crate) fn write_entries<L: Entries, W: Target>(
+    alloc: Global,
+    heap: &Heap,
+    len: usize,
+    mut entries: L,
+    target: &mut W,
+) -> Result<(), WriteStop>
+    requires len { length (L.left entries) ≡ len }
+    requires well { W.health target.old ≡ Well }
+    ensures bytes { (naming : Naming) (all : List L.Item) → IsNaming (facts_of heap.now) naming → L.left entries ≡ all
+        → WritesText (W.written target.old) (W.written target.new) result
+        (text_of_lines (each_line (L.Item.line_at naming (size_of heap.now)) 0 all)) }
+    ensures health { LeavesTarget result (W.health target.new) }
+{
+    for place in 0..len as u64 {
+        let Some(entry) = entries.next_entry() else {
+            return Ok(());
+        };
+        write_line(entry.line(alloc, heap, place), target)?;
+    }
+    Ok(())
 }

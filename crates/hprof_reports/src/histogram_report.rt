@@ -9,15 +9,14 @@ ghost use Rattle.hprof_histogram.specs.Histogram.{IsHistogram};
 ghost use Rattle.hprof_naming.specs.ClassNames.{AreClassNames};
 ghost use Rattle.hprof_naming.specs.Naming.{IsNaming, Naming};
 ghost use Rattle.hprof_reports.specs.HistogramText.{IsHistogramText, array_row_line, class_row_line, row_line, rows_text};
-ghost use Rattle.hprof_reports.specs.Passed.{EndsPassed};
-ghost use Rattle.hprof_reports.specs.Stopping.{LeavesTarget, WritesText};
+ghost use Rattle.hprof_lines.specs.Passed.{EndsPassed};
+ghost use Rattle.hprof_lines.specs.Stopping.{LeavesTarget, WritesText};
 
-use crate::lines::write_line;
-use crate::passed::stop_of_pass;
 use hprof_devices::Target;
 use hprof_engine::WriteStop;
 use hprof_heap::{Heap, holds_of_heap};
 use hprof_histogram::{Kind, Row, histogram_over};
+use hprof_lines::{stop_of_pass, write_line};
 use hprof_naming::{ClassNames, label_of, type_word};
 use hprof_passes::{InHeap, Objects, PassStop};
 use hprof_values::Basic;

@@ -3,7 +3,7 @@
 ghost use Rattle.std.specs.Prelude.{◌≡◌, flat_map};
 ghost use Rattle.hprof_devices.specs.declared.health.Health.TheVariants.{Well};
 ghost use Rattle.hprof_devices.specs.Device.{Writes, LeavesHealth};
-ghost use Rattle.hprof_reports.specs.Line.{count_line};
+ghost use Rattle.hprof_lines.specs.Line.{count_line};
 
 use hprof_devices::{Target, WriteFault, push_all};
 use itoa::Buffer;

@@ -8,18 +8,19 @@ ghost use Rattle.hprof_heap.specs.ClassDump.{class_value};
 ghost use Rattle.hprof_heap.specs.ObjectDump.{fact_of_object};
 ghost use Rattle.hprof_layouts.specs.Fields.{AreFields, FieldsValue, fields_value};
 ghost use Rattle.hprof_naming.specs.Naming.{IsNaming, Naming};
-ghost use Rattle.hprof_reports.specs.ObjectText.{IsObjectText, class_text, fields_text, found_text};
-ghost use Rattle.hprof_reports.specs.ObjectText.{nothing_line, object_text, why_no_fields};
-ghost use Rattle.hprof_reports.specs.Stopping.{LeavesTarget, WritesText};
+ghost use Rattle.hprof_reports.specs.ObjectText.{IsObjectText, class_text, fields_text, found_text, object_text, why_no_fields};
+ghost use Rattle.hprof_lines.specs.Line.{nothing_line};
+ghost use Rattle.hprof_lines.specs.Stopping.{LeavesTarget, WritesText};
 
 use crate::class_lines::class_line;
 use crate::contents::write_contents;
-use crate::lines::{write_entries, write_line};
+use crate::entries::write_entries;
 use crate::object_lines::{elements_line, instance_line, values_line};
 use hprof_devices::Target;
 use hprof_engine::WriteStop;
 use hprof_heap::{ClassDump, Heap, ObjectDump, find_class, find_object, holds_of_heap, id_size};
 use hprof_layouts::{Fields, fields};
+use hprof_lines::write_line;
 use std::alloc::{AllocError, Global};
 
 /// Writes the contents of a class dump.
@@ -129,13 +130,6 @@ fn write_object_dump<W: Target>(
             write_contents(bytes, target)
         }
     }
-}
-
-/// Returns the line of an identifier that no dump has.
-pub fn nothing_line(alloc: Global, id: u64) -> Result<String, AllocError>
-    ensures { IfOk result (λ line. string_bytes line ≡ nothing_line id) }
-{
-    format!(in alloc; "nothing at {id:x}\n")
 }
 
 /// Writes the dumps that were found of an identifier.

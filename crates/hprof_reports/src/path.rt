@@ -6,11 +6,11 @@ ghost use Rattle.hprof_values.specs.declared.ids.IdSize.{IdSize};
 ghost use Rattle.hprof_items.specs.FactValue.{FactValue};
 ghost use Rattle.hprof_reach.specs.Reaching.{IsReach};
 ghost use Rattle.hprof_reports.specs.PathText.{IsPathText, distance_line, node_line, nodes_text};
-ghost use Rattle.hprof_reports.specs.Stopping.{LeavesTarget, WritesText};
+ghost use Rattle.hprof_lines.specs.Stopping.{LeavesTarget, WritesText};
 
-use crate::lines::{write_line, write_str};
 use hprof_devices::Target;
 use hprof_engine::WriteStop;
+use hprof_lines::{write_line, write_str};
 use hprof_reach::Reach;
 use std::alloc::{AllocError, Global};
 

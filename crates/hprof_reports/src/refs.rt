@@ -2,12 +2,11 @@
 
 ghost use Rattle.std.specs.Prelude.{◌≡◌, map};
 ghost use Rattle.hprof_devices.specs.declared.health.Health.TheVariants.{Well};
-ghost use Rattle.hprof_reports.specs.Line.{text_of_lines};
+ghost use Rattle.hprof_lines.specs.Line.{text_of_lines};
 ghost use Rattle.hprof_reports.specs.RefsText.{edge_line, via_word};
-ghost use Rattle.hprof_reports.specs.Stopping.{LeavesTarget, WritesText};
+ghost use Rattle.hprof_lines.specs.Stopping.{LeavesTarget, WritesText};
 
-use crate::entries::Entry;
-use crate::lines::write_entries;
+use crate::entries::{Entry, write_entries};
 use hprof_devices::Target;
 use hprof_edges::{Edge, Via};
 use hprof_engine::WriteStop;

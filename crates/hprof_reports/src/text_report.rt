@@ -5,16 +5,14 @@ ghost use Rattle.hprof_devices.specs.declared.health.Health.TheVariants.{Well};
 ghost use Rattle.hprof_naming.specs.Texts.{text_value};
 ghost use Rattle.hprof_naming.specs.Units.{units_of};
 ghost use Rattle.hprof_heap.specs.HeapFacts.{facts_of, size_of};
-ghost use Rattle.hprof_reports.specs.ObjectText.{nothing_line};
-ghost use Rattle.hprof_reports.specs.Stopping.{LeavesTarget, WritesText};
+ghost use Rattle.hprof_lines.specs.Line.{nothing_line};
+ghost use Rattle.hprof_lines.specs.Stopping.{LeavesTarget, WritesText};
 ghost use Rattle.hprof_reports.specs.TextReport.{IsTextLine, no_text_line, text_line, text_start, units_line};
 
-use crate::lines::{write_line, write_str};
-use crate::object::nothing_line;
-use crate::units::write_units;
 use hprof_devices::Target;
 use hprof_engine::WriteStop;
 use hprof_heap::{Heap, holds_of_heap};
+use hprof_lines::{nothing_line, write_line, write_str, write_units};
 use hprof_naming::{Text, Units, text_of};
 use std::alloc::{AllocError, Global};
 

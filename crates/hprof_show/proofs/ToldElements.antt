@@ -3,7 +3,7 @@ use Rattle.std.proofs.Common.{◌≡◌, ◌==◌, ◌≤◌, ◌<◌, ℕ, ◌+
 use Rattle.std.proofs.Common.{refl, ap, arith, ◌∙◌}
 use Rattle.std.specs.Prelude.{nat_le}
 use Rattle.std.proofs.lemmas.Bool.{eqb-true, false_from_ne_true, leb-false, leb-true}
-use Rattle.hprof_reports.specs.Line.{text_of_lines}
+use Rattle.hprof_lines.specs.Line.{text_of_lines}
 use Rattle.hprof_describe.specs.Findings.{Findings}
 use Rattle.hprof_show.specs.ElementLines.{Element, element_line, elements_text, more_line, nulls_line}
 use Rattle.hprof_show.specs.ElementLines.{present_from, present_text, told_line}

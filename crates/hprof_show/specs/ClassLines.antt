@@ -7,7 +7,7 @@ use Rattle.hprof_values.specs.declared.value.Field.{Field}
 use Rattle.hprof_values.specs.Value.{constant_of, static_of, field_of}
 use Rattle.hprof_heap.specs.Classes.{ClassValue}
 use Rattle.hprof_naming.specs.TypeWord.{type_word}
-use Rattle.hprof_reports.specs.Line.{each_line, text_of_lines}
+use Rattle.hprof_lines.specs.Line.{each_line, text_of_lines}
 use Rattle.hprof_describe.specs.Findings.{Findings}
 use Rattle.hprof_describe.specs.Nodes.{node_text}
 use Rattle.hprof_describe.specs.References.{reference_text}

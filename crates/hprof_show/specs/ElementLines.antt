@@ -1,7 +1,7 @@
 -- The elements of an array of objects, told for people.
 use Rattle.std.specs.Prelude.{ℕ, ◌+◌, ◌-◌, ◌==◌, nat_le, List, [], ◌∷◌, ◌++◌, length, map, take, codes, if◌then◌else◌}
 use Rattle.std.specs.Fmt.{decimal}
-use Rattle.hprof_reports.specs.Line.{text_of_lines}
+use Rattle.hprof_lines.specs.Line.{text_of_lines}
 use Rattle.hprof_describe.specs.Findings.{Findings}
 use Rattle.hprof_describe.specs.References.{reference_text}
 use Rattle.hprof_show.specs.ClassLines.{equal_line}

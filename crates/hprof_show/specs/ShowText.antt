@@ -6,7 +6,7 @@ use Rattle.hprof_items.specs.FactValue.{FactValue, Instance, ObjArray, PrimArray
 use Rattle.hprof_rows.specs.Conflict.{IsConsistent}
 use Rattle.hprof_heap.specs.Classes.{ClassValue}
 use Rattle.hprof_layouts.specs.Fields.{AreFields, FieldsValue}
-use Rattle.hprof_reports.specs.ObjectText.{nothing_line}
+use Rattle.hprof_lines.specs.Line.{nothing_line}
 use Rattle.hprof_describe.specs.Findings.{AreFindings, Findings}
 use Rattle.hprof_describe.specs.References.{object_words}
 use Rattle.hprof_show.specs.ClassLines.{class_text}

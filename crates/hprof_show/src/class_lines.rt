@@ -5,7 +5,7 @@ ghost use Rattle.hprof_devices.specs.declared.health.Health.TheVariants.{Well};
 ghost use Rattle.hprof_heap.specs.ClassDump.{class_value};
 ghost use Rattle.hprof_heap.specs.HeapFacts.{facts_of, size_of};
 ghost use Rattle.hprof_naming.specs.ClassNames.{AreClassNames};
-ghost use Rattle.hprof_reports.specs.Stopping.{LeavesTarget, WritesText};
+ghost use Rattle.hprof_lines.specs.Stopping.{LeavesTarget, WritesText};
 ghost use Rattle.hprof_describe.specs.Findings.{AreFindings, Findings};
 ghost use Rattle.hprof_describe.specs.Nodes.{node_text};
 ghost use Rattle.hprof_show.specs.ClassLines.{class_text, named_line, referred_text};
@@ -15,8 +15,8 @@ use hprof_describe::{node_text, reference_text};
 use hprof_devices::Target;
 use hprof_engine::WriteStop;
 use hprof_heap::{ClassDump, Heap};
+use hprof_lines::write_line;
 use hprof_naming::ClassNames;
-use hprof_reports::write_line;
 use std::alloc::{AllocError, Global};
 
 /// Returns the line of a class.

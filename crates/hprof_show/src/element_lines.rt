@@ -4,18 +4,17 @@ ghost use Rattle.std.specs.Prelude.{◌≡◌, IfOk, length, string_bytes};
 ghost use Rattle.hprof_devices.specs.declared.health.Health.TheVariants.{Well};
 ghost use Rattle.hprof_heap.specs.HeapFacts.{facts_of, size_of};
 ghost use Rattle.hprof_naming.specs.ClassNames.{AreClassNames};
-ghost use Rattle.hprof_reports.specs.Stopping.{LeavesTarget, WritesText};
+ghost use Rattle.hprof_lines.specs.Stopping.{LeavesTarget, WritesText};
 ghost use Rattle.hprof_values.specs.Lists.{identifiers_of};
 ghost use Rattle.hprof_describe.specs.Findings.{AreFindings, Findings};
-ghost use Rattle.hprof_show.specs.ElementLines.{element_line, elements_text, more_line, nulls_line, present_from};
-ghost use Rattle.hprof_show.specs.ElementLines.{present_text, told_line};
+ghost use Rattle.hprof_show.specs.ElementLines.{element_line, elements_text, more_line, nulls_line, present_from, present_text, told_line};
 
 use hprof_describe::reference_text;
 use hprof_devices::Target;
 use hprof_engine::WriteStop;
 use hprof_heap::Heap;
+use hprof_lines::write_line;
 use hprof_naming::ClassNames;
-use hprof_reports::write_line;
 use hprof_values::IdList;
 use std::alloc::{AllocError, Global};
 

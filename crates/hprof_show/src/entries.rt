@@ -4,8 +4,8 @@ ghost use Rattle.std.specs.Prelude.{◌≡◌, ℕ, List, IfOk, map, string_byte
 ghost use Rattle.hprof_devices.specs.declared.health.Health.TheVariants.{Well};
 ghost use Rattle.hprof_heap.specs.HeapFacts.{facts_of, size_of};
 ghost use Rattle.hprof_naming.specs.ClassNames.{AreClassNames};
-ghost use Rattle.hprof_reports.specs.Line.{each_line, text_of_lines};
-ghost use Rattle.hprof_reports.specs.Stopping.{LeavesTarget, WritesText};
+ghost use Rattle.hprof_lines.specs.Line.{each_line, text_of_lines};
+ghost use Rattle.hprof_lines.specs.Stopping.{LeavesTarget, WritesText};
 ghost use Rattle.hprof_describe.specs.Findings.{AreFindings, Findings};
 ghost use Rattle.hprof_values.specs.Lists.{entries_of};
 ghost use Rattle.hprof_show.specs.ClassLines.{constant_line, own_line, static_line};
@@ -14,8 +14,8 @@ use hprof_describe::value_text;
 use hprof_devices::Target;
 use hprof_engine::WriteStop;
 use hprof_heap::Heap;
+use hprof_lines::write_line;
 use hprof_naming::{ClassNames, name_text, type_word};
-use hprof_reports::write_line;
 use hprof_values::{Constant, EntryList, Field, ListEntry, Static};
 use std::alloc::{AllocError, Global};
 

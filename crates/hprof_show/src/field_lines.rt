@@ -1,11 +1,11 @@
 //! The fields of an instance, each in a line.
 
-ghost use Rattle.std.specs.Prelude.{◌≡◌, ℕ, IfOk, string_bytes};
+ghost use Rattle.std.specs.Prelude.{◌≡◌, IfOk, string_bytes};
 ghost use Rattle.hprof_devices.specs.declared.health.Health.TheVariants.{Well};
 ghost use Rattle.hprof_heap.specs.HeapFacts.{facts_of, size_of};
 ghost use Rattle.hprof_layouts.specs.Fields.{FieldsValue, AreFields};
 ghost use Rattle.hprof_naming.specs.ClassNames.{AreClassNames};
-ghost use Rattle.hprof_reports.specs.Stopping.{LeavesTarget, WritesText};
+ghost use Rattle.hprof_lines.specs.Stopping.{LeavesTarget, WritesText};
 ghost use Rattle.hprof_describe.specs.Findings.{AreFindings, Findings};
 ghost use Rattle.hprof_show.specs.FieldLines.{field_line, fields_from, fields_text, from_line};
 
@@ -14,8 +14,9 @@ use hprof_devices::Target;
 use hprof_engine::WriteStop;
 use hprof_heap::{Heap, holds_of_heap};
 use hprof_layouts::{FieldValue, Fields, fields};
+use hprof_lines::{write_line, write_str};
 use hprof_naming::{ClassNames, name_text};
-use hprof_reports::{no_fields_line, write_line, write_str};
+use hprof_reports::no_fields_line;
 use std::alloc::{AllocError, Global};
 
 /// Returns the line of a field.

@@ -6,7 +6,7 @@ ghost use Rattle.hprof_values.specs.Basic.{width_of_basic};
 ghost use Rattle.hprof_heap.specs.HeapFacts.{facts_of, size_of};
 ghost use Rattle.hprof_naming.specs.ClassNames.{AreClassNames};
 ghost use Rattle.hprof_threads.specs.ThreadNames.{units_value};
-ghost use Rattle.hprof_reports.specs.Stopping.{LeavesTarget, WritesText};
+ghost use Rattle.hprof_lines.specs.Stopping.{LeavesTarget, WritesText};
 ghost use Rattle.hprof_describe.specs.Findings.{AreFindings, Findings};
 ghost use Rattle.hprof_show.specs.NumberLines.{number_text, numbers_text, quoted_line, row_line, rows_text, values_text};
 
@@ -15,8 +15,8 @@ use hprof_describe::{quoted, value_text};
 use hprof_devices::Target;
 use hprof_engine::WriteStop;
 use hprof_heap::{Heap, id_size};
+use hprof_lines::write_line;
 use hprof_naming::{ClassNames, Coding, Units};
-use hprof_reports::write_line;
 use hprof_values::Basic;
 use hprof_values::number::bits_at;
 use std::alloc::{AllocError, Global};

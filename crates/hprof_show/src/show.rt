@@ -8,7 +8,7 @@ ghost use Rattle.hprof_heap.specs.HeapFacts.{facts_of, size_of};
 ghost use Rattle.hprof_heap.specs.ObjectDump.{fact_of_object};
 ghost use Rattle.hprof_layouts.specs.Fields.{AreFields, FieldsValue};
 ghost use Rattle.hprof_naming.specs.ClassNames.{AreClassNames};
-ghost use Rattle.hprof_reports.specs.Stopping.{LeavesTarget, WritesText};
+ghost use Rattle.hprof_lines.specs.Stopping.{LeavesTarget, WritesText};
 ghost use Rattle.hprof_describe.specs.Findings.{AreFindings, Findings};
 ghost use Rattle.hprof_show.specs.ShowText.{IsShowText, contents_text, found_text, object_line, object_text};
 
@@ -20,8 +20,8 @@ use hprof_describe::object_words;
 use hprof_devices::Target;
 use hprof_engine::WriteStop;
 use hprof_heap::{ClassDump, Heap, ObjectDump, find_class, find_object, holds_of_heap};
+use hprof_lines::{nothing_line, write_line};
 use hprof_naming::ClassNames;
-use hprof_reports::{nothing_line, write_line};
 use std::alloc::{AllocError, Global};
 
 /// Returns the line of an object.

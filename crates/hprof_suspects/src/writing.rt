@@ -7,7 +7,7 @@ ghost use Rattle.hprof_edges.specs.LeftOut.{IsLeftOut, fields_in};
 ghost use Rattle.hprof_edges.specs.declared.edge.Edge.{Edge};
 ghost use Rattle.hprof_heap.specs.HeapFacts.{facts_of, size_of};
 ghost use Rattle.hprof_naming.specs.ClassNames.{AreClassNames};
-ghost use Rattle.hprof_reports.specs.Stopping.{LeavesTarget, WritesText};
+ghost use Rattle.hprof_lines.specs.Stopping.{LeavesTarget, WritesText};
 ghost use Rattle.hprof_weak.specs.Weak.{IsWeak};
 ghost use Rattle.hprof_retained.specs.Tree.{IsTreeOf};
 ghost use Rattle.hprof_retained.specs.Weakly.{AreWeaklyHeld};
@@ -18,8 +18,8 @@ use hprof_devices::Target;
 use hprof_edges::LeftOut;
 use hprof_engine::WriteStop;
 use hprof_heap::{Heap, holds_of_heap};
+use hprof_lines::write_line;
 use hprof_naming::ClassNames;
-use hprof_reports::write_line;
 use hprof_retained::{Retained, WeaklyHeld};
 use std::alloc::Global;
 

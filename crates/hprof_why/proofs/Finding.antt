@@ -9,7 +9,7 @@ use Rattle.hprof_heap.specs.declared.object_dump.ObjectDump.{ObjectDump}
 use Rattle.hprof_heap.specs.ClassDump.{IsFoundClass, class_value}
 use Rattle.hprof_heap.specs.Classes.{ClassValue}
 use Rattle.hprof_heap.specs.ObjectDump.{IsFoundObject, fact_of_object}
-use Rattle.hprof_reports.specs.ObjectText.{nothing_line}
+use Rattle.hprof_lines.specs.Line.{nothing_line}
 use Rattle.hprof_describe.proofs.FoundOnce.{class_found, object_found}
 use Rattle.hprof_why.specs.WhyText.{ArePathFindings, IsFoundText, IsReachedText, IsWhyText, PathFindings}
 

@@ -13,7 +13,7 @@ use Rattle.hprof_reach.specs.Reaching.{IsDistanceBy, IsPathBy}
 use Rattle.hprof_reach.proofs.Choices.{same_distance, same_path}
 use Rattle.hprof_reach.proofs.SomeReach.{some_distance_by, some_path_by}
 use Rattle.hprof_weak.specs.Weak.{IsStrong}
-use Rattle.hprof_reports.specs.ObjectText.{nothing_line}
+use Rattle.hprof_lines.specs.Line.{nothing_line}
 use Rattle.hprof_describe.proofs.OneFinding.{findings_exist}
 use Rattle.hprof_holders.specs.Steps.{AreEdgeFindings, EdgeFindings}
 use Rattle.hprof_holders.proofs.SomeSteps.{names_exist}

@@ -12,7 +12,7 @@ use Rattle.hprof_edges.specs.LeastEdge.{IsLeastEdgeBy}
 use Rattle.hprof_reach.specs.Reaching.{IsDistanceBy, IsPathBy}
 use Rattle.hprof_reach.specs.Roots.{AreRootsOf}
 use Rattle.hprof_weak.specs.Weak.{IsStrong}
-use Rattle.hprof_reports.specs.ObjectText.{nothing_line}
+use Rattle.hprof_lines.specs.Line.{nothing_line}
 use Rattle.hprof_reports.specs.PathText.{distance_line}
 use Rattle.hprof_describe.specs.Findings.{AreFindings, Findings}
 use Rattle.hprof_describe.specs.Nodes.{kind_text, node_text}

@@ -7,7 +7,7 @@ ghost use Rattle.hprof_edges.specs.declared.edge.Edge.{Edge};
 ghost use Rattle.hprof_describe.specs.Findings.{AreFindings, Findings};
 ghost use Rattle.hprof_describe.specs.Nodes.{node_text};
 ghost use Rattle.hprof_naming.specs.Naming.{IsNaming, Naming};
-ghost use Rattle.hprof_reports.specs.Stopping.{LeavesTarget, WritesText};
+ghost use Rattle.hprof_lines.specs.Stopping.{LeavesTarget, WritesText};
 ghost use Rattle.hprof_holders.specs.Steps.{EdgeFindings, step_text};
 ghost use Rattle.hprof_holders.specs.Views.{IsView};
 ghost use Rattle.hprof_why.specs.WhyText.{ArePathFindings, PathFindings};
@@ -21,7 +21,7 @@ use hprof_edges::LeftOut;
 use hprof_engine::WriteStop;
 use hprof_heap::Heap;
 use hprof_holders::{HeapView, Step, step_text};
-use hprof_reports::write_line;
+use hprof_lines::write_line;
 use std::alloc::{AllocError, Global};
 
 /// Returns the line of a step.

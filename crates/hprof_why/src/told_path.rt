@@ -4,7 +4,7 @@ ghost use Rattle.std.specs.Prelude.{ℕ, ◌≡◌, List};
 ghost use Rattle.hprof_devices.specs.declared.health.Health.TheVariants.{Well};
 ghost use Rattle.hprof_heap.specs.HeapFacts.{facts_of, size_of};
 ghost use Rattle.hprof_edges.specs.LeftOut.{IsKept, fields_in};
-ghost use Rattle.hprof_reports.specs.Stopping.{LeavesTarget, WritesText};
+ghost use Rattle.hprof_lines.specs.Stopping.{LeavesTarget, WritesText};
 ghost use Rattle.hprof_holders.specs.Views.{IsView};
 ghost use Rattle.hprof_why.specs.WhyText.{ArePathFindings, IsToldPath, PathFindings};
 
@@ -14,8 +14,9 @@ use hprof_devices::Target;
 use hprof_edges::LeftOut;
 use hprof_engine::WriteStop;
 use hprof_holders::{HeapView, write_roots};
+use hprof_lines::write_line;
 use hprof_reach::roots_of;
-use hprof_reports::{distance_line, write_line};
+use hprof_reports::distance_line;
 use std::alloc::Global;
 
 /// Writes a path: the distance, the roots of the first node, this node, and the parts of the rest. Each step is by the least edge without

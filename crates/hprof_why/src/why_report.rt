@@ -1,12 +1,12 @@
 //! The report `why`: the shortest path of strong references from a GC root, with names.
 
-ghost use Rattle.std.specs.Prelude.{◌≡◌, ◌⊎◌, ℕ, List, IfSome};
+ghost use Rattle.std.specs.Prelude.{◌≡◌, ℕ, List, IfSome};
 ghost use Rattle.hprof_devices.specs.declared.health.Health.TheVariants.{Well};
 ghost use Rattle.hprof_edges.specs.LeftOut.{IsKept, fields_in};
 ghost use Rattle.hprof_heap.specs.HeapFacts.{facts_of, size_of};
 ghost use Rattle.hprof_holders.specs.Views.{IsView};
 ghost use Rattle.hprof_reach.specs.Reaching.{IsReach, IsReachBy};
-ghost use Rattle.hprof_reports.specs.Stopping.{LeavesTarget, WritesText};
+ghost use Rattle.hprof_lines.specs.Stopping.{LeavesTarget, WritesText};
 ghost use Rattle.hprof_why.specs.Paths.{IsOtherwise};
 ghost use Rattle.hprof_why.specs.WhyText.{ArePathFindings, IsReachedText, IsWhyText, PathFindings};
 
@@ -17,8 +17,8 @@ use hprof_edges::LeftOut;
 use hprof_engine::WriteStop;
 use hprof_heap::{find_class, find_object, holds_of_heap};
 use hprof_holders::HeapView;
+use hprof_lines::{nothing_line, write_line, write_str};
 use hprof_reach::Reach;
-use hprof_reports::{nothing_line, write_line, write_str};
 use std::alloc::Global;
 
 /// Writes the path to an identifier by all edges, behind the line that tells so, or that none leads there. If it stops, some of it was

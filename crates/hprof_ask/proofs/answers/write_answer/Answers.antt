@@ -1,6 +1,6 @@
-use Rattle.std.proofs.Common.{◌++◌, ℕ, List, refl, subst, Err, Result}
-use Rattle.hprof_reports.proofs.TextWriting.{text_stops, text_then}
-use Rattle.hprof_reports.specs.Stopping.{WritesText}
+use Rattle.std.proofs.Common.{◌++◌, refl, subst, Err, Result}
+use Rattle.hprof_lines.proofs.TextWriting.{text_stops, text_then}
+use Rattle.hprof_lines.specs.Stopping.{WritesText}
 use Rattle.hprof_engine.specs.declared.product.WriteStop.{WriteStop}
 use Rattle.hprof_ask.specs.HeapAnswers.{behind_reply}
 use Rattle.hprof_ask.proofs.answers.write_answer.Goals as goal

@@ -1,6 +1,6 @@
 use Rattle.std.proofs.lemmas.Result.{err_from_is_err_and}
-use Rattle.hprof_reports.proofs.TextWriting.{text_stops, text_then}
-use Rattle.hprof_reports.specs.Stopping.{WritesText}
+use Rattle.hprof_lines.proofs.TextWriting.{text_stops, text_then}
+use Rattle.hprof_lines.specs.Stopping.{WritesText}
 use Rattle.std.proofs.Common.{◌≡◌, ◌∙◌, ap, subst}
 use Rattle.std.specs.Io.KnownBytes.{Appends}
 use Rattle.hprof_ask.specs.Words.{follows_of, follows_text, word_of}

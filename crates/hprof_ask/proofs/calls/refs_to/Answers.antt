@@ -1,5 +1,5 @@
 use Rattle.std.specs.Prelude.{⊤, map}
-use Rattle.std.proofs.Common.{List, Result, Some, Ok, Err, refl, sym, subst}
+use Rattle.std.proofs.Common.{Result, Some, Ok, Err, refl, sym, subst}
 use Rattle.hprof_heap.specs.HeapFacts.{facts_of, size_of}
 use Rattle.hprof_engine.specs.declared.product.WriteStop.{WriteStop}
 use Rattle.hprof_engine.specs.declared.tool_fault.ToolFault.{ToolFault}
@@ -7,7 +7,7 @@ use Rattle.hprof_engine.specs.Makes.{Makes}
 use Rattle.hprof_engine.proofs.Answers.{summaries_held}
 use Rattle.hprof_engine.proofs.Making.{refused, ended}
 use Rattle.hprof_graph.specs.Indexed.{indexed_heap}
-use Rattle.hprof_reports.specs.Line.{text_of_lines}
+use Rattle.hprof_lines.specs.Line.{text_of_lines}
 use Rattle.hprof_reports.specs.RefsText.{edge_line}
 use Rattle.hprof_ask.specs.declared.report.NodeReport.TheVariants as nodes
 use Rattle.hprof_ask.specs.declared.report.Node.TheVariants as that

@@ -1,7 +1,7 @@
 use Rattle.std.proofs.Common.{◌+◌, drop, get_or}
 use Rattle.std.proofs.lemmas.Result.{err_from_is_err_and}
 use Rattle.hprof_devices.proofs.Writes.{Pushed-more}
-use Rattle.hprof_reports.proofs.TextWriting.{pushed_stops_within}
+use Rattle.hprof_lines.proofs.TextWriting.{pushed_stops_within}
 use Rattle.hprof_by_label.specs.RetainedText.{row_line}
 use Rattle.hprof_by_label.specs.RowValues.{row_value}
 use Rattle.hprof_by_label.proofs.RowLines.{lines_of, next_line, no_row}

@@ -1,6 +1,6 @@
 use Rattle.std.proofs.Common.{◌≡◌, ◌-◌, ◌++◌, take}
 use Rattle.hprof_naming.specs.Units.{units_of}
-use Rattle.hprof_reports.specs.TextReport.{printed_units}
+use Rattle.hprof_lines.specs.Printed.{printed_units}
 use Rattle.hprof_threads.specs.ThreadNames.{units_value}
 use Rattle.hprof_describe.proofs.quotes.push_first.Given as goal
 

@@ -3,7 +3,7 @@ use Rattle.std.specs.String.{string_bytes}
 use Rattle.std.proofs.lemmas.Str.{IsUtf8-from_ascii}
 use Rattle.hprof_naming.proofs.Namings.{of_text}
 use Rattle.hprof_threads.specs.ThreadNames.{units_value}
-use Rattle.hprof_reports.specs.TextReport.{printed_units}
+use Rattle.hprof_lines.specs.Printed.{printed_units}
 use Rattle.hprof_describe.specs.Quoted.{quoted}
 use Rattle.hprof_describe.proofs.PrintedAscii.{IsAscii-printed_units}
 use Rattle.hprof_describe.proofs.QuotedParts.{quoted_of_parts}

@@ -2,7 +2,7 @@ use Rattle.std.proofs.Common.{◌+◌, map, drop, get_or, subst, ◌∙◌}
 use Rattle.std.specs.Io.KnownBytes.{Appends}
 use Rattle.std.proofs.lemmas.Result.{err_from_is_err_and}
 use Rattle.hprof_devices.proofs.Writes.{Pushed-more, WritesFront}
-use Rattle.hprof_reports.proofs.TextWriting.{pushed_stops, pushed_stops_within}
+use Rattle.hprof_lines.proofs.TextWriting.{pushed_stops, pushed_stops_within}
 use Rattle.hprof_diff.specs.Changes.{change_value}
 use Rattle.hprof_diff.specs.DifferenceText.{change_line, changes_text}
 use Rattle.hprof_diff.proofs.NextChange.{next_change, no_change}

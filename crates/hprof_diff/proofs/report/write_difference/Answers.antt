@@ -1,7 +1,7 @@
 use Rattle.std.proofs.Common.{refl}
 use Rattle.std.proofs.lemmas.Result.{err_from_is_err_and}
 use Rattle.hprof_diff.specs.OneChanges.{kept_difference}
-use Rattle.hprof_reports.proofs.TextWriting.{text_unwritten}
+use Rattle.hprof_lines.proofs.TextWriting.{text_unwritten}
 use Rattle.hprof_diff.specs.DifferenceText.{changes_text}
 use Rattle.hprof_diff.proofs.report.write_difference.Goals as goal
 

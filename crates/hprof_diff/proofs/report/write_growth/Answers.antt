@@ -2,7 +2,7 @@ use Rattle.std.proofs.Common.{refl}
 use Rattle.std.specs.Prelude.{⊤}
 use Rattle.hprof_heap.specs.HeapFacts.{facts_of, size_of}
 use Rattle.hprof_passes.specs.Passing.{IsItself}
-use Rattle.hprof_reports.proofs.PassedEnds.{in_memory}
+use Rattle.hprof_lines.proofs.PassedEnds.{in_memory}
 use Rattle.hprof_diff.specs.DifferenceText.{IsGrowthText, changes_text}
 use Rattle.hprof_diff.specs.Kept.{totals_in}
 use Rattle.hprof_diff.specs.OneChanges.{growth_exists}

@@ -1,7 +1,7 @@
 use Rattle.std.proofs.Common.{Ok, Err}
 use Rattle.hprof_rows.proofs.Order.{order_agrees}
 use Rattle.hprof_heap.specs.HeapFacts.{facts_of, size_of}
-use Rattle.hprof_reports.proofs.PassedEnds.{ends_passed}
+use Rattle.hprof_lines.proofs.PassedEnds.{ends_passed}
 use Rattle.hprof_diff.specs.DifferenceText.{IsGrowthText}
 use Rattle.hprof_diff.specs.Kept.{totals_in}
 use Rattle.hprof_diff.proofs.report.write_growth_over.Goals as goal

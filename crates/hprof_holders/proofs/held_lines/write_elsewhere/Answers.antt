@@ -2,7 +2,7 @@ use Rattle.std.proofs.Common.{◌++◌, Some, ap, ◌∙◌}
 use Rattle.std.proofs.lemmas.List.{nil_from_length}
 use Rattle.std.proofs.lemmas.Result.{err_from_is_err_and}
 use Rattle.hprof_devices.proofs.Writes.{Pushed-all, Pushed-more}
-use Rattle.hprof_reports.proofs.TextWriting.{pushed_stops_within}
+use Rattle.hprof_lines.proofs.TextWriting.{pushed_stops_within}
 use Rattle.hprof_holders.specs.PlaceLines.{new_place_line}
 use Rattle.hprof_holders.specs.ThreadsText.{elsewhere_text, held_line}
 use Rattle.hprof_holders.proofs.LeftRows.{left_row, left_text, none_left}

@@ -2,7 +2,7 @@ use Rattle.std.proofs.Common.{ap}
 use Rattle.std.specs.List.{flat_map}
 use Rattle.std.proofs.lemmas.Result.{err_from_is_err_and}
 use Rattle.hprof_devices.proofs.Writes.{Pushed-more}
-use Rattle.hprof_reports.proofs.TextWriting.{pushed_stops_within}
+use Rattle.hprof_lines.proofs.TextWriting.{pushed_stops_within}
 use Rattle.hprof_holders.specs.ThreadsText.{held_line}
 use Rattle.hprof_holders.proofs.held_lines.write_held.Goals as goal
 

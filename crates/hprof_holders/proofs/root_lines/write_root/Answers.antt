@@ -1,8 +1,8 @@
 use Rattle.std.proofs.Common.{sym, subst}
 use Rattle.std.proofs.lemmas.Result.{err_from_is_err_and}
 use Rattle.hprof_threads.specs.Serials.{thread_of_root}
-use Rattle.hprof_reports.specs.Stopping.{WritesText}
-use Rattle.hprof_reports.proofs.TextWriting.{text_stops, text_then}
+use Rattle.hprof_lines.specs.Stopping.{WritesText}
+use Rattle.hprof_lines.proofs.TextWriting.{text_stops, text_then}
 use Rattle.hprof_holders.specs.RootLines.{root_line}
 use Rattle.hprof_holders.specs.RootsText.{thread_line}
 use Rattle.hprof_holders.proofs.RootParts.{root_parts}

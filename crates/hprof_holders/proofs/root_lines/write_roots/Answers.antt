@@ -1,7 +1,7 @@
 use Rattle.std.proofs.Common.{ap}
 use Rattle.std.proofs.lemmas.Result.{err_from_is_err_and}
 use Rattle.hprof_devices.proofs.Writes.{Pushed-more}
-use Rattle.hprof_reports.proofs.TextWriting.{pushed_stops_within}
+use Rattle.hprof_lines.proofs.TextWriting.{pushed_stops_within}
 use Rattle.hprof_holders.specs.RootsText.{root_text, roots_text}
 use Rattle.hprof_holders.proofs.root_lines.write_roots.Goals as goal
 

@@ -5,7 +5,7 @@ use Rattle.std.proofs.lemmas.Result.{err_from_is_err_and}
 use Rattle.hprof_devices.proofs.Writes.{Pushed-more, WritesFront}
 use Rattle.hprof_heap.specs.HeapFacts.{facts_of}
 use Rattle.hprof_threads.specs.declared.held.Held.{Held}
-use Rattle.hprof_reports.proofs.TextWriting.{pushed_stops_within}
+use Rattle.hprof_lines.proofs.TextWriting.{pushed_stops_within}
 use Rattle.hprof_holders.specs.ThreadsText.{thread_text}
 use Rattle.hprof_holders.proofs.SomeHeld.{one_rows}
 use Rattle.hprof_holders.proofs.threads_report.write_all.Goals as goal

@@ -3,8 +3,8 @@ use Rattle.std.specs.List.{filter, flat_map}
 use Rattle.std.proofs.lemmas.Result.{err_from_is_err_and}
 use Rattle.hprof_heap.specs.HeapFacts.{facts_of}
 use Rattle.hprof_threads.specs.declared.held.Held.{Held}
-use Rattle.hprof_reports.specs.Stopping.{WritesText}
-use Rattle.hprof_reports.proofs.TextWriting.{text_stops, text_then}
+use Rattle.hprof_lines.specs.Stopping.{WritesText}
+use Rattle.hprof_lines.proofs.TextWriting.{text_stops, text_then}
 use Rattle.hprof_holders.specs.ThreadsText.{held_line, is_in_frame}
 use Rattle.hprof_holders.proofs.threads_report.write_frame.Goals as goal
 

@@ -4,8 +4,8 @@ use Rattle.std.proofs.lemmas.Result.{err_from_is_err_and}
 use Rattle.hprof_values.specs.Lists.{identifiers_of}
 use Rattle.hprof_heap.specs.HeapFacts.{facts_of}
 use Rattle.hprof_threads.specs.declared.held.Held.{Held}
-use Rattle.hprof_reports.specs.Stopping.{WritesText}
-use Rattle.hprof_reports.proofs.TextWriting.{text_stops, text_then}
+use Rattle.hprof_lines.specs.Stopping.{WritesText}
+use Rattle.hprof_lines.proofs.TextWriting.{text_stops, text_then}
 use Rattle.hprof_holders.specs.ThreadsText.{elsewhere_text, is_elsewhere, stack_text}
 use Rattle.hprof_holders.proofs.threads_report.write_framed.Goals as goal
 

@@ -4,7 +4,7 @@ use Rattle.hprof_values.specs.Lists.{identifiers_of}
 use Rattle.hprof_values.specs.declared.lists.ids.IdList.{IdList}
 use Rattle.hprof_heap.specs.HeapFacts.{facts_of}
 use Rattle.hprof_threads.specs.declared.held.Held.{Held}
-use Rattle.hprof_reports.specs.Stopping.{WritesText}
+use Rattle.hprof_lines.specs.Stopping.{WritesText}
 use Rattle.hprof_holders.specs.ThreadFindings.{frames_in}
 use Rattle.hprof_holders.specs.ThreadsText.{elsewhere_text}
 use Rattle.hprof_holders.proofs.ThreadTexts.{no_places, places_text}

@@ -3,7 +3,7 @@ use Rattle.std.proofs.lemmas.Result.{err_from_is_err_and}
 use Rattle.hprof_values.specs.Lists.{identifiers_left, identifiers_of}
 use Rattle.hprof_values.specs.declared.lists.ids.Ids.{Ids}
 use Rattle.hprof_devices.proofs.Writes.{Pushed, Pushed-all, Pushed-more, Pushed-none}
-use Rattle.hprof_reports.proofs.TextWriting.{pushed_stops_within}
+use Rattle.hprof_lines.proofs.TextWriting.{pushed_stops_within}
 use Rattle.hprof_holders.specs.ThreadsText.{frame_text, stack_text}
 use Rattle.hprof_holders.proofs.ThreadTexts.{stack_done, stack_more}
 use Rattle.hprof_holders.proofs.threads_report.write_stack.Goals as goal

@@ -5,8 +5,8 @@ use Rattle.std.proofs.lemmas.Result.{err_from_is_err_and}
 use Rattle.hprof_values.specs.Lists.{identifiers_of}
 use Rattle.hprof_heap.specs.HeapFacts.{facts_of}
 use Rattle.hprof_threads.proofs.ThreadAnswers.{stack_once}
-use Rattle.hprof_reports.specs.Stopping.{WritesText}
-use Rattle.hprof_reports.proofs.TextWriting.{text_stops, text_then}
+use Rattle.hprof_lines.specs.Stopping.{WritesText}
+use Rattle.hprof_lines.proofs.TextWriting.{text_stops, text_then}
 use Rattle.hprof_holders.specs.ThreadFindings.{frames_in, frames_of}
 use Rattle.hprof_holders.specs.ThreadsText.{head_line}
 use Rattle.hprof_holders.proofs.ThreadTexts.{places_text, thread_parts}

@@ -8,7 +8,7 @@ use Rattle.hprof_heap.specs.ClassDump.{class_value}
 use Rattle.hprof_heap.specs.HeapFacts.{facts_of, size_of}
 use Rattle.hprof_heap.specs.ObjectDump.{fact_of_object}
 use Rattle.hprof_naming.proofs.Namings.{of_text}
-use Rattle.hprof_reports.specs.ObjectText.{nothing_line}
+use Rattle.hprof_lines.specs.Line.{nothing_line}
 use Rattle.hprof_describe.proofs.FoundOnce.{class_found, object_found}
 use Rattle.hprof_holders.specs.WhoText.{none_line}
 use Rattle.hprof_holders.proofs.WhoWords.{no_none_line, none_of_value, some_none_line}

@@ -7,7 +7,7 @@ use Rattle.hprof_devices.proofs.Writes.{Pushed-more}
 use Rattle.hprof_heap.specs.HeapFacts.{facts_of, size_of}
 use Rattle.hprof_edges.specs.declared.edge.Edge.{Edge}
 use Rattle.hprof_edges.specs.Edges.{IsEdge}
-use Rattle.hprof_reports.proofs.TextWriting.{pushed_stops, pushed_stops_within}
+use Rattle.hprof_lines.proofs.TextWriting.{pushed_stops, pushed_stops_within}
 use Rattle.hprof_holders.specs.WhoText.{edge_line}
 use Rattle.hprof_holders.proofs.WhoWords.{told_name, told_weak}
 use Rattle.hprof_holders.proofs.who_report.write_edges.Goals as goal

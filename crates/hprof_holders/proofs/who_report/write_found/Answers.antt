@@ -1,6 +1,6 @@
 use Rattle.std.proofs.Common.{subst}
 use Rattle.std.proofs.lemmas.Bool.{both_ways}
-use Rattle.hprof_reports.specs.Stopping.{WritesText}
+use Rattle.hprof_lines.specs.Stopping.{WritesText}
 use Rattle.hprof_holders.specs.WhoText.{none_line}
 use Rattle.hprof_holders.proofs.WhoParts.{who_none, who_some}
 use Rattle.hprof_holders.proofs.who_report.write_found.Goals as goal

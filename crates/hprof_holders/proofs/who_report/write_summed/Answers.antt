@@ -1,7 +1,7 @@
 use Rattle.std.proofs.Common.{List, length, map, ap, subst, ◌∙◌, arith}
 use Rattle.std.specs.List.{flat_map}
 use Rattle.std.proofs.lemmas.Bool.{lt-leb}
-use Rattle.hprof_reports.specs.Stopping.{WritesText}
+use Rattle.hprof_lines.specs.Stopping.{WritesText}
 use Rattle.hprof_holders.specs.declared.sums.Sum.{Sum}
 use Rattle.hprof_holders.specs.SumCounts.{sum_value}
 use Rattle.hprof_holders.specs.WhoText.{edge_kind, sum_line}

@@ -2,7 +2,7 @@ use Rattle.std.proofs.Common.{ap, List, ℕ, map}
 use Rattle.std.specs.List.{flat_map}
 use Rattle.std.proofs.lemmas.Result.{err_from_is_err_and}
 use Rattle.hprof_devices.proofs.Writes.{Pushed-more}
-use Rattle.hprof_reports.proofs.TextWriting.{pushed_stops_within}
+use Rattle.hprof_lines.proofs.TextWriting.{pushed_stops_within}
 use Rattle.hprof_holders.specs.declared.sums.Sum.{Sum}
 use Rattle.hprof_holders.specs.SumCounts.{sum_value}
 use Rattle.hprof_holders.specs.WhoText.{sum_line}

@@ -4,8 +4,8 @@ use Rattle.hprof_values.specs.declared.root.Root.{Root}
 use Rattle.hprof_heap.specs.HeapFacts.{facts_of, size_of}
 use Rattle.hprof_edges.specs.declared.edge.Edge.{Edge}
 use Rattle.hprof_edges.proofs.SortedEdges.{one_list}
-use Rattle.hprof_reports.specs.Stopping.{WritesText}
-use Rattle.hprof_reports.proofs.TextWriting.{text_unwritten}
+use Rattle.hprof_lines.specs.Stopping.{WritesText}
+use Rattle.hprof_lines.proofs.TextWriting.{text_unwritten}
 use Rattle.hprof_holders.specs.Sums.{AreSums}
 use Rattle.hprof_holders.specs.WhoText.{edge_kind, roots_of_some, who_text}
 use Rattle.hprof_holders.proofs.SomeWho.{who_exists}

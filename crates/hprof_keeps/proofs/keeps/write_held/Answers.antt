@@ -1,7 +1,7 @@
 use Rattle.std.proofs.Common.{◌++◌}
 use Rattle.std.proofs.lemmas.Result.{err_from_is_err_and}
 use Rattle.hprof_heap.specs.HeapFacts.{facts_of, size_of}
-use Rattle.hprof_reports.proofs.TextWriting.{text_stops, text_then}
+use Rattle.hprof_lines.proofs.TextWriting.{text_stops, text_then}
 use Rattle.hprof_retained.specs.Tree.{total_of}
 use Rattle.hprof_keeps.specs.KeepsText.{above_lines, child_lines, total_line}
 use Rattle.hprof_keeps.specs.Order.{retained_in}

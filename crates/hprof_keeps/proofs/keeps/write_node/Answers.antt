@@ -1,6 +1,5 @@
-use Rattle.std.proofs.Common.{◌++◌}
 use Rattle.hprof_heap.specs.HeapFacts.{facts_of, size_of}
-use Rattle.hprof_reports.specs.ObjectText.{nothing_line}
+use Rattle.hprof_lines.specs.Line.{nothing_line}
 use Rattle.hprof_describe.proofs.OneFinding.{findings_exist}
 use Rattle.hprof_keeps.proofs.Texts.{keeps_dumped, keeps_nothing, no_node, some_node}
 use Rattle.hprof_keeps.proofs.keeps.write_node.Goals as goal

@@ -1,6 +1,6 @@
 use Rattle.std.proofs.lemmas.Result.{err_from_is_err_and}
 use Rattle.hprof_heap.specs.HeapFacts.{facts_of, size_of}
-use Rattle.hprof_reports.proofs.TextWriting.{text_unwritten}
+use Rattle.hprof_lines.proofs.TextWriting.{text_unwritten}
 use Rattle.hprof_keeps.proofs.Reached.{otherwise_exists}
 use Rattle.hprof_keeps.proofs.keeps.write_otherwise.Goals as goal
 

@@ -1,7 +1,7 @@
 use Rattle.std.proofs.Common.{◌+◌, drop, get_or}
 use Rattle.std.proofs.lemmas.Result.{err_from_is_err_and}
 use Rattle.hprof_devices.proofs.Writes.{Pushed-more}
-use Rattle.hprof_reports.proofs.TextWriting.{pushed_stops_within}
+use Rattle.hprof_lines.proofs.TextWriting.{pushed_stops_within}
 use Rattle.hprof_keeps.proofs.Told.{next_line, node_line, nodes_text}
 use Rattle.hprof_keeps.proofs.nodes.write_nodes.Goals as goal
 

@@ -1,7 +1,7 @@
-use Rattle.std.proofs.Common.{List, sym, subst}
+use Rattle.std.proofs.Common.{sym, subst}
 use Rattle.hprof_heap.specs.Heap.{heap_of}
 use Rattle.hprof_heap.specs.HeapFacts.{facts_of, size_of}
-use Rattle.hprof_reports.specs.ObjectsText.{IsObjectsText}
+use Rattle.hprof_lines.specs.ObjectsText.{IsObjectsText}
 use Rattle.hprof_ask.specs.declared.report.KindReport.TheVariants.{Objects}
 use Rattle.hprof_ask.specs.declared.report.Kinds.{Kinds}
 use Rattle.hprof_ask.specs.declared.report.Report.TheVariants as reports

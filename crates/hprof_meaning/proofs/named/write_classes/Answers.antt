@@ -2,7 +2,7 @@ use Rattle.std.proofs.Common.{ℕ, List, length, ap}
 use Rattle.std.proofs.lemmas.List.{nil_from_length}
 use Rattle.std.proofs.lemmas.Result.{err_from_is_err_and}
 use Rattle.hprof_devices.proofs.Writes.{Pushed-all, Pushed-more, Pushed-none}
-use Rattle.hprof_reports.proofs.TextWriting.{pushed_stops_within}
+use Rattle.hprof_lines.proofs.TextWriting.{pushed_stops_within}
 use Rattle.hprof_meaning.specs.NamedText.{class_line, class_lines}
 use Rattle.hprof_meaning.proofs.named.write_classes.Goals as goal
 

@@ -2,8 +2,8 @@ use Rattle.std.proofs.Common.{refl}
 use Rattle.std.specs.Prelude.{⊤}
 use Rattle.hprof_heap.specs.HeapFacts.{facts_of, size_of}
 use Rattle.hprof_passes.specs.Passing.{IsItself}
-use Rattle.hprof_reports.specs.ObjectsText.{objects_text}
-use Rattle.hprof_reports.proofs.PassedEnds.{in_memory}
+use Rattle.hprof_lines.specs.ObjectsText.{objects_text}
+use Rattle.hprof_lines.proofs.PassedEnds.{in_memory}
 use Rattle.hprof_meaning.specs.ObjectsOfText.{IsObjectsOfText}
 use Rattle.hprof_meaning.proofs.ObjectsInOrder.{some_list}
 use Rattle.hprof_meaning.proofs.objects.write_objects_of_classes.Goals as goal

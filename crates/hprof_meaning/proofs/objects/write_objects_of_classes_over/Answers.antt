@@ -1,8 +1,8 @@
 use Rattle.std.proofs.Common.{Ok, Err, refl, sym, subst}
 use Rattle.hprof_heap.specs.HeapFacts.{facts_of, size_of}
 use Rattle.hprof_histogram.specs.declared.chosen.Chosen.TheVariants.{Classes}
-use Rattle.hprof_reports.specs.ObjectsText.{objects_text}
-use Rattle.hprof_reports.proofs.PassedEnds.{ends_passed}
+use Rattle.hprof_lines.specs.ObjectsText.{objects_text}
+use Rattle.hprof_lines.proofs.PassedEnds.{ends_passed}
 use Rattle.hprof_meaning.specs.ObjectsOf.{AreObjectsOf}
 use Rattle.hprof_meaning.specs.ObjectsOfText.{IsObjectsOfText}
 use Rattle.hprof_meaning.proofs.ObjectsInOrder.{chosen_are_objects}

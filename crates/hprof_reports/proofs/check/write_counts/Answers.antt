@@ -6,7 +6,7 @@ use Rattle.hprof_items.specs.FactValue.{FactValue}
 use Rattle.hprof_rows.specs.declared.table.Table.TheVariants as tables
 use Rattle.hprof_reports.specs.Check.{IsBadName, all_tables, check_text, table_line}
 use Rattle.hprof_reports.specs.Counts.{IsCountOf}
-use Rattle.hprof_reports.specs.Line.{count_line}
+use Rattle.hprof_lines.specs.Line.{count_line}
 use Rattle.hprof_reports.proofs.CheckLines.{check_stops_at_parts, check_after_parts}
 use Rattle.hprof_reports.proofs.check.write_counts.Goals as goal
 

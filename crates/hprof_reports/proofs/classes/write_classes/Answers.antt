@@ -6,7 +6,7 @@ use Rattle.hprof_naming.proofs.Namings.{naming_exists}
 use Rattle.hprof_reports.specs.ClassDumps.{dumps_in}
 use Rattle.hprof_reports.specs.ClassesText.{IsClassesText, classes_text}
 use Rattle.hprof_reports.proofs.ClassLists.{classes_text_is}
-use Rattle.hprof_reports.proofs.PassedEnds.{in_memory}
+use Rattle.hprof_lines.proofs.PassedEnds.{in_memory}
 use Rattle.hprof_reports.proofs.classes.write_classes.Goals as goal
 
 -- memory may be wanted before the first line

@@ -1,7 +1,7 @@
 use Rattle.std.proofs.Common.{Ok, Err}
 use Rattle.hprof_heap.specs.HeapFacts.{facts_of, size_of}
 use Rattle.hprof_reports.specs.ClassesText.{IsClassesText}
-use Rattle.hprof_reports.proofs.PassedEnds.{ends_passed}
+use Rattle.hprof_lines.proofs.PassedEnds.{ends_passed}
 use Rattle.hprof_reports.proofs.classes.write_classes_over.Goals as goal
 
 pub returns-in-Ok-write_counted : goal.returns-in-Ok-write_counted

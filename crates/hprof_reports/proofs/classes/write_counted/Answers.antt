@@ -6,10 +6,11 @@ use Rattle.hprof_naming.proofs.Namings.{naming_exists}
 use Rattle.hprof_rows.proofs.Order.{order_agrees}
 use Rattle.hprof_reports.specs.ClassDumps.{dumps_in}
 use Rattle.hprof_reports.specs.ClassesText.{classes_text}
-use Rattle.hprof_reports.specs.Stopping.{WritesText}
+use Rattle.hprof_lines.specs.Stopping.{WritesText}
 use Rattle.hprof_reports.proofs.ClassLists.{classes_text_is}
-use Rattle.hprof_reports.proofs.TextWriting.{text_unwritten}
-use Rattle.hprof_reports.proofs.WholeNames.{dumps_same, naming_same}
+use Rattle.hprof_lines.proofs.TextWriting.{text_unwritten}
+use Rattle.hprof_lines.proofs.WholeNames.{naming_same}
+use Rattle.hprof_reports.proofs.WholeDumps.{dumps_same}
 use Rattle.hprof_reports.proofs.classes.write_counted.Goals as goal
 
 -- memory was wanted before the first line

@@ -9,8 +9,8 @@ use Rattle.hprof_rows.specs.FactsLeft.{facts_left}
 use Rattle.hprof_rows.specs.Tables.{facts_of_table}
 use Rattle.hprof_heap.specs.ClassDump.{class_value}
 use Rattle.hprof_heap.specs.HeapFacts.{facts_of, size_of}
-use Rattle.hprof_reports.specs.Stopping.{WritesText}
-use Rattle.hprof_reports.proofs.TextWriting.{pushed_stops_within}
+use Rattle.hprof_lines.specs.Stopping.{WritesText}
+use Rattle.hprof_lines.proofs.TextWriting.{pushed_stops_within}
 use Rattle.hprof_reports.specs.ClassDumps.{dumps_in}
 use Rattle.hprof_reports.specs.ClassesText.{class_line, classes_text}
 use Rattle.hprof_reports.proofs.ClassLists.{dumps_of_table, dumps_with, dumps_without, none_left}

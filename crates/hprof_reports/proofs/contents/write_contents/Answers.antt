@@ -2,8 +2,9 @@ use Rattle.std.proofs.Common.{◌++◌, ◌∙◌, codes, sym, subst}
 use Rattle.std.proofs.lemmas.Result.{err_from_is_err_and}
 use Rattle.hex.specs.Hex.{encode_lower}
 use Rattle.hprof_devices.proofs.Writes.{WritesFront, WritesFront-more, WritesFront-then}
-use Rattle.hprof_reports.specs.Stopping.{WritesText}
-use Rattle.hprof_reports.proofs.TextWriting.{text_stops, text_then, contents_are}
+use Rattle.hprof_lines.specs.Stopping.{WritesText}
+use Rattle.hprof_lines.proofs.TextWriting.{text_stops, text_then}
+use Rattle.hprof_reports.proofs.Contents.{contents_are}
 use Rattle.hprof_reports.proofs.contents.write_contents.Goals as goal
 
 pub returns-in_err-write_str-clause-bytes : goal.returns-in_err-write_str-clause-bytes

@@ -5,7 +5,7 @@ use Rattle.hprof_passes.specs.Passing.{IsItself}
 use Rattle.hprof_histogram.proofs.SomeHistogram.{at_least_one}
 use Rattle.hprof_naming.proofs.Namings.{naming_exists}
 use Rattle.hprof_reports.specs.HistogramText.{IsHistogramText, rows_text}
-use Rattle.hprof_reports.proofs.PassedEnds.{in_memory}
+use Rattle.hprof_lines.proofs.PassedEnds.{in_memory}
 use Rattle.hprof_reports.proofs.histogram_report.write_histogram.Goals as goal
 
 -- memory may be wanted before the first line

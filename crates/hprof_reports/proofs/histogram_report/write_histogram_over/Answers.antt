@@ -3,7 +3,7 @@ use Rattle.hprof_heap.specs.HeapFacts.{facts_of, size_of}
 use Rattle.hprof_histogram.specs.declared.row.Row.{Row}
 use Rattle.hprof_histogram.specs.Histogram.{IsHistogram}
 use Rattle.hprof_reports.specs.HistogramText.{IsHistogramText}
-use Rattle.hprof_reports.proofs.PassedEnds.{ends_passed}
+use Rattle.hprof_lines.proofs.PassedEnds.{ends_passed}
 use Rattle.hprof_reports.proofs.histogram_report.write_histogram_over.Goals as goal
 
 pub returns-in-Ok-write_histogram_rows : goal.returns-in-Ok-write_histogram_rows

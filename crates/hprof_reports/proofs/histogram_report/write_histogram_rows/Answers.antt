@@ -4,8 +4,8 @@ use Rattle.hprof_heap.specs.HeapFacts.{facts_of, size_of}
 use Rattle.hprof_naming.proofs.Namings.{naming_exists}
 use Rattle.hprof_rows.proofs.Order.{order_agrees}
 use Rattle.hprof_reports.specs.HistogramText.{rows_text}
-use Rattle.hprof_reports.proofs.TextWriting.{text_unwritten}
-use Rattle.hprof_reports.proofs.WholeNames.{naming_same}
+use Rattle.hprof_lines.proofs.TextWriting.{text_unwritten}
+use Rattle.hprof_lines.proofs.WholeNames.{naming_same}
 use Rattle.hprof_reports.proofs.histogram_report.write_histogram_rows.Goals as goal
 
 -- memory was wanted before the first line

@@ -6,7 +6,7 @@ use Rattle.hprof_values.specs.Value.{constant_of, static_of, field_of}
 use Rattle.std.specs.Prelude.{map}
 use Rattle.std.proofs.Common.{ap}
 use Rattle.hprof_reports.specs.ObjectText.{class_line, constants_text, statics_text, own_fields_text}
-use Rattle.hprof_reports.proofs.TextWriting.{text_stops, text_then}
+use Rattle.hprof_lines.proofs.TextWriting.{text_stops, text_then}
 use Rattle.hprof_reports.proofs.object.write_class.Goals as goal
 
 pub returns-in_err-write_line-clause-bytes : goal.returns-in_err-write_line-clause-bytes

@@ -7,7 +7,7 @@ use Rattle.hprof_heap.specs.HeapFacts.{facts_of, size_of}
 use Rattle.hprof_naming.specs.Naming.{Naming}
 use Rattle.hprof_values.specs.declared.ids.IdSize.{IdSize}
 use Rattle.hprof_reports.specs.ObjectText.{fields_text, why_no_fields}
-use Rattle.hprof_reports.specs.Stopping.{WritesText}
+use Rattle.hprof_lines.specs.Stopping.{WritesText}
 use Rattle.hprof_reports.proofs.object.write_fields.Goals as goal
 
 pub returns-in-Values-clause-bytes : goal.returns-in-Values-clause-bytes

@@ -7,8 +7,8 @@ use Rattle.hprof_heap.specs.declared.object_dump.ObjectDump.{ObjectDump}
 use Rattle.hprof_heap.specs.ClassDump.{class_value}
 use Rattle.hprof_heap.specs.ObjectDump.{fact_of_object}
 use Rattle.hprof_reports.specs.ObjectText.{class_text, found_text, object_text}
-use Rattle.hprof_reports.specs.Stopping.{WritesText}
-use Rattle.hprof_reports.proofs.TextWriting.{text_stops, text_then}
+use Rattle.hprof_lines.specs.Stopping.{WritesText}
+use Rattle.hprof_lines.proofs.TextWriting.{text_stops, text_then}
 use Rattle.hprof_reports.proofs.object.write_found.Goals as goal
 
 pub returns-in_err-write_class-in-Some-Some-clause-bytes : goal.returns-in_err-write_class-in-Some-Some-clause-bytes

@@ -9,8 +9,8 @@ use Rattle.hprof_heap.specs.declared.object_dump.ObjectDump.{ObjectDump}
 use Rattle.hprof_heap.specs.ObjectDump.{fact_of_object}
 use Rattle.hprof_reports.specs.ObjectText.{object_text, instance_line, fields_text, elements_line, elements_text, values_line}
 use Rattle.hprof_reports.specs.ObjectText.{contents_text}
-use Rattle.hprof_reports.specs.Stopping.{WritesText}
-use Rattle.hprof_reports.proofs.TextWriting.{text_stops, text_then}
+use Rattle.hprof_lines.specs.Stopping.{WritesText}
+use Rattle.hprof_lines.proofs.TextWriting.{text_stops, text_then}
 use Rattle.hprof_reports.proofs.object.write_object_dump.Goals as goal
 
 pub returns-in_err-write_line-in-Instance-clause-bytes : goal.returns-in_err-write_line-in-Instance-clause-bytes

@@ -2,7 +2,7 @@ use Rattle.std.proofs.Common.{ap}
 use Rattle.std.proofs.lemmas.Result.{err_from_is_err_and}
 use Rattle.hprof_devices.proofs.Writes.{Pushed-more}
 use Rattle.hprof_reports.specs.PathText.{node_line, nodes_text}
-use Rattle.hprof_reports.proofs.TextWriting.{pushed_stops_within}
+use Rattle.hprof_lines.proofs.TextWriting.{pushed_stops_within}
 use Rattle.hprof_reports.proofs.path.write_nodes.Goals as goal
 
 pub returns-in_err-write_line-clause-bytes : goal.returns-in_err-write_line-clause-bytes

@@ -4,9 +4,9 @@ use Rattle.std.proofs.lemmas.Result.{err_from_is_err_and}
 use Rattle.hprof_search.proofs.Told.{distance_in, path_in, tells_distance, tells_path}
 use Rattle.hprof_reach.specs.Reaching.{IsDistanceFromRoots, IsPathFromRoots, IsStart, IsStep}
 use Rattle.hprof_reports.specs.PathText.{distance_line, nodes_text, reached_text}
-use Rattle.hprof_reports.specs.Stopping.{WritesText}
+use Rattle.hprof_lines.specs.Stopping.{WritesText}
 use Rattle.hprof_reports.proofs.PathTold.{told}
-use Rattle.hprof_reports.proofs.TextWriting.{text_stops, text_then, text_unwritten}
+use Rattle.hprof_lines.proofs.TextWriting.{text_stops, text_then, text_unwritten}
 use Rattle.hprof_reports.proofs.path.write_path.Goals as goal
 use Rattle.hprof_reports.proofs.path.write_path.Goals.{in_default-via-in-Some+in_default, in_default-via-in_default}
 

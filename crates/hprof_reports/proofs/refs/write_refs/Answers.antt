@@ -1,10 +1,10 @@
 use Rattle.std.proofs.Common.{List, ℕ, refl, subst}
 use Rattle.hprof_heap.specs.HeapFacts.{facts_of}
 use Rattle.hprof_naming.proofs.Namings.{naming_exists}
-use Rattle.hprof_reports.specs.Line.{text_of_lines}
+use Rattle.hprof_lines.specs.Line.{text_of_lines}
 use Rattle.hprof_reports.specs.RefsText.{edge_line}
-use Rattle.hprof_reports.specs.Stopping.{WritesText}
-use Rattle.hprof_reports.proofs.TextWriting.{lines_without_places}
+use Rattle.hprof_lines.specs.Stopping.{WritesText}
+use Rattle.hprof_lines.proofs.TextWriting.{lines_without_places}
 use Rattle.hprof_reports.proofs.refs.write_refs.Goals as goal
 
 pub returns-clause-bytes : goal.returns-clause-bytes

@@ -4,8 +4,9 @@ use Rattle.std.specs.String.{string_bytes}
 use Rattle.std.proofs.lemmas.Result.{err_from_is_err_and}
 use Rattle.hprof_devices.proofs.Writes.{WritesFront-more, WritesFront-then}
 use Rattle.hprof_naming.specs.Units.{units_of}
-use Rattle.hprof_reports.proofs.TextWriting.{text_stopped, text_stops, text_then}
-use Rattle.hprof_reports.specs.TextReport.{printed_units, text_start}
+use Rattle.hprof_lines.proofs.TextWriting.{text_stopped, text_stops, text_then}
+use Rattle.hprof_reports.specs.TextReport.{text_start}
+use Rattle.hprof_lines.specs.Printed.{printed_units}
 use Rattle.hprof_reports.proofs.text_report.write_units_line.Goals as goal
 
 pub returns-in_err-write_line-clause-bytes : goal.returns-in_err-write_line-clause-bytes

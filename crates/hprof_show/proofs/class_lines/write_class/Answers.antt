@@ -1,8 +1,8 @@
 use Rattle.std.proofs.Common.{◌++◌, codes, subst}
 use Rattle.std.proofs.lemmas.Result.{err_from_is_err_and}
 use Rattle.hprof_heap.specs.ClassDump.{class_value}
-use Rattle.hprof_reports.specs.Stopping.{WritesText}
-use Rattle.hprof_reports.proofs.TextWriting.{text_stops, text_then}
+use Rattle.hprof_lines.specs.Stopping.{WritesText}
+use Rattle.hprof_lines.proofs.TextWriting.{text_stops, text_then}
 use Rattle.hprof_show.proofs.Regrouped.{five}
 use Rattle.hprof_describe.specs.Nodes.{node_text}
 use Rattle.hprof_show.specs.ClassLines.{class_text, constants_text, own_fields_text, referred_text, statics_text}

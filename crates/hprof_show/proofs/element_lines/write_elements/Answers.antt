@@ -1,8 +1,8 @@
 use Rattle.std.proofs.Common.{◌-◌, ◌++◌, length, refl, subst, arith}
 use Rattle.std.proofs.lemmas.Result.{err_from_is_err_and}
 use Rattle.hprof_values.specs.Lists.{identifiers_of}
-use Rattle.hprof_reports.specs.Stopping.{WritesText}
-use Rattle.hprof_reports.proofs.TextWriting.{text_stops, text_then}
+use Rattle.hprof_lines.specs.Stopping.{WritesText}
+use Rattle.hprof_lines.proofs.TextWriting.{text_stops, text_then}
 use Rattle.hprof_show.specs.ElementLines.{more_line, nulls_line, present_from, present_text}
 use Rattle.hprof_show.proofs.ToldElements.{elements_parts, present_few}
 use Rattle.hprof_show.proofs.element_lines.write_elements.Goals as goal

@@ -2,7 +2,7 @@ use Rattle.std.proofs.Common.{ℕ, ◌+◌, length, ap, arith, subst, sym}
 use Rattle.std.proofs.lemmas.Result.{err_from_is_err_and}
 use Rattle.hprof_devices.proofs.Writes.{Pushed, Pushed-all, Pushed-more}
 use Rattle.hprof_values.specs.Lists.{identifiers_left, identifiers_of}
-use Rattle.hprof_reports.proofs.TextWriting.{pushed_stops_within}
+use Rattle.hprof_lines.proofs.TextWriting.{pushed_stops_within}
 use Rattle.hprof_show.specs.ElementLines.{present_text, told_line}
 use Rattle.hprof_show.proofs.ToldElements.{none_counted, none_told, null_count, null_next, other_count, other_next, some_next, told_text}
 use Rattle.hprof_show.proofs.element_lines.write_present.Goals as goal

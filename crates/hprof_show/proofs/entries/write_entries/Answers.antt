@@ -6,8 +6,8 @@ use Rattle.hprof_devices.proofs.Writes.{Pushed, Pushed-more, Pushed-none}
 use Rattle.hprof_values.specs.declared.entry.Entry.{Entry}
 use Rattle.hprof_values.specs.declared.lists.entry_list.EntryIterator.{EntryIterator}
 use Rattle.hprof_values.specs.Lists.{entries_left, entries_of}
-use Rattle.hprof_reports.specs.Line.{each_line, text_of_lines}
-use Rattle.hprof_reports.proofs.TextWriting.{pushed_stops_within}
+use Rattle.hprof_lines.specs.Line.{each_line, text_of_lines}
+use Rattle.hprof_lines.proofs.TextWriting.{pushed_stops_within}
 use Rattle.hprof_show.proofs.entries.write_entries.Goals as goal
 
 pub loop-entry-init : goal.loop-entry-init

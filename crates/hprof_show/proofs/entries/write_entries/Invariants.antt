@@ -4,7 +4,7 @@ use Rattle.hprof_devices.specs.declared.health.Health.TheVariants.{Well}
 use Rattle.hprof_devices.proofs.Writes.{Pushed}
 use Rattle.hprof_values.specs.Lists.{entries_left, entries_of}
 use Rattle.hprof_heap.specs.HeapFacts.{facts_of, size_of}
-use Rattle.hprof_reports.specs.Line.{each_line, text_of_lines}
+use Rattle.hprof_lines.specs.Line.{each_line, text_of_lines}
 use Rattle.hprof_describe.specs.Findings.{AreFindings, Findings}
 use Rattle.hprof_show.proofs.entries.write_entries.Given as goal
 

@@ -7,8 +7,8 @@ use Rattle.hprof_layouts.specs.Fields.{AreFields, FieldsValue, Values, fields_va
 use Rattle.hprof_layouts.proofs.FieldAnswers.{fields_once}
 use Rattle.hprof_heap.specs.HeapFacts.{facts_of, size_of}
 use Rattle.hprof_reports.specs.ObjectText.{why_no_fields}
-use Rattle.hprof_reports.specs.Stopping.{WritesText}
-use Rattle.hprof_reports.proofs.TextWriting.{text_stops, text_then}
+use Rattle.hprof_lines.specs.Stopping.{WritesText}
+use Rattle.hprof_lines.proofs.TextWriting.{text_stops, text_then}
 use Rattle.hprof_describe.specs.Findings.{Findings}
 use Rattle.hprof_show.specs.FieldLines.{fields_from, fields_text}
 use Rattle.hprof_show.proofs.field_lines.write_fields.Goals as goal

@@ -1,7 +1,7 @@
 use Rattle.std.proofs.Common.{◌+◌, ◌++◌, length, get_or, drop, ap, refl}
 use Rattle.std.proofs.lemmas.Result.{err_from_is_err_and}
 use Rattle.hprof_devices.proofs.Writes.{Pushed-more, Pushed-all}
-use Rattle.hprof_reports.proofs.TextWriting.{pushed_stops_within}
+use Rattle.hprof_lines.proofs.TextWriting.{pushed_stops_within}
 use Rattle.hprof_show.specs.FieldLines.{field_line, fields_from, from_line}
 use Rattle.hprof_show.proofs.ToldFields.{field_next, no_field, no_next}
 use Rattle.hprof_show.proofs.field_lines.write_values.Goals as goal

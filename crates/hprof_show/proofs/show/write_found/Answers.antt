@@ -5,8 +5,8 @@ use Rattle.hprof_heap.specs.declared.class_dump.ClassDump.{ClassDump}
 use Rattle.hprof_heap.specs.declared.object_dump.ObjectDump.{ObjectDump}
 use Rattle.hprof_heap.specs.ClassDump.{class_value}
 use Rattle.hprof_heap.specs.ObjectDump.{fact_of_object}
-use Rattle.hprof_reports.specs.Stopping.{WritesText}
-use Rattle.hprof_reports.proofs.TextWriting.{text_stops, text_then}
+use Rattle.hprof_lines.specs.Stopping.{WritesText}
+use Rattle.hprof_lines.proofs.TextWriting.{text_stops, text_then}
 use Rattle.hprof_show.specs.ClassLines.{class_text}
 use Rattle.hprof_show.specs.ShowText.{found_text, object_text}
 use Rattle.hprof_show.proofs.show.write_found.Goals as goal

@@ -1,5 +1,5 @@
 use Rattle.std.proofs.lemmas.Result.{err_from_is_err_and}
-use Rattle.hprof_reports.proofs.TextWriting.{text_stops, text_then}
+use Rattle.hprof_lines.proofs.TextWriting.{text_stops, text_then}
 use Rattle.hprof_heap.specs.ObjectDump.{fact_of_object}
 use Rattle.hprof_show.specs.ShowText.{contents_text, object_line, object_text}
 use Rattle.hprof_show.proofs.show.write_object.Goals as goal

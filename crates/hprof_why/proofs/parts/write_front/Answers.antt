@@ -1,6 +1,6 @@
 use Rattle.std.proofs.Common.{◌++◌, codes}
 use Rattle.std.proofs.lemmas.Result.{err_from_is_err_and}
-use Rattle.hprof_reports.proofs.TextWriting.{text_stops, text_then}
+use Rattle.hprof_lines.proofs.TextWriting.{text_stops, text_then}
 use Rattle.hprof_describe.specs.Nodes.{node_text}
 use Rattle.hprof_holders.specs.Steps.{step_text}
 use Rattle.hprof_why.specs.Walks.{more_line}

@@ -3,7 +3,7 @@ use Rattle.std.proofs.lemmas.Result.{err_from_is_err_and}
 use Rattle.hprof_devices.proofs.Writes.{Pushed-all, Pushed-more}
 use Rattle.hprof_heap.specs.HeapFacts.{facts_of, size_of}
 use Rattle.hprof_edges.specs.LeftOut.{IsKept, fields_in}
-use Rattle.hprof_reports.proofs.TextWriting.{pushed_stops, pushed_stops_within}
+use Rattle.hprof_lines.proofs.TextWriting.{pushed_stops, pushed_stops_within}
 use Rattle.std.proofs.lemmas.List.{nil_from_length}
 use Rattle.hprof_why.specs.Walks.{BeginsWith, IsPartsTextOf, front_text}
 use Rattle.hprof_why.proofs.Fronting.{nothing_left}

@@ -5,8 +5,8 @@ use Rattle.hprof_devices.proofs.Writes.{WritesFront}
 use Rattle.hprof_heap.specs.HeapFacts.{facts_of, size_of}
 use Rattle.hprof_edges.specs.LeftOut.{IsKept, fields_in}
 use Rattle.hprof_reports.specs.PathText.{distance_line}
-use Rattle.hprof_reports.specs.Stopping.{WritesText}
-use Rattle.hprof_reports.proofs.TextWriting.{text_stops, text_then}
+use Rattle.hprof_lines.specs.Stopping.{WritesText}
+use Rattle.hprof_lines.proofs.TextWriting.{text_stops, text_then}
 use Rattle.hprof_describe.specs.Nodes.{node_text}
 use Rattle.hprof_holders.specs.RootsText.{roots_text}
 use Rattle.hprof_why.proofs.Telling.{told_pieces}

@@ -6,7 +6,7 @@ use Rattle.hprof_edges.specs.Edges.{AnyEdge}
 use Rattle.hprof_edges.specs.LeftOut.{IsKept}
 use Rattle.hprof_edges.proofs.KeptDecided.{kept_decided}
 use Rattle.hprof_reach.proofs.Choices.{same_distance}
-use Rattle.hprof_reports.proofs.TextWriting.{text_stops, text_then, text_unwritten}
+use Rattle.hprof_lines.proofs.TextWriting.{text_stops, text_then, text_unwritten}
 use Rattle.std.proofs.Common.{None}
 use Rattle.hprof_why.specs.Paths.{IsPathTo}
 use Rattle.hprof_why.specs.WhyText.{IsToldPath}

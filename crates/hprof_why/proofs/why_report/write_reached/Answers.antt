@@ -5,7 +5,7 @@ use Rattle.hprof_edges.specs.LeftOut.{IsKept, fields_in}
 use Rattle.hprof_edges.proofs.KeptDecided.{kept_decided}
 use Rattle.hprof_reach.proofs.Choices.{same_distance}
 use Rattle.hprof_weak.specs.Weak.{IsStrong}
-use Rattle.hprof_reports.proofs.TextWriting.{text_unwritten}
+use Rattle.hprof_lines.proofs.TextWriting.{text_unwritten}
 use Rattle.hprof_why.specs.Paths.{IsPathTo}
 use Rattle.hprof_why.proofs.Choosing.{strong_kept}
 use Rattle.hprof_why.proofs.SomeLinks.{told_exists}

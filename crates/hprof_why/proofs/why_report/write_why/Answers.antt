@@ -1,5 +1,5 @@
 use Rattle.hprof_heap.specs.HeapFacts.{facts_of, size_of}
-use Rattle.hprof_reports.specs.ObjectText.{nothing_line}
+use Rattle.hprof_lines.specs.Line.{nothing_line}
 use Rattle.hprof_why.proofs.Finding.{why_nothing, why_reached}
 use Rattle.hprof_why.proofs.SomeText.{found_exist}
 use Rattle.hprof_why.proofs.why_report.write_why.Goals as goal

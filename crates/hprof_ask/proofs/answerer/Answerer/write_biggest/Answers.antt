@@ -1,7 +1,7 @@
 use Rattle.std.proofs.lemmas.Result.{err_from_is_err_and}
 use Rattle.hprof_heap.specs.HeapFacts.{facts_of, size_of}
 use Rattle.hprof_keeps.proofs.SomeBiggest.{chosen_exist}
-use Rattle.hprof_reports.proofs.TextWriting.{text_unwritten}
+use Rattle.hprof_lines.proofs.TextWriting.{text_unwritten}
 use Rattle.hprof_ask.proofs.answerer.Answerer.write_biggest.Goals as goal
 
 -- memory was wanted before the first line

@@ -1,5 +1,5 @@
 use Rattle.hprof_diff.specs.Kept.{totals_in}
-use Rattle.hprof_reports.proofs.TextWriting.{report_ends}
+use Rattle.hprof_lines.proofs.TextWriting.{report_ends}
 use Rattle.hprof_diff.specs.DifferenceText.{IsGrowthText}
 use Rattle.hprof_diff.proofs.parts.GrowthReportHeapProduct.write_heap.Goals as goal
 

@@ -1,10 +1,7 @@
 -- What several texts come to that are written one after the other, and may stop for want of memory.
-use Rattle.std.proofs.Common.{◌≡◌, inl, ℕ, ◌+◌, List, [], ◌∷◌, ◌++◌, length, Option, Result, Ok, Err, refl, sym, ap, subst, ◌∙◌, arith}
-use Rattle.std.proofs.Common.{◌==◌, false, codes}
+use Rattle.std.proofs.Common.{◌≡◌, inl, ℕ, ◌+◌, List, [], ◌∷◌, ◌++◌, Option, Result, Ok, Err, refl, sym, ap, subst, arith}
 use Rattle.std.specs.Io.KnownBytes.{Appends}
 use Rattle.std.proofs.KnownBytes.{Appends-nil, Appends-trans}
-use Rattle.hex.specs.Hex.{encode_lower, encode_with, lower_digits}
-use Rattle.hprof_text.proofs.Prints.{encode_with-append}
 use Rattle.hprof_devices.proofs.Writes.{WritesFront, WritesFront-more, WritesFront-then, Pushed}
 use Rattle.hprof_values.specs.declared.ids.IdSize.{IdSize}
 use Rattle.hprof_items.specs.FactValue.{FactValue}
@@ -12,13 +9,12 @@ use Rattle.hprof_heap.specs.declared.heap.Heap.{Heap}
 use Rattle.hprof_heap.specs.Heap.{heap_of}
 use Rattle.hprof_heap.specs.HeapFacts.{facts_of, size_of}
 use Rattle.hprof_engine.specs.declared.product.WriteStop.{WriteStop}
-use Rattle.hprof_reports.specs.Line.{each_line}
-use Rattle.hprof_reports.specs.ObjectText.{contents_text}
+use Rattle.hprof_lines.specs.Line.{each_line}
 use Rattle.hprof_engine.specs.declared.product.WriteStop.TheVariants as stops
 use Rattle.hprof_engine.specs.Makes.{EndsWriting}
 use Rattle.hprof_devices.specs.declared.health.Health.{Health}
 use Rattle.std.specs.Prelude.{⊤, map}
-use Rattle.hprof_reports.specs.Stopping.{WritesText, LeavesTarget}
+use Rattle.hprof_lines.specs.Stopping.{WritesText, LeavesTarget}
 
 module _ {A : Type 0} (r : Result A WriteStop) where
   -- nothing was written before it stopped
@@ -68,23 +64,6 @@ module _ {A : Type 0} (r : Result A WriteStop) (stop : WriteStop) (e : r ≡ Err
 pub lines_without_places : {A : Type 0} (line : A → List ℕ) (place : ℕ) (xs : List A) → each_line (λ at. line) place xs ≡ map line xs
 lines_without_places line place [] = refl
 lines_without_places line place (x ∷ xs) = ap (λ (lines : List (List ℕ)). line x ∷ lines) (lines_without_places line (place + 1) xs)
-
--- ---- digits, piece by piece
-
--- the digits of a front, and then those of the rest
-pub digits_split : (bytes front rest : List ℕ) → bytes ≡ front ++ rest → encode_lower bytes ≡ encode_lower front ++ encode_lower rest
-digits_split bytes front rest e = ap encode_lower e ∙ encode_with-append lower_digits front rest
-
--- the line of contents that are there
-pub contents_are : (bytes : List ℕ) → (length bytes == 0) ≡ false → contents_text bytes
-    ≡ codes "bytes " ++ (encode_lower bytes ++ codes "\n")
-contents_are [] some = absurd cc
-contents_are (byte ∷ bytes) some = refl
-
--- no bytes have no digits
-pub no_digits : (bytes : List ℕ) → bytes ≡ [] → length (encode_lower bytes) ≡ 0
-unfolding encode_with
-no_digits bytes e = rw e refl
 
 -- ---- how the writing of a report ends
 

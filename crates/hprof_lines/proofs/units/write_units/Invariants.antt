@@ -2,8 +2,8 @@ use Rattle.std.proofs.Common.{◌≡◌, ◌++◌, length}
 use Rattle.hprof_devices.specs.declared.health.Health.TheVariants.{Well}
 use Rattle.hprof_devices.proofs.Writes.{Pushed}
 use Rattle.hprof_naming.specs.Units.{units_of}
-use Rattle.hprof_reports.specs.TextReport.{printed_units}
-use Rattle.hprof_reports.proofs.units.write_units.Given as goal
+use Rattle.hprof_lines.specs.Printed.{printed_units}
+use Rattle.hprof_lines.proofs.units.write_units.Given as goal
 
 abbrev pub invariant-loop-unit : goal.invariant-loop-unit
 invariant-loop-unit g l = record {

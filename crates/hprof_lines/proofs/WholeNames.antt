@@ -1,6 +1,5 @@
--- Names, loads and class dumps of a whole are those of the facts without objects.
-use Rattle.std.proofs.Common.{◌≡◌, ◌++◌, ℕ, List, Option, Some, None, inl, inr, refl, sym, ap, subst, ◌∙◌, codes}
-use Rattle.hprof_text.specs.Identifier.{id_digits}
+-- Names and loads of a whole are those of the facts without objects.
+use Rattle.std.proofs.Common.{ℕ, List, Option, Some, None, inl, inr, refl}
 use Rattle.hprof_values.specs.declared.ids.IdSize.{IdSize}
 use Rattle.hprof_items.specs.FactValue.{FactValue, Load, Name}
 use Rattle.hprof_rows.specs.declared.table.Table.TheVariants as tables
@@ -8,8 +7,6 @@ use Rattle.hprof_heap.specs.ClassName.{NamesClass}
 use Rattle.hprof_naming.specs.Naming.{IsLabel, IsLabelOf, IsNameText, IsNaming, Naming}
 use Rattle.hprof_passes.specs.Passing.{IsWhole}
 use Rattle.hprof_passes.proofs.Tables.{has_same}
-use Rattle.hprof_reports.specs.ClassDumps.{dumps_in}
-use Rattle.hprof_reports.proofs.ClassLists.{dumps_of_table}
 
 module _ (ids : IdSize) (facts all : List FactValue) (whole : IsWhole ids facts all) where
   pub name_text_same : (name : ℕ) (text : List ℕ) → IsNameText all name text → IsNameText facts name text
@@ -44,6 +41,3 @@ module _ (ids : IdSize) (facts all : List FactValue) (whole : IsWhole ids facts 
     names = λ name. name_text_same name (naming.name_text name) (is.names name);
     labels = λ class. label_same class (naming.label class) (is.labels class);
   }
-
-  pub dumps_same : dumps_in all ≡ dumps_in facts
-  dumps_same = sym (dumps_of_table all) ∙ ap dumps_in (whole.others tables.Classes (λ e. cc)) ∙ dumps_of_table facts

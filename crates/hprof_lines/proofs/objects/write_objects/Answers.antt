@@ -3,9 +3,9 @@ use Rattle.std.specs.Prelude.{⊤}
 use Rattle.hprof_heap.specs.HeapFacts.{facts_of, size_of}
 use Rattle.hprof_passes.specs.Passing.{IsItself}
 use Rattle.hprof_histogram.proofs.ObjectOrder.{some_list}
-use Rattle.hprof_reports.specs.ObjectsText.{IsObjectsText, objects_text}
-use Rattle.hprof_reports.proofs.PassedEnds.{in_memory}
-use Rattle.hprof_reports.proofs.objects.write_objects.Goals as goal
+use Rattle.hprof_lines.specs.ObjectsText.{IsObjectsText, objects_text}
+use Rattle.hprof_lines.proofs.PassedEnds.{in_memory}
+use Rattle.hprof_lines.proofs.objects.write_objects.Goals as goal
 
 -- memory may be wanted before the first line
 pub returns-in-Err-clause-bytes : goal.returns-in-Err-clause-bytes

@@ -2,6 +2,7 @@
 use Rattle.std.specs.Prelude.{ℕ, ◌+◌, List, [], ◌∷◌, ◌++◌, codes}
 use Rattle.std.specs.Fmt.{decimal}
 use Rattle.std.specs.List.{flat_map}
+use Rattle.hprof_text.specs.Identifier.{id_digits}
 
 -- a word, a space, and a number in decimal
 abbrev pub count_line : List ℕ → ℕ → List ℕ
@@ -21,3 +22,7 @@ each_line line place (x ∷ xs) = line place x ∷ each_line line (place + 1) xs
 -- lines, one behind the other
 abbrev pub text_of_lines : List (List ℕ) → List ℕ
 text_of_lines lines = flat_map (λ line. line) lines
+
+-- what is said of an identifier that no dump has
+abbrev pub nothing_line : ℕ → List ℕ
+nothing_line id = line_of (codes "nothing at" ∷ id_digits id ∷ [])

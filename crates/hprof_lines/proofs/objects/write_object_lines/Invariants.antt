@@ -1,8 +1,8 @@
 use Rattle.std.proofs.Common.{◌≡◌, length}
 use Rattle.hprof_devices.specs.declared.health.Health.TheVariants.{Well}
 use Rattle.hprof_devices.proofs.Writes.{Pushed}
-use Rattle.hprof_reports.specs.ObjectsText.{objects_text}
-use Rattle.hprof_reports.proofs.objects.write_object_lines.Given as goal
+use Rattle.hprof_lines.specs.ObjectsText.{objects_text}
+use Rattle.hprof_lines.proofs.objects.write_object_lines.Given as goal
 
 abbrev pub invariant-loop-object : goal.invariant-loop-object
 invariant-loop-object g l = record {

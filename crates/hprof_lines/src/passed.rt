@@ -1,7 +1,7 @@
 //! Reports that are made of a pass over objects.
 
 ghost use Rattle.std.specs.Prelude.{◌≡◌};
-ghost use Rattle.hprof_reports.specs.Passed.{stop_of_pass};
+ghost use Rattle.hprof_lines.specs.Passed.{stop_of_pass};
 
 use hprof_engine::WriteStop;
 use hprof_passes::PassStop;

@@ -1,5 +1,5 @@
 -- How the writing of a report ends that is made of a pass over objects.
-use Rattle.std.proofs.Common.{◌≡◌, ◌≤◌, ℕ, List, [], length, take, Option, Result, Ok, Err, inl, inr, refl, sym, ap, subst, ◌∙◌, arith}
+use Rattle.std.proofs.Common.{◌≡◌, ℕ, List, [], Option, Result, Ok, Err, inl, inr, sym, subst, arith}
 use Rattle.std.specs.declared.convert.Infallible.{Infallible}
 use Rattle.std.specs.Io.KnownBytes.{Appends}
 use Rattle.std.proofs.KnownBytes.{Appends-nil}
@@ -9,8 +9,8 @@ use Rattle.hprof_passes.specs.declared.pass_stop.PassStop.{PassStop}
 use Rattle.hprof_passes.specs.declared.pass_stop.PassStop.TheVariants.{Sink}
 use Rattle.hprof_engine.specs.declared.product.WriteStop.{WriteStop}
 use Rattle.hprof_engine.specs.declared.product.WriteStop.TheVariants as stops
-use Rattle.hprof_reports.specs.Passed.{EndsPassed}
-use Rattle.hprof_reports.specs.Stopping.{LeavesTarget, WritesText}
+use Rattle.hprof_lines.specs.Passed.{EndsPassed}
+use Rattle.hprof_lines.specs.Stopping.{LeavesTarget, WritesText}
 
 -- the answer of writing as that of the report
 abbrev pub as_passed : {A F : Type 0} → Result A WriteStop → Result A (PassStop WriteStop F)

@@ -1,11 +1,11 @@
 //! The report `objects`: the objects of a class or a type, the largest first.
 
-ghost use Rattle.std.specs.Prelude.{◌≡◌, ◌++◌, ℕ, List, IfOk, OnOk, string_bytes};
+ghost use Rattle.std.specs.Prelude.{◌≡◌, ℕ, List, OnOk, string_bytes};
 ghost use Rattle.hprof_devices.specs.declared.health.Health.TheVariants.{Well};
 ghost use Rattle.hprof_heap.specs.HeapFacts.{facts_of, size_of};
-ghost use Rattle.hprof_reports.specs.Passed.{EndsPassed};
-ghost use Rattle.hprof_reports.specs.Stopping.{LeavesTarget, WritesText};
-ghost use Rattle.hprof_reports.specs.ObjectsText.{IsObjectsText, object_line, objects_text};
+ghost use Rattle.hprof_lines.specs.Passed.{EndsPassed};
+ghost use Rattle.hprof_lines.specs.Stopping.{LeavesTarget, WritesText};
+ghost use Rattle.hprof_lines.specs.ObjectsText.{IsObjectsText, object_line, objects_text};
 
 use crate::lines::write_str;
 use crate::passed::stop_of_pass;

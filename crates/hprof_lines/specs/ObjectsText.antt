@@ -7,7 +7,7 @@ use Rattle.hprof_items.specs.FactValue.{FactValue}
 use Rattle.hprof_histogram.specs.declared.objects.SizedObject.{SizedObject}
 use Rattle.hprof_histogram.specs.declared.row.Kind.{Kind}
 use Rattle.hprof_histogram.specs.Objects.{AreObjects}
-use Rattle.hprof_reports.specs.Line.{line_of, text_of_lines}
+use Rattle.hprof_lines.specs.Line.{line_of, text_of_lines}
 
 -- an object and its bytes
 abbrev pub object_line : SizedObject → List ℕ

@@ -1,10 +1,10 @@
 use Rattle.std.proofs.Common.{ap, ◌∙◌}
 use Rattle.std.proofs.lemmas.Result.{err_from_is_err_and}
 use Rattle.hprof_devices.proofs.Writes.{Pushed-more}
-use Rattle.hprof_reports.proofs.TextWriting.{pushed_stops, pushed_stops_within}
-use Rattle.hprof_reports.specs.ObjectsText.{object_line, objects_text}
-use Rattle.hprof_reports.proofs.PrintedPieces.{appended_is, front_is}
-use Rattle.hprof_reports.proofs.objects.write_object_lines.Goals as goal
+use Rattle.hprof_lines.proofs.TextWriting.{pushed_stops, pushed_stops_within}
+use Rattle.hprof_lines.specs.ObjectsText.{object_line, objects_text}
+use Rattle.hprof_lines.proofs.PrintedPieces.{appended_is, front_is}
+use Rattle.hprof_lines.proofs.objects.write_object_lines.Goals as goal
 
 pub returns-in_err-set_line-clause-bytes : goal.returns-in_err-set_line-clause-bytes
 returns-in_err-set_line-clause-bytes g c =

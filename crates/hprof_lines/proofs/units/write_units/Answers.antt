@@ -2,10 +2,10 @@ use Rattle.std.proofs.Common.{◌++◌, subst, sym}
 use Rattle.std.proofs.lemmas.Result.{err_from_is_err_and}
 use Rattle.hprof_devices.proofs.Writes.{Pushed, Pushed-more}
 use Rattle.hprof_naming.specs.Units.{units_of}
-use Rattle.hprof_reports.proofs.TextWriting.{pushed_stops, pushed_stops_within}
-use Rattle.hprof_reports.specs.TextReport.{printed_units}
-use Rattle.hprof_reports.proofs.PrintedPieces.{kept_last, kept_more, pushed_then}
-use Rattle.hprof_reports.proofs.units.write_units.Goals as goal
+use Rattle.hprof_lines.proofs.TextWriting.{pushed_stops, pushed_stops_within}
+use Rattle.hprof_lines.specs.Printed.{printed_units}
+use Rattle.hprof_lines.proofs.PrintedPieces.{kept_last, kept_more, pushed_then}
+use Rattle.hprof_lines.proofs.units.write_units.Goals as goal
 
 pub returns-in_err-push_unit-clause-bytes : goal.returns-in_err-push_unit-clause-bytes
 returns-in_err-push_unit-clause-bytes g c =

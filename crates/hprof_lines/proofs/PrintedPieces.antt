@@ -4,9 +4,9 @@ use Rattle.hprof_text.specs.Printed.{printed_unit}
 use Rattle.std.specs.Io.KnownBytes.{Appends}
 use Rattle.hprof_devices.proofs.Writes.{Pushed, WritesFront}
 use Rattle.hprof_engine.specs.declared.product.WriteStop.{WriteStop}
-use Rattle.hprof_reports.specs.Stopping.{WritesText}
-use Rattle.hprof_reports.proofs.TextWriting.{text_then}
-use Rattle.hprof_reports.specs.TextReport.{printed_units}
+use Rattle.hprof_lines.specs.Stopping.{WritesText}
+use Rattle.hprof_lines.proofs.TextWriting.{text_then}
+use Rattle.hprof_lines.specs.Printed.{printed_units}
 
 -- what was pushed, and then what is left as far as it went
 pub pushed_then : {A : Type 0} (r : Result A WriteStop) (old mid new : Option (List ℕ)) (all rest : List ℕ) → Pushed old mid all rest

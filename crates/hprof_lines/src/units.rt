@@ -3,8 +3,8 @@
 ghost use Rattle.std.specs.Prelude.{◌≡◌, []};
 ghost use Rattle.hprof_devices.specs.declared.health.Health.TheVariants.{Well};
 ghost use Rattle.hprof_naming.specs.Units.{units_of};
-ghost use Rattle.hprof_reports.specs.Stopping.{LeavesTarget, WritesText};
-ghost use Rattle.hprof_reports.specs.TextReport.{printed_units};
+ghost use Rattle.hprof_lines.specs.Stopping.{LeavesTarget, WritesText};
+ghost use Rattle.hprof_lines.specs.Printed.{printed_units};
 
 use hprof_devices::{Target, push_all};
 use hprof_engine::WriteStop;
@@ -31,7 +31,7 @@ fn pass_on<W: Target>(text: &mut Vec<u8>, target: &mut W) -> Result<(), WriteSto
 }
 
 /// Writes the units in print, piece by piece. If it stops, some of them were written, from the front.
-pub(crate) fn write_units<W: Target>(
+pub fn write_units<W: Target>(
     alloc: Global,
     units: Units<'_>,
     target: &mut W,

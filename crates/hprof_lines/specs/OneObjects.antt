@@ -4,7 +4,7 @@ use Rattle.hprof_values.specs.declared.ids.IdSize.{IdSize}
 use Rattle.hprof_items.specs.FactValue.{FactValue}
 use Rattle.hprof_histogram.specs.declared.row.Kind.{Kind}
 use Rattle.hprof_histogram.proofs.ObjectOrder.{one_list}
-use Rattle.hprof_reports.specs.ObjectsText.{IsObjectsText, objects_text}
+use Rattle.hprof_lines.specs.ObjectsText.{IsObjectsText, objects_text}
 
 pub one_objects_text : (ids : IdSize) (facts : List FactValue) (kind : Kind) (one other : List ℕ) → IsObjectsText ids facts kind one
     → IsObjectsText ids facts kind other → one ≡ other

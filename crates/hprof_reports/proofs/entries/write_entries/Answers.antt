@@ -2,10 +2,10 @@ use Rattle.std.proofs.Common.{◌+◌, length, ap, subst, arith}
 use Rattle.std.proofs.lemmas.Result.{err_from_is_err_and}
 use Rattle.hprof_devices.proofs.Writes.{Pushed-more}
 use Rattle.hprof_heap.specs.HeapFacts.{size_of}
-use Rattle.hprof_reports.specs.Line.{each_line, text_of_lines}
-use Rattle.hprof_reports.specs.Stopping.{WritesText}
-use Rattle.hprof_reports.proofs.TextWriting.{pushed_stops_within}
-use Rattle.hprof_reports.proofs.lines.write_entries.Goals as goal
+use Rattle.hprof_lines.specs.Line.{each_line, text_of_lines}
+use Rattle.hprof_lines.specs.Stopping.{WritesText}
+use Rattle.hprof_lines.proofs.TextWriting.{pushed_stops_within}
+use Rattle.hprof_reports.proofs.entries.write_entries.Goals as goal
 
 pub returns-in_err-write_line-clause-bytes : goal.returns-in_err-write_line-clause-bytes
 returns-in_err-write_line-clause-bytes g c = λ naming all is same.

@@ -3,8 +3,8 @@ use Rattle.hprof_devices.specs.declared.health.Health.TheVariants.{Well}
 use Rattle.hprof_devices.proofs.Writes.{Pushed}
 use Rattle.hprof_heap.specs.HeapFacts.{facts_of, size_of}
 use Rattle.hprof_naming.specs.Naming.{Naming, IsNaming}
-use Rattle.hprof_reports.specs.Line.{each_line, text_of_lines}
-use Rattle.hprof_reports.proofs.lines.write_entries.Given as goal
+use Rattle.hprof_lines.specs.Line.{each_line, text_of_lines}
+use Rattle.hprof_reports.proofs.entries.write_entries.Given as goal
 
 abbrev pub invariant-loop-place : goal.invariant-loop-place
 invariant-loop-place g l = record {

@@ -1,0 +1,4 @@
+pub mod TextWriting
+pub mod PrintedPieces
+pub mod WholeNames
+pub mod PassedEnds
