@@ -18,10 +18,10 @@ use Rattle.hprof_engine.specs.Makes.{Reads}
 use Rattle.hprof_engine.specs.Summaries.{AreSummaries}
 use Rattle.hprof_ask.specs.declared.ask_fault.AskFault.{AskFault}
 use Rattle.hprof_ask.specs.declared.ask_fault.AskFault.TheVariants as faults
-use Rattle.hprof_ask.specs.declared.stop.DialogueStop.{DialogueStop}
-use Rattle.hprof_ask.specs.declared.stop.DialogueStop.TheVariants as stops
+use Rattle.hprof_questions.specs.declared.stop.DialogueStop.{DialogueStop}
+use Rattle.hprof_questions.specs.declared.stop.DialogueStop.TheVariants as stops
 use Rattle.hprof_ask.specs.Asks.{Asks}
-use Rattle.hprof_ask.specs.Dialogue.{EndsDialogue}
+use Rattle.hprof_questions.specs.Dialogue.{EndsDialogue}
 use Rattle.hprof_ask.specs.HeapAnswers.{IsHeapAnswer}
 
 -- the summaries that are held are those of the parts

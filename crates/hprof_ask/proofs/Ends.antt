@@ -16,9 +16,9 @@ use Rattle.hprof_engine.specs.declared.product.WriteStop.TheVariants as stops
 use Rattle.hprof_engine.specs.Makes.{EndsWriting}
 use Rattle.hprof_reports.specs.Check.{IsCheck}
 use Rattle.hprof_lines.specs.Stopping.{LeavesTarget, WritesText}
-use Rattle.hprof_ask.specs.declared.report.HeapReport.TheVariants as heaps
-use Rattle.hprof_ask.specs.declared.report.Report.{Report}
-use Rattle.hprof_ask.specs.declared.report.Report.TheVariants as reports
+use Rattle.hprof_questions.specs.declared.report.HeapReport.TheVariants as heaps
+use Rattle.hprof_questions.specs.declared.report.Report.{Report}
+use Rattle.hprof_questions.specs.declared.report.Report.TheVariants as reports
 use Rattle.hprof_ask.specs.Report.{IsReport, RefusesReport}
 use Rattle.hprof_ask.specs.SomeReport.{report_or_none}
 use Rattle.hprof_ask.specs.Summarised.{Holds}

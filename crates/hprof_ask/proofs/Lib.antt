@@ -1,14 +1,4 @@
 pub mod Asking
-pub mod LineLemmas
-pub mod KeptLines
-pub mod Hearing
-pub mod Dialogues
-pub mod OneLine
-pub mod OneQuestion
-pub mod OneText
-pub mod QuitLines
-pub mod WordLists
-pub mod SomeQuestion
 pub mod Usages
 pub mod Ends
 pub mod Replies

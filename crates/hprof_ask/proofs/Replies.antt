@@ -13,7 +13,7 @@ use Rattle.hprof_engine.specs.declared.product.WriteStop.{WriteStop}
 use Rattle.hprof_engine.specs.declared.product.WriteStop.TheVariants as stops
 use Rattle.hprof_engine.specs.Makes.{EndsWriting}
 use Rattle.hprof_lines.specs.Stopping.{LeavesTarget, WritesText}
-use Rattle.hprof_ask.specs.declared.report.Report.{Report}
+use Rattle.hprof_questions.specs.declared.report.Report.{Report}
 use Rattle.hprof_ask.specs.HeapAnswers.{IsReportReply}
 use Rattle.hprof_ask.specs.Report.{IsReport, RefusesReport, TakesMemory}
 

@@ -8,10 +8,10 @@ use Rattle.hprof_engine.specs.declared.product.WriteStop.{WriteStop}
 use Rattle.hprof_lines.specs.Stopping.{WritesText}
 use Rattle.hprof_lines.proofs.TextWriting.{text_stopped}
 use Rattle.hprof_rows.proofs.Tables.{drop_from}
-use Rattle.hprof_ask.specs.declared.report_word.ReportWord.{ReportWord}
-use Rattle.hprof_ask.specs.declared.report.HeapReport.TheVariants.{Check}
-use Rattle.hprof_ask.specs.declared.report_word.ReportWord.TheVariants.{Heap}
-use Rattle.hprof_ask.specs.Words.{all_words, usage_line}
+use Rattle.hprof_questions.specs.declared.report_word.ReportWord.{ReportWord}
+use Rattle.hprof_questions.specs.declared.report.HeapReport.TheVariants.{Check}
+use Rattle.hprof_questions.specs.declared.report_word.ReportWord.TheVariants.{Heap}
+use Rattle.hprof_questions.specs.Words.{all_words, usage_line}
 
 -- one of them stopped the writing
 pub usage_stops : {A : Type 0} (r : Result A WriteStop) (stop : WriteStop) (old mid new : Option (List ℕ)) (place : ℕ)

@@ -17,10 +17,10 @@ use Rattle.hprof_engine.specs.declared.tool_fault.ToolFault.TheVariants as tool
 use Rattle.hprof_engine.specs.Joining.{Tell, Agree, IsHindered, IsOfReading, IsOkOrConflict, none_known}
 use Rattle.hprof_engine.specs.Makes.{Reads}
 use Rattle.hprof_engine.specs.Summaries.{AreSummaries}
-use Rattle.hprof_ask.specs.declared.question.Question.{Question}
-use Rattle.hprof_ask.specs.declared.stop.DialogueStop.TheVariants as stops
-use Rattle.hprof_ask.specs.Answering.{PassesOn}
-use Rattle.hprof_ask.specs.Dialogue.{AnswersLines, AnswersSome, AreOpenLines, Came, IsOver, LetsReadOn}
+use Rattle.hprof_questions.specs.declared.question.Question.{Question}
+use Rattle.hprof_questions.specs.declared.stop.DialogueStop.TheVariants as stops
+use Rattle.hprof_questions.specs.Answering.{PassesOn}
+use Rattle.hprof_questions.specs.Dialogue.{AnswersLines, AnswersSome, AreOpenLines, Came, IsOver, LetsReadOn}
 use Rattle.hprof_ask.specs.declared.ask_fault.AskFault.{AskFault}
 use Rattle.hprof_ask.specs.declared.ask_fault.AskFault.TheVariants as faults
 use Rattle.hprof_ask.specs.HeapAnswers.{IsHeapAnswer}

@@ -3,13 +3,13 @@ use Rattle.std.specs.Prelude.{◌≡◌, ◌⊎◌, ℕ, List, [], ◌++◌, cod
 use Rattle.hprof_values.specs.declared.ids.IdSize.{IdSize}
 use Rattle.hprof_items.specs.FactValue.{FactValue}
 use Rattle.hprof_stream.specs.declared.summary.PartSummary.{PartSummary}
-use Rattle.hprof_ask.specs.declared.question.Question.{Question}
-use Rattle.hprof_ask.specs.declared.question.Question.TheVariants as questions
-use Rattle.hprof_ask.specs.declared.report.Report.{Report}
-use Rattle.hprof_ask.specs.declared.subject.Misnamed.{Misnamed}
-use Rattle.hprof_ask.specs.declared.subject.Misnamed.TheVariants as misnamed
+use Rattle.hprof_questions.specs.declared.question.Question.{Question}
+use Rattle.hprof_questions.specs.declared.question.Question.TheVariants as questions
+use Rattle.hprof_questions.specs.declared.report.Report.{Report}
+use Rattle.hprof_questions.specs.declared.subject.Misnamed.{Misnamed}
+use Rattle.hprof_questions.specs.declared.subject.Misnamed.TheVariants as misnamed
 use Rattle.hprof_ask.specs.Report.{IsReport, LacksClass}
-use Rattle.hprof_ask.specs.Words.{help_text}
+use Rattle.hprof_questions.specs.Words.{help_text}
 
 -- what is told of a text that does not follow a word
 abbrev pub misnamed_text : Misnamed → List ℕ

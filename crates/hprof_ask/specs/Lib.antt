@@ -1,15 +1,9 @@
 pub mod Report
-pub mod Words
 pub mod Summarised
 pub mod OneReport
 pub mod SomeCheck
 pub mod OfName
 pub mod SomeReport
-pub mod Lines
-pub mod Same
-pub mod Asked
-pub mod Answering
-pub mod Dialogue
 pub mod HeapAnswers
 pub mod OneHeapAnswer
 pub mod SomeHeapAnswer

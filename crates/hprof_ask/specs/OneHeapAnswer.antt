@@ -3,13 +3,13 @@ use Rattle.std.proofs.Common.{◌≡◌, ℕ, List, ◌++◌, refl, sym, ap, ap�
 use Rattle.hprof_values.specs.declared.ids.IdSize.{IdSize}
 use Rattle.hprof_items.specs.FactValue.{FactValue}
 use Rattle.hprof_stream.specs.declared.summary.PartSummary.{PartSummary}
-use Rattle.hprof_ask.specs.declared.question.Question.{Question}
-use Rattle.hprof_ask.specs.declared.question.Question.TheVariants as questions
-use Rattle.hprof_ask.specs.declared.report.Kinds.TheVariants as these
-use Rattle.hprof_ask.specs.declared.report.Node.TheVariants as that
-use Rattle.hprof_ask.specs.declared.report.Report.{Report}
-use Rattle.hprof_ask.specs.declared.report.Report.TheVariants as reports
-use Rattle.hprof_ask.specs.Same.{IsSame, placed_question, placed_report}
+use Rattle.hprof_questions.specs.declared.question.Question.{Question}
+use Rattle.hprof_questions.specs.declared.question.Question.TheVariants as questions
+use Rattle.hprof_questions.specs.declared.report.Kinds.TheVariants as these
+use Rattle.hprof_questions.specs.declared.report.Node.TheVariants as that
+use Rattle.hprof_questions.specs.declared.report.Report.{Report}
+use Rattle.hprof_questions.specs.declared.report.Report.TheVariants as reports
+use Rattle.hprof_questions.specs.Same.{IsSame, placed_question, placed_report}
 use Rattle.hprof_ask.specs.HeapAnswers.{IsHeapAnswer, IsReply, IsReportReply, behind_reply}
 use Rattle.hprof_ask.specs.OneReport.{no_report, one_report}
 

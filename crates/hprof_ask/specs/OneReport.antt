@@ -24,16 +24,16 @@ use Rattle.hprof_why.proofs.OneText.{why_once}
 use Rattle.hprof_meaning.specs.MeantClasses.{IsMeantClass, IsMeantDump}
 use Rattle.hprof_meaning.proofs.MeantLists.{one_all}
 use Rattle.hprof_meaning.proofs.OneTexts.{one_named_text, one_objects_text as one_objects_of_classes}
-use Rattle.hprof_ask.specs.declared.report.HeapReport.{HeapReport}
-use Rattle.hprof_ask.specs.declared.report.HeapReport.TheVariants as heaps
-use Rattle.hprof_ask.specs.declared.report.KindReport.{KindReport}
-use Rattle.hprof_ask.specs.declared.report.KindReport.TheVariants as kinds
-use Rattle.hprof_ask.specs.declared.report.NodeReport.{NodeReport}
-use Rattle.hprof_ask.specs.declared.report.NodeReport.TheVariants as nodes
-use Rattle.hprof_ask.specs.declared.report.Kinds.TheVariants as these
-use Rattle.hprof_ask.specs.declared.report.Node.TheVariants as that
-use Rattle.hprof_ask.specs.declared.report.Report.{Report}
-use Rattle.hprof_ask.specs.declared.report.Report.TheVariants as reports
+use Rattle.hprof_questions.specs.declared.report.HeapReport.{HeapReport}
+use Rattle.hprof_questions.specs.declared.report.HeapReport.TheVariants as heaps
+use Rattle.hprof_questions.specs.declared.report.KindReport.{KindReport}
+use Rattle.hprof_questions.specs.declared.report.KindReport.TheVariants as kinds
+use Rattle.hprof_questions.specs.declared.report.NodeReport.{NodeReport}
+use Rattle.hprof_questions.specs.declared.report.NodeReport.TheVariants as nodes
+use Rattle.hprof_questions.specs.declared.report.Kinds.TheVariants as these
+use Rattle.hprof_questions.specs.declared.report.Node.TheVariants as that
+use Rattle.hprof_questions.specs.declared.report.Report.{Report}
+use Rattle.hprof_questions.specs.declared.report.Report.TheVariants as reports
 use Rattle.hprof_ask.specs.Report.{IsHeapReport, IsKindReport, IsNamedKind, IsNamedReport, IsNodeReport, IsOfClasses, IsReport}
 use Rattle.hprof_ask.specs.Report.{IsReportOfClasses}
 use Rattle.hprof_ask.specs.Report.{IsReportOfDumps, LacksClass}

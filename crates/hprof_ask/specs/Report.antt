@@ -29,16 +29,16 @@ use Rattle.hprof_keeps.specs.KeepsText.{IsKeepsText}
 use Rattle.hprof_by_label.specs.RetainedText.{IsRetainedText}
 use Rattle.hprof_suspects.specs.SuspectsText.{IsSuspectsText}
 use Rattle.hprof_why.specs.WhyText.{IsWhyText}
-use Rattle.hprof_ask.specs.declared.report.HeapReport.{HeapReport}
-use Rattle.hprof_ask.specs.declared.report.HeapReport.TheVariants as heaps
-use Rattle.hprof_ask.specs.declared.report.KindReport.{KindReport}
-use Rattle.hprof_ask.specs.declared.report.KindReport.TheVariants as kinds
-use Rattle.hprof_ask.specs.declared.report.NodeReport.{NodeReport}
-use Rattle.hprof_ask.specs.declared.report.NodeReport.TheVariants as nodes
-use Rattle.hprof_ask.specs.declared.report.Kinds.TheVariants as these
-use Rattle.hprof_ask.specs.declared.report.Node.TheVariants as that
-use Rattle.hprof_ask.specs.declared.report.Report.{Report}
-use Rattle.hprof_ask.specs.declared.report.Report.TheVariants as reports
+use Rattle.hprof_questions.specs.declared.report.HeapReport.{HeapReport}
+use Rattle.hprof_questions.specs.declared.report.HeapReport.TheVariants as heaps
+use Rattle.hprof_questions.specs.declared.report.KindReport.{KindReport}
+use Rattle.hprof_questions.specs.declared.report.KindReport.TheVariants as kinds
+use Rattle.hprof_questions.specs.declared.report.NodeReport.{NodeReport}
+use Rattle.hprof_questions.specs.declared.report.NodeReport.TheVariants as nodes
+use Rattle.hprof_questions.specs.declared.report.Kinds.TheVariants as these
+use Rattle.hprof_questions.specs.declared.report.Node.TheVariants as that
+use Rattle.hprof_questions.specs.declared.report.Report.{Report}
+use Rattle.hprof_questions.specs.declared.report.Report.TheVariants as reports
 
 -- the text is the report on parts with these summaries, or on a heap of these facts
 abbrev pub IsHeapReport : List PartSummary → IdSize → List FactValue → HeapReport → List ℕ → Type 0

@@ -8,12 +8,12 @@ use Rattle.hprof_rows.proofs.Order.{order_agrees}
 use Rattle.hprof_heap.specs.declared.heap.Heap.{Heap}
 use Rattle.hprof_heap.specs.Heap.{heap_of}
 use Rattle.hprof_heap.specs.HeapFacts.{facts_of, size_of}
-use Rattle.hprof_ask.specs.declared.question.Question.{Question}
-use Rattle.hprof_ask.specs.declared.question.Question.TheVariants as questions
-use Rattle.hprof_ask.specs.declared.report.Report.{Report}
+use Rattle.hprof_questions.specs.declared.question.Question.{Question}
+use Rattle.hprof_questions.specs.declared.question.Question.TheVariants as questions
+use Rattle.hprof_questions.specs.declared.report.Report.{Report}
 use Rattle.hprof_ask.specs.HeapAnswers.{IsHeapAnswer, IsReply, IsReportReply, behind_reply, misnamed_text}
 use Rattle.hprof_ask.specs.SomeReport.{report_or_none}
-use Rattle.hprof_ask.specs.Words.{help_text}
+use Rattle.hprof_questions.specs.Words.{help_text}
 
 module _ (ids : IdSize) (facts : List FactValue) (agree : IsConsistent facts) (summaries : List PartSummary) where
   report_reply : (report : Report) → (text : List ℕ) × IsReportReply summaries ids facts report text

@@ -39,16 +39,16 @@ use Rattle.hprof_naming.specs.MeantLabel.{meant_label, slashed}
 use Rattle.hprof_meaning.specs.MeantClasses.{AreMeantClasses, AreMeantDumps}
 use Rattle.hprof_meaning.proofs.OneTexts.{some_named_text, some_objects_text}
 use Rattle.hprof_meaning.proofs.SomeLists.{some_classes as some_classes_named, some_dumps as some_dumps_named}
-use Rattle.hprof_ask.specs.declared.report.HeapReport.{HeapReport}
-use Rattle.hprof_ask.specs.declared.report.HeapReport.TheVariants as heaps
-use Rattle.hprof_ask.specs.declared.report.KindReport.{KindReport}
-use Rattle.hprof_ask.specs.declared.report.KindReport.TheVariants as kinds
-use Rattle.hprof_ask.specs.declared.report.NodeReport.{NodeReport}
-use Rattle.hprof_ask.specs.declared.report.NodeReport.TheVariants as nodes
-use Rattle.hprof_ask.specs.declared.report.Kinds.TheVariants as these
-use Rattle.hprof_ask.specs.declared.report.Node.TheVariants as that
-use Rattle.hprof_ask.specs.declared.report.Report.{Report}
-use Rattle.hprof_ask.specs.declared.report.Report.TheVariants as reports
+use Rattle.hprof_questions.specs.declared.report.HeapReport.{HeapReport}
+use Rattle.hprof_questions.specs.declared.report.HeapReport.TheVariants as heaps
+use Rattle.hprof_questions.specs.declared.report.KindReport.{KindReport}
+use Rattle.hprof_questions.specs.declared.report.KindReport.TheVariants as kinds
+use Rattle.hprof_questions.specs.declared.report.NodeReport.{NodeReport}
+use Rattle.hprof_questions.specs.declared.report.NodeReport.TheVariants as nodes
+use Rattle.hprof_questions.specs.declared.report.Kinds.TheVariants as these
+use Rattle.hprof_questions.specs.declared.report.Node.TheVariants as that
+use Rattle.hprof_questions.specs.declared.report.Report.{Report}
+use Rattle.hprof_questions.specs.declared.report.Report.TheVariants as reports
 use Rattle.hprof_ask.specs.Report.{IsHeapReport, IsKindReport, IsNamedKind, IsNamedReport, IsNodeReport, IsOfClasses, IsReport}
 use Rattle.hprof_ask.specs.Report.{IsReportOfClasses, LacksClass, NamesClasses}
 use Rattle.hprof_ask.specs.OfName.{biggest_of_name}

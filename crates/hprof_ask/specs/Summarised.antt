@@ -3,9 +3,9 @@ use Rattle.std.proofs.Common.{◌≡◌, ◌+◌, ℕ, List, arith}
 use Rattle.std.specs.Prelude.{⊤, Vec, vec_len, vec_capacity}
 use Rattle.std.specs.declared.alloc.Global.{Global}
 use Rattle.hprof_stream.specs.declared.summary.PartSummary.{PartSummary}
-use Rattle.hprof_ask.specs.declared.report.HeapReport.TheVariants as heaps
-use Rattle.hprof_ask.specs.declared.report.Report.{Report}
-use Rattle.hprof_ask.specs.declared.report.Report.TheVariants as reports
+use Rattle.hprof_questions.specs.declared.report.HeapReport.TheVariants as heaps
+use Rattle.hprof_questions.specs.declared.report.Report.{Report}
+use Rattle.hprof_questions.specs.declared.report.Report.TheVariants as reports
 use Rattle.hprof_ask.specs.Report.{TakesRoom}
 
 abbrev pub HasRoom : Report → Vec PartSummary Global → ℕ → Type 0

@@ -11,13 +11,13 @@ ghost use Rattle.hprof_ask.specs.Kept.{IsKept};
 ghost use Rattle.hprof_ask.specs.Report.{IsKindReport, IsReport, RefusesReport, TakesMemory};
 
 use crate::kept::{Kept, kept_or_made, retained_or_made};
-use crate::report::{KindReport, Kinds, Node, Report};
 use hprof_devices::Target;
 use hprof_engine::WriteStop;
 use hprof_heap::{Heap, holds_of_heap};
 use hprof_histogram::Kind;
 use hprof_keeps::{Choice, write_biggest};
 use hprof_lines::write_objects;
+use hprof_questions::{KindReport, Kinds, Node, Report};
 use hprof_stream::PartSummary;
 use std::alloc::Global;
 

@@ -7,19 +7,16 @@ ghost use Rattle.hprof_heap.specs.HeapFacts.{facts_of, size_of};
 ghost use Rattle.hprof_lines.specs.Stopping.{LeavesTarget, WritesText};
 ghost use Rattle.hprof_ask.specs.HeapAnswers.{IsHeapAnswer, IsReply, IsReportReply, behind_reply};
 ghost use Rattle.hprof_ask.specs.Kept.{IsKept};
-ghost use Rattle.hprof_ask.specs.Words.{all_words, follows_text, help_text, usage_line};
+ghost use Rattle.hprof_questions.specs.Words.{all_words, follows_text, help_text, usage_line};
 
 use crate::answerer::Answerer;
-use crate::dialogue::Answers;
 use crate::kept::Kept;
-use crate::question::Question;
-use crate::report::Report;
-use crate::report_word::{ALL, Follows, ReportWord};
-use crate::stop::DialogueStop;
-use crate::subject::Misnamed;
 use hprof_devices::Target;
 use hprof_engine::WriteStop;
 use hprof_lines::write_str;
+use hprof_questions::{
+    ALL, Answers, DialogueStop, Follows, Misnamed, Question, Report, ReportWord,
+};
 use std::alloc::Global;
 
 /// Returns what stands in help for that which follows a word.

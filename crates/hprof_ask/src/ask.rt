@@ -8,12 +8,11 @@ ghost use Rattle.hprof_ask.specs.Asks.{Asks, LetsAsk, PassesAnswersOn, fault_of_
 
 use crate::answerer::Answerer;
 use crate::ask_fault::AskFault;
-use crate::asker::Asker;
-use crate::dialogue::converse;
 use crate::kept::Kept;
 use hprof_devices::{Flush, Source};
-use hprof_engine::{AllSummaries, Summaries, ToolFault, read_heap};
+use hprof_engine::{AllSummaries, ToolFault, read_heap};
 use hprof_heap::{Gatherer, Heap};
+use hprof_questions::{Asker, converse};
 use hprof_stream::Limits;
 use std::alloc::Global;
 

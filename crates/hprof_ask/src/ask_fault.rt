@@ -1,7 +1,7 @@
 //! Why asking ended.
 
-use crate::stop::DialogueStop;
 use hprof_engine::ToolFault;
+use hprof_questions::DialogueStop;
 
 /// Why a call ended that reads parts and answers questions.
 #[derive(Clone, Copy, Debug, PartialEq, Eq)]

@@ -7,11 +7,11 @@ ghost use Rattle.hprof_engine.specs.Makes.{Makes};
 ghost use Rattle.hprof_ask.specs.Report.{report_making};
 
 use crate::referring::write_who_once;
-use crate::report::{HeapReport, KindReport, Kinds, Node, NodeReport, Report};
 use hprof_devices::{Source, Target};
 use hprof_engine::{NoSummaries, ToolFault, read_heap, write_to};
 use hprof_graph::LiveHeap;
 use hprof_histogram::Kind;
+use hprof_questions::{HeapReport, KindReport, Kinds, Node, NodeReport, Report};
 use hprof_reports::write_refs;
 use hprof_stream::Limits;
 use std::alloc::Global;

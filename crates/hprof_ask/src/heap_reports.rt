@@ -15,13 +15,13 @@ ghost use Rattle.hprof_ask.specs.Report.{IsHeapReport, TakesMemory};
 
 use crate::answerer::Answerer;
 use crate::kept::{Kept, kept_or_made, retained_or_made};
-use crate::report::{HeapReport, Report};
 use crate::survey::view_of;
 use hprof_by_label::write_retained;
 use hprof_devices::{Target, push_all};
 use hprof_engine::WriteStop;
 use hprof_heap::holds_of_heap;
 use hprof_holders::write_threads;
+use hprof_questions::{HeapReport, Report};
 use hprof_reports::{write_check, write_classes, write_histogram};
 use hprof_suspects::write_suspects;
 use std::alloc::Global;

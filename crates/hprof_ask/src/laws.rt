@@ -6,17 +6,12 @@ ghost use Rattle.hprof_items.specs.FactValue.{FactValue};
 ghost use Rattle.hprof_stream.specs.declared.summary.PartSummary.{PartSummary};
 ghost use Rattle.hprof_rows.specs.Conflict.{IsConsistent};
 ghost use Rattle.hprof_engine.specs.Joining.{Agree};
-ghost use Rattle.hprof_ask.specs.Answering.{AreAnswers};
+ghost use Rattle.hprof_questions.specs.Answering.{AreAnswers};
 ghost use Rattle.hprof_ask.specs.HeapAnswers.{IsHeapAnswer};
 ghost use Rattle.hprof_ask.specs.PartsAnswers.{AreAnswersOfParts};
 ghost use Rattle.hprof_ask.specs.Report.{IsReport, LacksClass};
-ghost use Rattle.hprof_ask.specs.declared.report.Report.{Report};
-ghost use Rattle.hprof_ask.specs.declared.question.Question.{Question};
-ghost use Rattle.hprof_ask.specs.Asked.{Asks, NoneQuits, Quits};
-ghost use Rattle.hprof_ask.specs.Lines.{AreFirstLines, AreLines};
-ghost use Rattle.hprof_ask.specs.Same.{IsSame};
-
-use crate::dialogue::Answers;
+ghost use Rattle.hprof_questions.specs.declared.report.Report.{Report};
+ghost use Rattle.hprof_questions.specs.Asked.{NoneQuits, Quits};
 
 /// A report on parts and a heap is one text. If the facts of the heap agree, there is one unless the report is on a name that no class has;
 /// then there is none.
@@ -54,33 +49,4 @@ pub fn answers_over_parts_are_one_text()
         → (text : List ℕ) × AreAnswersOfParts lines parts text }
     ensures one { (lines parts : List (List ℕ)) (one other : List ℕ) → AreAnswersOfParts lines parts one
         → AreAnswersOfParts lines parts other → one ≡ other }
-{}
-
-/// Bytes have one list of lines, and no other. Behind bytes whose last line ends with a line feed the lines of more bytes follow.
-pub fn bytes_have_one_list_of_lines()
-    ensures some { (bytes : List ℕ) → (lines : List (List ℕ)) × AreLines bytes lines }
-    ensures one { (bytes : List ℕ) (one other : List (List ℕ)) → AreLines bytes one → AreLines bytes other → one ≡ other }
-    ensures more { (bytes more : List ℕ) (lines others : List (List ℕ)) → AreFirstLines bytes lines [] → AreLines more others
-        → AreLines (bytes ++ more) (lines ++ others) }
-{}
-
-/// A line asks one thing, wherever the bytes of a name lie.
-pub fn a_line_asks_one_thing()
-    ensures some { (line : List ℕ) → (question : Question) × Asks line question }
-    ensures one { (line : List ℕ) (one other : Question) → Asks line one → Asks line other → IsSame one other }
-{}
-
-/// The answers to lines are one text, and there is one. To ask two lists of lines one after the other is to ask them together, unless one
-/// of the first lines ends the dialogue: no answer depends on a question before. What stands behind a line that ends the dialogue is not
-/// answered.
-pub fn answers_are_one_text<A: Answers>(answers: &A)
-    ensures some { (lines : List (List ℕ)) → (text : List ℕ) × AreAnswers (A.is_answer answers.now) lines text }
-    ensures one { (lines : List (List ℕ)) (one other : List ℕ) → AreAnswers (A.is_answer answers.now) lines one
-        → AreAnswers (A.is_answer answers.now) lines other → one ≡ other }
-    ensures together { (lines more : List (List ℕ)) (text : List ℕ) → NoneQuits lines
-        → AreAnswers (A.is_answer answers.now) (lines ++ more) text
-        ↔ ((first : List ℕ) × (then : List ℕ) × AreAnswers (A.is_answer answers.now) lines first
-        × AreAnswers (A.is_answer answers.now) more then × (text ≡ first ++ then)) }
-    ensures behind { (lines more : List (List ℕ)) (last text : List ℕ) → Quits last
-        → AreAnswers (A.is_answer answers.now) (lines ++ last ∷ more) text ↔ AreAnswers (A.is_answer answers.now) lines text }
 {}

@@ -5,37 +5,22 @@ mod answerer;
 mod answers;
 mod ask;
 mod ask_fault;
-mod asker;
 mod calls;
-mod dialogue;
 mod heap_reports;
-mod help;
 mod kept;
 pub mod laws;
 mod named;
 mod node_reports;
 mod product;
-mod question;
 mod referring;
-mod report;
-mod report_word;
-mod stop;
-mod subject;
 mod survey;
 
 pub use answerer::Answerer;
 pub use ask::{ask_kept, ask_to};
 pub use ask_fault::AskFault;
-pub use asker::Asker;
 pub use calls::{
     biggest_to, check_to, classes_to, histo_to, keeps_to, object_to, objects_to, path_to, refs_to,
     report_to, retained_to, show_to, suspects_to, text_to, threads_to, who_to, why_to,
 };
-pub use dialogue::{Answers, converse};
 pub use kept::Kept;
 pub use named::names_classes;
-pub use question::{Question, question_of};
-pub use report::{HeapReport, KindReport, Kinds, Node, NodeReport, Report};
-pub use report_word::{Follows, ReportRow, ReportWord};
-pub use stop::DialogueStop;
-pub use subject::Misnamed;

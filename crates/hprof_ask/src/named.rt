@@ -10,12 +10,11 @@ ghost use Rattle.hprof_meaning.specs.NamedText.{IsNamedText};
 ghost use Rattle.hprof_lines.specs.Stopping.{LeavesTarget, WritesText};
 ghost use Rattle.hprof_ask.specs.Kept.{IsKept};
 ghost use Rattle.hprof_ask.specs.Report.{IsNamedKind, IsNamedReport, IsReportOfClasses, NamesClasses, RefusesReport};
-ghost use Rattle.hprof_ask.specs.declared.report.Kinds.TheVariants as these;
-ghost use Rattle.hprof_ask.specs.declared.report.Node.TheVariants as that;
+ghost use Rattle.hprof_questions.specs.declared.report.Kinds.TheVariants as these;
+ghost use Rattle.hprof_questions.specs.declared.report.Node.TheVariants as that;
 
 use crate::answerer::Answerer;
 use crate::kept::{Kept, kept_or_made};
-use crate::report::{KindReport, NodeReport, Report};
 use hprof_devices::Target;
 use hprof_engine::{ProductRefusal, WriteStop};
 use hprof_heap::holds_of_heap;
@@ -24,6 +23,7 @@ use hprof_meaning::{
     class_dumps_meant, classes_meant, write_classes_of_name, write_objects_of_classes,
 };
 use hprof_naming::MeantLabel;
+use hprof_questions::{KindReport, NodeReport, Report};
 use std::alloc::{AllocError, Global};
 
 /// Returns whether a name is that of the class of all classes, which every heap has.

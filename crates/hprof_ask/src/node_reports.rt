@@ -16,7 +16,6 @@ ghost use Rattle.hprof_ask.specs.Report.{IsNodeReport};
 
 use crate::answerer::Answerer;
 use crate::kept::{Kept, kept_or_made, retained_or_made};
-use crate::report::NodeReport;
 use crate::survey::view_of;
 use hprof_devices::Target;
 use hprof_edges::{Edge, referrers};
@@ -24,6 +23,7 @@ use hprof_engine::WriteStop;
 use hprof_heap::holds_of_heap;
 use hprof_holders::write_who;
 use hprof_keeps::write_keeps;
+use hprof_questions::NodeReport;
 use hprof_reports::{write_object, write_path, write_refs, write_text};
 use hprof_show::write_show;
 use hprof_why::write_why;

@@ -1,13 +1,13 @@
 //! Reports as products of parts.
 
-ghost use Rattle.std.specs.Prelude.{◌≡◌, ◌∷◌, ◌++◌, ◌+◌, [], ℕ, List, ⊤};
+ghost use Rattle.std.specs.Prelude.{◌∷◌, []};
 
 use crate::answerer::Answerer;
 use crate::kept::Kept;
-use crate::report::{HeapReport, Report};
 use hprof_devices::Target;
 use hprof_engine::{Product, Summaries, WriteStop};
 use hprof_heap::Heap;
+use hprof_questions::{HeapReport, Report};
 use hprof_stream::PartSummary;
 use std::alloc::{AllocError, Global};
 

@@ -12,7 +12,7 @@ use Rattle.hprof_lines.specs.Passed.{stop_of_pass}
 use Rattle.hprof_making.specs.Over.{EndsOver}
 use Rattle.hprof_meaning.specs.MeantClasses.{AreMeantClasses}
 use Rattle.hprof_meaning.specs.ObjectsOfText.{IsObjectsOfText}
-use Rattle.hprof_ask.specs.declared.report.KindReport.TheVariants.{Objects}
+use Rattle.hprof_questions.specs.declared.report.KindReport.TheVariants.{Objects}
 use Rattle.hprof_ask.specs.Report.{IsNamedKind, NamesClasses}
 
 -- where a name is not answered, it means no class, and is not the name of the class of all classes

@@ -5,13 +5,13 @@ ghost use Rattle.hprof_devices.specs.declared.health.Health.TheVariants.{Well};
 ghost use Rattle.hprof_heap.specs.Heap.{heap_of};
 ghost use Rattle.hprof_heap.specs.HeapFacts.{facts_of, size_of};
 ghost use Rattle.hprof_stream.specs.declared.summary.PartSummary.{PartSummary};
-ghost use Rattle.hprof_ask.specs.declared.report.KindReport.TheVariants as reported;
-ghost use Rattle.hprof_ask.specs.declared.report.Kinds.TheVariants as these;
-ghost use Rattle.hprof_ask.specs.declared.report.Report.TheVariants as reports;
+ghost use Rattle.hprof_questions.specs.declared.report.KindReport.TheVariants as reported;
+ghost use Rattle.hprof_questions.specs.declared.report.Kinds.TheVariants as these;
+ghost use Rattle.hprof_questions.specs.declared.report.Report.TheVariants as reports;
 ghost use Rattle.hprof_ask.specs.Report.{IsNamedKind, IsReportText, NamesClasses, RefusesReport};
 ghost use Rattle.hprof_making.specs.Over.{EndsOver, heap_with};
 
-use hprof_ask::{Kinds, names_classes};
+use hprof_ask::names_classes;
 use hprof_devices::Target;
 use hprof_engine::{ProductRefusal, WriteStop};
 use hprof_heap::Heap;
@@ -19,6 +19,7 @@ use hprof_lines::{stop_of_pass, write_objects_over};
 use hprof_meaning::{classes_meant_over, write_objects_of_classes_over};
 use hprof_naming::{ClassNames, MeantLabel};
 use hprof_passes::{Objects, PassStop};
+use hprof_questions::Kinds;
 use std::alloc::Global;
 
 /// Returns whether a name is answered where it means these classes: there is one, or it is the name of the class of all classes.

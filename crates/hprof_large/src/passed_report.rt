@@ -1,15 +1,15 @@
 //! Reports that are made of passes over objects.
 
-ghost use Rattle.std.specs.Prelude.{◌≡◌, ℕ, List};
+ghost use Rattle.std.specs.Prelude.{◌≡◌};
 
 use crate::checked::write_check;
 use crate::named::write_objects;
-use hprof_ask::{HeapReport, KindReport, Kinds, Report};
 use hprof_devices::Target;
 use hprof_engine::{Summaries, WriteStop};
 use hprof_heap::Heap;
 use hprof_making::PassProduct;
 use hprof_passes::{Objects, PassStop};
+use hprof_questions::{HeapReport, KindReport, Kinds, Report};
 use hprof_reports::{write_classes_over, write_histogram_over};
 use hprof_stream::PartSummary;
 use std::alloc::{AllocError, Global};

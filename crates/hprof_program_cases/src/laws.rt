@@ -1,9 +1,10 @@
 //! The laws of the engine and the reports.
 
-use hprof_ask::{HeapReport, Report, laws as ask_laws};
+use hprof_ask::laws as ask_laws;
 use hprof_dump::laws as dump101_laws;
 use hprof_engine::{Dump, Dump101};
 use hprof_naming::laws as naming_laws;
+use hprof_questions::{HeapReport, Report};
 use hprof_tool::laws;
 
 /// Calls each law of the engine, of the reports, of salvage, of names and of the 1.0.1 dump.

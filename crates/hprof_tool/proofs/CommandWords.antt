@@ -2,10 +2,10 @@
 use Rattle.std.proofs.Common.{◌≤◌, ℕ, take, length, subst}
 use Rattle.std.specs.List.{AllByRecursion}
 use Rattle.std.proofs.lemmas.List.{take_all}
-use Rattle.hprof_ask.specs.declared.report.HeapReport.TheVariants as heaps
-use Rattle.hprof_ask.specs.declared.report.KindReport.TheVariants as kinds
-use Rattle.hprof_ask.specs.declared.report.NodeReport.TheVariants as nodes
-use Rattle.hprof_ask.specs.declared.report_word.ReportWord.TheVariants as words
+use Rattle.hprof_questions.specs.declared.report.HeapReport.TheVariants as heaps
+use Rattle.hprof_questions.specs.declared.report.KindReport.TheVariants as kinds
+use Rattle.hprof_questions.specs.declared.report.NodeReport.TheVariants as nodes
+use Rattle.hprof_questions.specs.declared.report_word.ReportWord.TheVariants as words
 use Rattle.hprof_tool.specs.declared.command.NewFile.TheVariants as files
 use Rattle.hprof_tool.specs.declared.command.subcommands.CommandWord.{CommandWord}
 use Rattle.hprof_tool.specs.declared.command.subcommands.CommandWord.TheVariants as commands

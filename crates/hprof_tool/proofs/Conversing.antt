@@ -7,17 +7,17 @@ use Rattle.hprof_engine.specs.declared.tool_fault.ToolFault.{ToolFault}
 use Rattle.hprof_engine.specs.declared.tool_fault.ToolFault.TheVariants as tool
 use Rattle.hprof_engine.specs.Joining.{IsOfReading}
 use Rattle.hprof_engine.specs.Makes.{dump_making}
-use Rattle.hprof_ask.specs.declared.question.Question.{Question}
-use Rattle.hprof_ask.specs.declared.stop.DialogueStop.TheVariants as stops
-use Rattle.hprof_ask.specs.Dialogue.{AnswersLines, AnswersSome, AreOpenLines, Came, IsOver}
-use Rattle.hprof_ask.specs.Lines.{AreLines}
+use Rattle.hprof_questions.specs.declared.question.Question.{Question}
+use Rattle.hprof_questions.specs.declared.stop.DialogueStop.TheVariants as stops
+use Rattle.hprof_questions.specs.Dialogue.{AnswersLines, AnswersSome, AreOpenLines, Came, IsOver}
+use Rattle.hprof_questions.specs.Lines.{AreLines}
 use Rattle.hprof_ask.specs.declared.ask_fault.AskFault.{AskFault}
 use Rattle.hprof_ask.specs.declared.ask_fault.AskFault.TheVariants as faults
 use Rattle.hprof_ask.specs.HeapAnswers.{IsHeapAnswer}
 use Rattle.hprof_ask.specs.Asks.{Asks, PassesAnswersOn}
 use Rattle.hprof_ask.specs.Asks as asking
-use Rattle.hprof_ask.proofs.Hearing.{some_for}
-use Rattle.hprof_ask.proofs.QuitLines.{quit_answers}
+use Rattle.hprof_questions.proofs.Hearing.{some_for}
+use Rattle.hprof_questions.proofs.QuitLines.{quit_answers}
 use Rattle.hprof_tool.specs.declared.program.refused.Refused.{Refused}
 use Rattle.hprof_tool.specs.declared.program.refused.Refused.TheVariants as refusals
 use Rattle.hprof_tool.specs.Folder.{Answered, AreOpened}

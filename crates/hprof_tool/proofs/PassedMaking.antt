@@ -8,11 +8,11 @@ use Rattle.hprof_engine.specs.Joining.{none_known}
 use Rattle.hprof_engine.specs.Makes.{IsMadeOf, Makes}
 use Rattle.hprof_stored.specs.Storing.{HaveObject}
 use Rattle.hprof_stored.specs.StoredMaking.{stored_making}
-use Rattle.hprof_ask.specs.declared.report.Node.{Node}
-use Rattle.hprof_ask.specs.declared.report.Node.TheVariants as that
-use Rattle.hprof_ask.specs.declared.report.NodeReport.{NodeReport}
-use Rattle.hprof_ask.specs.declared.report.Report.{Report}
-use Rattle.hprof_ask.specs.declared.report.Report.TheVariants as reports
+use Rattle.hprof_questions.specs.declared.report.Node.{Node}
+use Rattle.hprof_questions.specs.declared.report.Node.TheVariants as that
+use Rattle.hprof_questions.specs.declared.report.NodeReport.{NodeReport}
+use Rattle.hprof_questions.specs.declared.report.Report.{Report}
+use Rattle.hprof_questions.specs.declared.report.Report.TheVariants as reports
 use Rattle.hprof_ask.specs.Report.{IsReportText, RefusesReport, TakesMemory, TakesRoom, report_making}
 use Rattle.hprof_large.specs.declared.passed_report.PassedReport.{PassedReport}
 use Rattle.hprof_large.specs.declared.passed_report.PassedReport.TheVariants as passed

@@ -6,10 +6,10 @@ use Rattle.hprof_runs.specs.ReadBack.{HoldsNothing}
 use Rattle.hprof_engine.specs.Makes.{IsMadeOf, Making}
 use Rattle.hprof_stored.specs.StoredMaking.{CanBeReadAgain}
 use Rattle.hprof_stored.specs.Storing.{HaveObject}
-use Rattle.hprof_ask.specs.declared.report.HeapReport.TheVariants as heaps
-use Rattle.hprof_ask.specs.declared.report.KindReport.TheVariants as kinds
-use Rattle.hprof_ask.specs.declared.report.Report.{Report}
-use Rattle.hprof_ask.specs.declared.report.Report.TheVariants as reports
+use Rattle.hprof_questions.specs.declared.report.HeapReport.TheVariants as heaps
+use Rattle.hprof_questions.specs.declared.report.KindReport.TheVariants as kinds
+use Rattle.hprof_questions.specs.declared.report.Report.{Report}
+use Rattle.hprof_questions.specs.declared.report.Report.TheVariants as reports
 use Rattle.hprof_ask.specs.Report.{IsReportText, RefusesReport, TakesMemory, TakesRoom}
 use Rattle.hprof_tool.specs.declared.program.again.Again.{Again}
 

@@ -6,16 +6,16 @@ use Rattle.clap.specs.Kinds.{HasKind}
 use Rattle.clap.specs.Simple.{App, Shape, new_rule, new_shape, subcommand_of}
 use Rattle.clap.specs.Lexer.{usize_max}
 use Rattle.clap.specs.Walk.{Rule, is_empty}
-use Rattle.hprof_ask.specs.declared.report_word.Follows.{Follows}
-use Rattle.hprof_ask.specs.declared.report_word.Follows.TheVariants as follow
-use Rattle.hprof_ask.specs.declared.report.HeapReport.{HeapReport}
-use Rattle.hprof_ask.specs.declared.report.HeapReport.TheVariants as heaps
-use Rattle.hprof_ask.specs.declared.report.KindReport.{KindReport}
-use Rattle.hprof_ask.specs.declared.report.KindReport.TheVariants as kinds
-use Rattle.hprof_ask.specs.declared.report.NodeReport.TheVariants as nodes
-use Rattle.hprof_ask.specs.declared.report_word.ReportWord.{ReportWord}
-use Rattle.hprof_ask.specs.declared.report_word.ReportWord.TheVariants as words
-use Rattle.hprof_ask.specs.Words.{follows_of}
+use Rattle.hprof_questions.specs.declared.report_word.Follows.{Follows}
+use Rattle.hprof_questions.specs.declared.report_word.Follows.TheVariants as follow
+use Rattle.hprof_questions.specs.declared.report.HeapReport.{HeapReport}
+use Rattle.hprof_questions.specs.declared.report.HeapReport.TheVariants as heaps
+use Rattle.hprof_questions.specs.declared.report.KindReport.{KindReport}
+use Rattle.hprof_questions.specs.declared.report.KindReport.TheVariants as kinds
+use Rattle.hprof_questions.specs.declared.report.NodeReport.TheVariants as nodes
+use Rattle.hprof_questions.specs.declared.report_word.ReportWord.{ReportWord}
+use Rattle.hprof_questions.specs.declared.report_word.ReportWord.TheVariants as words
+use Rattle.hprof_questions.specs.Words.{follows_of}
 use Rattle.hprof_tool.specs.declared.command.NewFile.TheVariants as files
 use Rattle.hprof_tool.specs.declared.command.subcommands.CommandRow.{CommandRow}
 use Rattle.hprof_tool.specs.declared.command.subcommands.CommandWord.{CommandWord}

@@ -4,9 +4,9 @@ use Rattle.std.specs.Borrow.{Bor}
 use Rattle.clap.specs.declared.error.ErrorKind.TheVariants.{OutOfMemory}
 use Rattle.clap.specs.Values.{kind_of}
 use Rattle.clap.specs.Walk.{Row, all_of, first_of}
-use Rattle.hprof_ask.specs.declared.report_word.Follows.{Follows}
-use Rattle.hprof_ask.specs.declared.report_word.Follows.TheVariants as follow
-use Rattle.hprof_ask.specs.Words.{follows_of, word_of}
+use Rattle.hprof_questions.specs.declared.report_word.Follows.{Follows}
+use Rattle.hprof_questions.specs.declared.report_word.Follows.TheVariants as follow
+use Rattle.hprof_questions.specs.Words.{follows_of, word_of}
 use Rattle.hprof_scratch.specs.Size.{IsSize}
 use Rattle.hprof_tool.specs.declared.command.NewFile.TheVariants as files
 use Rattle.hprof_tool.specs.declared.command.Misunderstood.{Misunderstood}

@@ -10,19 +10,18 @@ use Rattle.hprof_devices.specs.declared.health.Health.TheVariants as healths
 use Rattle.hprof_stream.specs.declared.summary.PartSummary.{PartSummary}
 use Rattle.hprof_rows.specs.HeapValue.{HeapValue}
 use Rattle.hprof_engine.specs.declared.tool_fault.ToolFault.TheVariants as tool
-use Rattle.hprof_engine.specs.Joining.{Agree}
+use Rattle.hprof_engine.specs.Joining.{Agree, Tell}
 use Rattle.hprof_engine.specs.Makes.{dump_making}
 use Rattle.hprof_engine.specs.Summaries.{AreSummaries}
-use Rattle.hprof_ask.specs.declared.question.Question.{Question}
-use Rattle.hprof_ask.specs.declared.stop.DialogueStop.TheVariants as stops
-use Rattle.hprof_ask.specs.Dialogue.{AnswersLines, AnswersSome, AreOpenLines}
-use Rattle.hprof_ask.specs.Lines.{AreLines}
+use Rattle.hprof_questions.specs.declared.question.Question.{Question}
+use Rattle.hprof_questions.specs.declared.stop.DialogueStop.TheVariants as stops
+use Rattle.hprof_questions.specs.Dialogue.{AnswersLines, AnswersSome, AreOpenLines}
+use Rattle.hprof_questions.specs.Lines.{AreLines}
 use Rattle.hprof_ask.specs.declared.ask_fault.AskFault.{AskFault}
 use Rattle.hprof_ask.specs.declared.ask_fault.AskFault.TheVariants as faults
 use Rattle.hprof_ask.specs.HeapAnswers.{IsHeapAnswer}
 use Rattle.hprof_tool.specs.declared.program.refused.Refused.{Refused}
 use Rattle.hprof_tool.specs.declared.program.refused.Refused.TheVariants as refusals
-use Rattle.hprof_engine.specs.Joining.{Tell}
 use Rattle.hprof_tool.specs.Folder.{Answered}
 use Rattle.hprof_tool.specs.Program.{OfParts, IsOfMaking, IsRefusal, IsReportRefusal, refused_of}
 

@@ -5,9 +5,9 @@ use Rattle.hprof_devices.specs.declared.health.Health.{Health}
 use Rattle.hprof_engine.specs.Makes.{IsDump, IsMadeOf, Making}
 use Rattle.hprof_stored.specs.StoredMaking.{stored_dump_making}
 use Rattle.hprof_stored101.specs.StoredMaking101.{stored_dump101_making}
-use Rattle.hprof_ask.specs.declared.report.Report.{Report}
-use Rattle.hprof_ask.specs.declared.subject.Misnamed.{Misnamed}
-use Rattle.hprof_ask.specs.Asked.{AsksReport, IsMisnamed}
+use Rattle.hprof_questions.specs.declared.report.Report.{Report}
+use Rattle.hprof_questions.specs.declared.subject.Misnamed.{Misnamed}
+use Rattle.hprof_questions.specs.Asked.{AsksReport, IsMisnamed}
 use Rattle.hprof_ask.specs.Report.{IsReportText}
 use Rattle.hprof_tool.specs.Again.{report_of_parts}
 use Rattle.hprof_engine.specs.declared.salvaged.Salvaged.{Salvaged}

@@ -2,7 +2,7 @@
 
 ghost use Rattle.std.specs.Prelude.{◌≡◌, ◌<◌, ◌^◌, ℕ, false, map, MatchResult, IfOk, string_bytes, codes};
 ghost use Rattle.clap.specs.Words.{app_of, found_of, rows_of, rule_of, shape_of, subcommand_rows_of, with_subcommand};
-ghost use Rattle.hprof_ask.specs.Words.{follows_of};
+ghost use Rattle.hprof_questions.specs.Words.{follows_of};
 ghost use Rattle.hprof_scratch.specs.Size.{IsSize};
 ghost use Rattle.hprof_tool.specs.CommandLine.{IsAskedByWords, IsMisunderstanding, command_line, memory_rule, parts_rule, required_rule};
 ghost use Rattle.hprof_tool.specs.CommandLine.{rules_if, shape_of_row, with_rules};
@@ -10,7 +10,7 @@ ghost use Rattle.hprof_tool.specs.Commands.{ArePartsIn, AsksFor, AsksForNothing,
 ghost use Rattle.hprof_tool.specs.Commands.{memory_in, subject_in, text_in};
 
 use clap::{Arg, ArgAction, ArgMatches, Command, Error};
-use hprof_ask::{Follows, ReportWord};
+use hprof_questions::{Follows, ReportWord};
 use hprof_scratch::parse_size;
 use std::alloc::{AllocError, Global};
 use subcommands::{Argument, COMMANDS, CommandRow, CommandWord};

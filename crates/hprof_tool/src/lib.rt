@@ -9,9 +9,9 @@ mod status;
 mod storage;
 
 pub use hprof_ask::{
-    AskFault, DialogueStop, HeapReport, KindReport, Kinds, Node, NodeReport, Report, ask_to,
-    biggest_to, check_to, classes_to, histo_to, keeps_to, object_to, objects_to, path_to, refs_to,
-    report_to, retained_to, show_to, suspects_to, text_to, threads_to, who_to, why_to,
+    AskFault, ask_to, biggest_to, check_to, classes_to, histo_to, keeps_to, object_to, objects_to,
+    path_to, refs_to, report_to, retained_to, show_to, suspects_to, text_to, threads_to, who_to,
+    why_to,
 };
 pub use hprof_devices::{Device, Health, Source, Target};
 pub use hprof_diff::{DiffFault, diff_to};
@@ -20,6 +20,7 @@ pub use hprof_engine::{
     join101_kept, join101_to, salvage_kept, salvage_to,
 };
 pub use hprof_heap::Heap;
+pub use hprof_questions::{DialogueStop, HeapReport, KindReport, Kinds, Node, NodeReport, Report};
 pub use hprof_stream::{Limits, PartFault};
 pub use program::run;
 pub use status::Status;

@@ -4,9 +4,9 @@ ghost use Rattle.std.specs.Prelude.{◌≡◌, ◌≢◌, ℕ, List, [], ◌∷�
 ghost use Rattle.std.specs.Io.KnownBytes.{Appends};
 ghost use Rattle.hprof_devices.specs.declared.health.Health.TheVariants.{Well};
 ghost use Rattle.hprof_engine.specs.Makes.{IsDump, IsMadeOf};
-ghost use Rattle.hprof_ask.specs.declared.report.Report.{Report};
-ghost use Rattle.hprof_ask.specs.declared.subject.Misnamed.{Misnamed};
-ghost use Rattle.hprof_ask.specs.Asked.{AsksReport, IsMisnamed};
+ghost use Rattle.hprof_questions.specs.declared.report.Report.{Report};
+ghost use Rattle.hprof_questions.specs.declared.subject.Misnamed.{Misnamed};
+ghost use Rattle.hprof_questions.specs.Asked.{AsksReport, IsMisnamed};
 ghost use Rattle.hprof_ask.specs.HeapAnswers.{misnamed_text};
 ghost use Rattle.hprof_ask.specs.Report.{IsReportText};
 ghost use Rattle.hprof_tool.specs.Again.{IsReadyFor, report_of_parts};
@@ -32,10 +32,10 @@ use answers::{
 use comparing::compare_files;
 use conversing::ask_files;
 use folder::Folder;
-use hprof_ask::ReportWord;
 use hprof_devices::{Device, Source};
 use hprof_engine::{Dump, Dump101};
 use hprof_handles::ReadAt;
+use hprof_questions::ReportWord;
 use hprof_runs::Scratch;
 use joining::{join_stream, report_files, write_file};
 use made::Made;

@@ -8,11 +8,12 @@ use crate::engine::{Answer, Call, Given, Ways, made, plain, text_of_fault};
 use crate::outcome::Outcome;
 use crate::streams::{Reader, Writer};
 use crate::trouble::Trouble;
-use hprof_ask::{AskFault, DialogueStop, Kinds, Node, Report, ReportWord, ask_to};
+use hprof_ask::{AskFault, ask_to};
 use hprof_devices::Device;
 use hprof_engine::ToolFault;
 use hprof_histogram::Kind;
 use hprof_naming::type_word;
+use hprof_questions::{DialogueStop, Kinds, Node, Report, ReportWord};
 use hprof_stream::Limits;
 use std::alloc::{AllocError, Global};
 

@@ -7,7 +7,7 @@ ghost use Rattle.hprof_tool.specs.CommandLine.{shape_of_row};
 ghost use Rattle.hprof_tool.specs.Commands.{command_word};
 
 use super::{NewFile, help};
-use hprof_ask::{Follows, HeapReport, KindReport, NodeReport, ReportWord};
+use hprof_questions::{Follows, HeapReport, KindReport, NodeReport, ReportWord};
 
 /// An argument that a command must be given.
 #[derive(Clone, Copy)]

@@ -13,7 +13,7 @@ use crate::program::telling::tell_line;
 use crate::status::Status;
 use clap::Error;
 use clap::error::ErrorKind;
-use hprof_ask::Misnamed;
+use hprof_questions::Misnamed;
 use std::alloc::Global;
 use std::io;
 use std::io::Write;

@@ -3,7 +3,6 @@
 ghost use Rattle.std.specs.Prelude.{◌≡◌, [], List, All, None, IfOk, IfErr};
 ghost use Rattle.std.specs.Io.Buffered.{writer_buffer, writer_contents};
 ghost use Rattle.hprof_devices.specs.Buffered.{buffered_health, buffered_of};
-ghost use Rattle.hprof_devices.specs.Device.{inner_of};
 ghost use Rattle.hprof_devices.specs.declared.health.Health.TheVariants.{Well};
 ghost use Rattle.hprof_ask.specs.Asks.{Asks, LetsAsk, PassesAnswersOn, fault_of_asking};
 ghost use Rattle.hprof_tool.specs.Conversing.{AnswersAll, AnswersQuestions, CannotReadOn, LeavesAnswers, OverReaders, RefusesQuestions};
@@ -15,8 +14,9 @@ use crate::program::folder::Folder;
 use crate::program::opening::open_parts;
 use crate::program::refused::{Refused, Stopped};
 use crate::program::writing::BUFFER_LEN;
-use hprof_ask::{AskFault, Asker, ask_kept};
+use hprof_ask::{AskFault, ask_kept};
 use hprof_devices::{BufferedDevice, Device, Source};
+use hprof_questions::Asker;
 use hprof_stream::Limits;
 use std::alloc::Global;
 use std::io::{BufWriter, Write};

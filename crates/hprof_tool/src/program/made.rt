@@ -10,12 +10,13 @@ ghost use Rattle.hprof_tool.specs.Again.{IsReadyFor};
 ghost use Rattle.hprof_tool.specs.Program.{usual_limits};
 
 use crate::program::again::Again;
-use hprof_ask::{Node, NodeReport, Report, refs_to, who_to};
+use hprof_ask::{refs_to, who_to};
 use hprof_devices::{Source, Target};
 use hprof_engine::{Dump, Dump101, Product, ToolFault, make_to};
 use hprof_handles::{Handles, ReadAt};
 use hprof_large::PassedReport;
 use hprof_making::{PassProduct, make_stored};
+use hprof_questions::{Node, NodeReport, Report};
 use hprof_runs::Scratch;
 use hprof_stored::join_stored;
 use hprof_stored101::join101_stored;

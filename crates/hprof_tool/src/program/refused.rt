@@ -3,9 +3,10 @@
 ghost use Rattle.std.specs.Prelude.{◌≡◌, IfOk, string_bytes};
 ghost use Rattle.hprof_tool.specs.Program.{IsDumpRefusalText, IsRefusalText, of_dump, of_only_part};
 
-use hprof_ask::{AskFault, DialogueStop};
+use hprof_ask::AskFault;
 use hprof_devices::WriteFault;
 use hprof_engine::{Loss, ToolFault};
+use hprof_questions::DialogueStop;
 use std::alloc::{AllocError, AllocFailed, Global};
 
 /// The reason why the program refused.

@@ -2,7 +2,7 @@ use Rattle.std.proofs.Common.{◌++◌, codes}
 use Rattle.std.specs.List.{flat_map}
 use Rattle.std.proofs.lemmas.Result.{err_from_is_err_and}
 use Rattle.hprof_lines.proofs.TextWriting.{text_stops, text_then}
-use Rattle.hprof_ask.specs.Words.{all_words, usage_line}
+use Rattle.hprof_questions.specs.Words.{all_words, usage_line}
 use Rattle.hprof_ask.proofs.answers.write_help.Goals as goal
 
 pub returns-in_err-write_str-clause-bytes : goal.returns-in_err-write_str-clause-bytes

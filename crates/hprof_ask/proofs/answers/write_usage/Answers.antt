@@ -3,7 +3,7 @@ use Rattle.hprof_lines.proofs.TextWriting.{text_stops, text_then}
 use Rattle.hprof_lines.specs.Stopping.{WritesText}
 use Rattle.std.proofs.Common.{◌≡◌, ◌∙◌, ap, subst}
 use Rattle.std.specs.Io.KnownBytes.{Appends}
-use Rattle.hprof_ask.specs.Words.{follows_of, follows_text, word_of}
+use Rattle.hprof_questions.specs.Words.{follows_of, follows_text, word_of}
 use Rattle.hprof_ask.proofs.answers.write_usage.Goals as goal
 
 pub returns-in_err-write_str-clause-bytes : goal.returns-in_err-write_str-clause-bytes

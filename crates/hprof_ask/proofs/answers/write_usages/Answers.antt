@@ -1,7 +1,7 @@
 use Rattle.std.proofs.lemmas.Result.{err_from_is_err_and}
-use Rattle.hprof_ask.specs.declared.report.HeapReport.TheVariants.{Check}
-use Rattle.hprof_ask.specs.declared.report_word.ReportWord.TheVariants.{Heap}
-use Rattle.hprof_ask.specs.Words.{all_words, usage_line}
+use Rattle.hprof_questions.specs.declared.report.HeapReport.TheVariants.{Check}
+use Rattle.hprof_questions.specs.declared.report_word.ReportWord.TheVariants.{Heap}
+use Rattle.hprof_questions.specs.Words.{all_words, usage_line}
 use Rattle.hprof_reports.proofs.Slices.{slice_more, slice_all}
 use Rattle.hprof_ask.proofs.Usages.{usage_stops}
 use Rattle.hprof_ask.proofs.answers.write_usages.Goals as goal

@@ -1,7 +1,7 @@
 use Rattle.std.proofs.Common.{◌≡◌, drop}
 use Rattle.hprof_devices.specs.declared.health.Health.TheVariants.{Well}
 use Rattle.hprof_devices.proofs.OneByOne.{Wrote}
-use Rattle.hprof_ask.specs.Words.{all_words, usage_line}
+use Rattle.hprof_questions.specs.Words.{all_words, usage_line}
 use Rattle.hprof_ask.proofs.answers.write_usages.Given as goal
 
 abbrev pub invariant-loop-word : goal.invariant-loop-word

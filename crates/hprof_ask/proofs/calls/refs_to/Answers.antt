@@ -9,9 +9,9 @@ use Rattle.hprof_engine.proofs.Making.{refused, ended}
 use Rattle.hprof_graph.specs.Indexed.{indexed_heap}
 use Rattle.hprof_lines.specs.Line.{text_of_lines}
 use Rattle.hprof_reports.specs.RefsText.{edge_line}
-use Rattle.hprof_ask.specs.declared.report.NodeReport.TheVariants as nodes
-use Rattle.hprof_ask.specs.declared.report.Node.TheVariants as that
-use Rattle.hprof_ask.specs.declared.report.Report.TheVariants as reports
+use Rattle.hprof_questions.specs.declared.report.NodeReport.TheVariants as nodes
+use Rattle.hprof_questions.specs.declared.report.Node.TheVariants as that
+use Rattle.hprof_questions.specs.declared.report.Report.TheVariants as reports
 use Rattle.hprof_ask.specs.Report.{IsReportText, RefusesReport, TakesRoom, report_making}
 use Rattle.hprof_ask.proofs.Ends.{text_ends}
 use Rattle.hprof_ask.proofs.calls.refs_to.Goals as goal

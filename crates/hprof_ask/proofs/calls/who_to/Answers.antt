@@ -7,9 +7,9 @@ use Rattle.hprof_engine.specs.Makes.{Makes}
 use Rattle.hprof_engine.proofs.Answers.{summaries_held}
 use Rattle.hprof_engine.proofs.Making.{refused, ended}
 use Rattle.hprof_graph.specs.Indexed.{indexed_heap}
-use Rattle.hprof_ask.specs.declared.report.NodeReport.TheVariants as nodes
-use Rattle.hprof_ask.specs.declared.report.Node.TheVariants as that
-use Rattle.hprof_ask.specs.declared.report.Report.TheVariants as reports
+use Rattle.hprof_questions.specs.declared.report.NodeReport.TheVariants as nodes
+use Rattle.hprof_questions.specs.declared.report.Node.TheVariants as that
+use Rattle.hprof_questions.specs.declared.report.Report.TheVariants as reports
 use Rattle.hprof_ask.specs.Report.{IsReportText, RefusesReport, TakesRoom, report_making}
 use Rattle.hprof_ask.proofs.Ends.{text_ends}
 use Rattle.hprof_ask.proofs.calls.who_to.Goals as goal

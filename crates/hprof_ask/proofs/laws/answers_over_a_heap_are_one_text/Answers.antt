@@ -1,7 +1,7 @@
 use Rattle.std.proofs.Common.{sym, subst}
-use Rattle.hprof_ask.specs.Answering.{AreAnswers}
-use Rattle.hprof_ask.proofs.Hearing.{answers_then}
-use Rattle.hprof_ask.proofs.OneText.{answers_ended, answers_front, answers_once, answers_split, some_answers}
+use Rattle.hprof_questions.specs.Answering.{AreAnswers}
+use Rattle.hprof_questions.proofs.Hearing.{answers_then}
+use Rattle.hprof_questions.proofs.OneText.{answers_ended, answers_front, answers_once, answers_split, some_answers}
 use Rattle.hprof_ask.specs.HeapAnswers.{IsHeapAnswer}
 use Rattle.hprof_ask.specs.OneHeapAnswer.{one_heap_answer}
 use Rattle.hprof_ask.specs.SomeHeapAnswer.{some_answer}

@@ -1,5 +1,5 @@
-use Rattle.hprof_ask.specs.Answering.{AreAnswers}
-use Rattle.hprof_ask.proofs.OneText.{answers_once, some_answers}
+use Rattle.hprof_questions.specs.Answering.{AreAnswers}
+use Rattle.hprof_questions.proofs.OneText.{answers_once, some_answers}
 use Rattle.hprof_engine.proofs.MadeOnce.{made_once, made_some}
 use Rattle.hprof_ask.specs.HeapAnswers.{IsHeapAnswer}
 use Rattle.hprof_ask.specs.OneHeapAnswer.{one_heap_answer}

@@ -2,9 +2,9 @@ use Rattle.std.proofs.Common.{sym, subst}
 use Rattle.hprof_heap.specs.Heap.{heap_of}
 use Rattle.hprof_heap.specs.HeapFacts.{facts_of, size_of}
 use Rattle.hprof_lines.specs.ObjectsText.{IsObjectsText}
-use Rattle.hprof_ask.specs.declared.report.KindReport.TheVariants.{Objects}
-use Rattle.hprof_ask.specs.declared.report.Kinds.{Kinds}
-use Rattle.hprof_ask.specs.declared.report.Report.TheVariants as reports
+use Rattle.hprof_questions.specs.declared.report.KindReport.TheVariants.{Objects}
+use Rattle.hprof_questions.specs.declared.report.Kinds.{Kinds}
+use Rattle.hprof_questions.specs.declared.report.Report.TheVariants as reports
 use Rattle.hprof_ask.specs.Report.{IsReportText, RefusesReport}
 use Rattle.hprof_making.specs.Over.{EndsOver, heap_with}
 use Rattle.hprof_making.proofs.Passed.{ends_over}

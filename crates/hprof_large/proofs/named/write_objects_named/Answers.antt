@@ -1,11 +1,11 @@
-use Rattle.std.proofs.Common.{◌≡◌, ℕ, false, true, List, [], refl, sym, subst, ◌∙◌}
+use Rattle.std.proofs.Common.{◌≡◌, false, true, List, [], refl, sym, subst, ◌∙◌}
 use Rattle.std.specs.List.Sorted.{IsStrictlyIncreasing}
 use Rattle.hprof_heap.specs.HeapFacts.{facts_of, size_of}
 use Rattle.hprof_meaning.specs.MeantClasses.{AreMeantClasses}
 use Rattle.hprof_meaning.specs.ObjectsOfText.{IsObjectsOfText}
-use Rattle.hprof_ask.specs.declared.report.KindReport.TheVariants.{Objects}
-use Rattle.hprof_ask.specs.declared.report.Kinds.TheVariants.{Named}
-use Rattle.hprof_ask.specs.declared.report.Report.TheVariants as reports
+use Rattle.hprof_questions.specs.declared.report.KindReport.TheVariants.{Objects}
+use Rattle.hprof_questions.specs.declared.report.Kinds.TheVariants.{Named}
+use Rattle.hprof_questions.specs.declared.report.Report.TheVariants as reports
 use Rattle.hprof_ask.specs.Report.{IsNamedKind, RefusesReport}
 use Rattle.hprof_making.proofs.Passed.{ends_over}
 use Rattle.hprof_large.proofs.NamedKind.{named_kind, none_meant, stops_before}

@@ -1,5 +1,5 @@
 use Rattle.std.proofs.Common.{ℕ, List, subst}
-use Rattle.hprof_ask.specs.Asked.{AsksReport}
+use Rattle.hprof_questions.specs.Asked.{AsksReport}
 use Rattle.hprof_tool.specs.Again.{report_of_parts}
 use Rattle.hprof_tool.specs.Streams.{RefusesReport}
 use Rattle.hprof_tool.specs.Telling.{TellsRefusal}

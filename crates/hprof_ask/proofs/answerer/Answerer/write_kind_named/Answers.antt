@@ -1,6 +1,6 @@
 use Rattle.hprof_heap.specs.HeapFacts.{facts_of, size_of}
-use Rattle.hprof_ask.specs.declared.report.Kinds.TheVariants as these
-use Rattle.hprof_ask.specs.declared.report.Report.TheVariants as reports
+use Rattle.hprof_questions.specs.declared.report.Kinds.TheVariants as these
+use Rattle.hprof_questions.specs.declared.report.Report.TheVariants as reports
 use Rattle.hprof_ask.proofs.Ends.{wanted}
 use Rattle.hprof_ask.proofs.answerer.Answerer.write_kind_named.Goals as goal
 

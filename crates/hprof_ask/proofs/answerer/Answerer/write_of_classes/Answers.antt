@@ -2,7 +2,7 @@ use Rattle.std.proofs.Common.{subst, sym}
 use Rattle.hprof_heap.specs.HeapFacts.{facts_of, size_of}
 use Rattle.hprof_ask.specs.OfName.{biggest_of_name}
 use Rattle.hprof_ask.specs.Report.{IsReportOfClasses}
-use Rattle.hprof_ask.specs.declared.report.KindReport.{KindReport}
+use Rattle.hprof_questions.specs.declared.report.KindReport.{KindReport}
 use Rattle.hprof_ask.proofs.answerer.Answerer.write_of_classes.Goals as goal
 
 -- class dumps are chosen exactly if the name is that of the class of all classes

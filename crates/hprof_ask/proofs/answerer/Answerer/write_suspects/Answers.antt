@@ -1,7 +1,7 @@
 use Rattle.std.proofs.lemmas.Result.{err_from_is_err_and}
 use Rattle.hprof_heap.specs.HeapFacts.{facts_of, size_of}
 use Rattle.hprof_lines.proofs.TextWriting.{text_unwritten}
-use Rattle.hprof_ask.specs.declared.report.HeapReport.TheVariants as heaps
+use Rattle.hprof_questions.specs.declared.report.HeapReport.TheVariants as heaps
 use Rattle.hprof_ask.specs.SomeReport.{some_heap_report}
 use Rattle.hprof_ask.proofs.answerer.Answerer.write_suspects.Goals as goal
 

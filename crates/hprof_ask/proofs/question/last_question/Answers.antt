@@ -1,5 +1,0 @@
-use Rattle.hprof_ask.proofs.KeptLines.{front_asks}
-use Rattle.hprof_ask.proofs.question.last_question.Goals as goal
-
-pub returns : goal.returns
-returns c = λ line is. front_asks line c.args.kept.now c.question_of.result is c.question_of.ensures

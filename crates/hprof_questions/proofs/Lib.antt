@@ -1,0 +1,10 @@
+pub mod LineLemmas
+pub mod KeptLines
+pub mod Hearing
+pub mod Dialogues
+pub mod OneLine
+pub mod OneQuestion
+pub mod OneText
+pub mod QuitLines
+pub mod WordLists
+pub mod SomeQuestion

@@ -1,0 +1,120 @@
+-- What taking lines and answering them comes to.
+--   IsAnswer: this text is the answer to that question;  bytes: what came of the questions
+--   start, now: what the writer held before, and holds
+use Rattle.std.specs.Prelude.{◌≡◌, ◌⊎◌, ℕ, ◌≤◌, ◌-◌, ◌^◌, List, [], ◌∷◌, ◌++◌, length, take, Option, Result, Ok, Err, ⊤}
+use Rattle.std.specs.Io.KnownBytes.{Appends, Consumes, IsAtEnd}
+use Rattle.hprof_devices.specs.declared.health.Health.{Health}
+use Rattle.hprof_devices.specs.declared.health.Health.TheVariants as healths
+use Rattle.hprof_devices.specs.Device.{health_after}
+use Rattle.hprof_questions.specs.declared.dialogue.Course.{Course}
+use Rattle.hprof_questions.specs.declared.dialogue.Course.TheVariants as courses
+use Rattle.hprof_questions.specs.declared.question.Question.{Question}
+use Rattle.hprof_questions.specs.declared.stop.DialogueStop.{DialogueStop}
+use Rattle.hprof_questions.specs.declared.stop.DialogueStop.TheVariants as stops
+use Rattle.hprof_questions.specs.Answering.{AreAnswers, IsLineAnswer}
+use Rattle.hprof_questions.specs.Asked.{NoneQuits, Quits}
+use Rattle.hprof_questions.specs.Lines.{AreEndedLines, AreFirstLines, AreLines, AreTaken, HasNoFeed}
+
+-- these are the lines that end with a line feed, and none of them ends the dialogue
+abbrev pub AreOpenLines : List ℕ → List (List ℕ) → Type 0
+AreOpenLines bytes lines = AreEndedLines bytes lines × NoneQuits lines
+
+-- these are the first of the lines that end with a line feed; the last of them ends the dialogue, and none before it does
+pub record AreLinesToQuit (bytes : List ℕ) (lines : List (List ℕ)) : Type 0 where
+  pub before : List (List ℕ)
+  pub last : List ℕ
+  pub is : lines ≡ before ++ last ∷ []
+  pub none : NoneQuits before
+  pub quits : Quits last
+  pub rest : List ℕ
+  pub first : AreFirstLines bytes lines rest
+
+module _ (IsAnswer : Question → List ℕ → Type 0) where
+  -- lines were taken of the bytes, and the answers to them were written
+  pub record AnswersLines (IsTaken : List ℕ → List (List ℕ) → Type 0) (bytes : List ℕ) (start now : Option (List ℕ)) : Type 0 where
+    pub lines : List (List ℕ)
+    pub taken : IsTaken bytes lines
+    pub text : List ℕ
+    pub are_answers : AreAnswers IsAnswer lines text
+    pub appended : Appends start now text
+
+  -- lines of which none ends the dialogue were taken of the bytes, and the answers to them were written, to the last of them some, from the
+  -- front
+  --   IsEnd: no more bytes come
+  pub record AnswersFront (IsEnd : Type 0) (bytes : List ℕ) (start now : Option (List ℕ)) : Type 0 where
+    pub lines : List (List ℕ)
+    pub last : List ℕ
+    pub taken : AreTaken IsEnd bytes (lines ++ last ∷ [])
+    pub none : NoneQuits (lines ++ last ∷ [])
+    pub text : List ℕ
+    pub are_answers : AreAnswers IsAnswer lines text
+    pub answer : List ℕ
+    pub is_answer : IsLineAnswer IsAnswer last answer
+    pub count : ℕ
+    pub within : count ≤ length answer
+    pub appended : Appends start now (text ++ take count answer)
+
+  -- the answers to all lines that were taken were written, or to the last of them some
+  abbrev pub AnswersSome : (IsEnd : Type 0) (bytes : List ℕ) (start now : Option (List ℕ)) → Type 0
+  AnswersSome IsEnd bytes start now = AnswersLines (AreTaken IsEnd) bytes start now ⊎ AnswersFront IsEnd bytes start now
+
+  -- the lines that ended are answered, none of them ends the dialogue, and this is kept of the bytes behind them: the first 4,098 bytes
+  pub record Heard (bytes : List ℕ) (start now : Option (List ℕ)) (kept : List ℕ) : Type 0 where
+    pub lines : List (List ℕ)
+    pub rest : List ℕ
+    pub first : AreFirstLines bytes lines rest
+    pub none : NoneQuits lines
+    pub no_feed : HasNoFeed rest
+    pub kept_is : kept ≡ take 4098 rest
+    pub text : List ℕ
+    pub are_answers : AreAnswers IsAnswer lines text
+    pub appended : Appends start now text
+
+  -- a piece of the bytes was gone over, behind which more may come, or a line in it ended the dialogue
+  abbrev pub GoesOver : (bytes : List ℕ) (start now : Option (List ℕ)) (kept : List ℕ) → Result Course DialogueStop → Type 0
+  GoesOver bytes start now kept (Ok courses.Open) = Heard bytes start now kept
+  GoesOver bytes start now kept (Ok courses.Ended) = AnswersLines AreLinesToQuit bytes start now
+  GoesOver bytes start now kept (Err stop) = AnswersSome ⊥ bytes start now
+
+  -- there are no more bytes
+  abbrev pub Finishes : {A : Type 0} → (bytes : List ℕ) (start now : Option (List ℕ)) → Result A DialogueStop → Type 0
+  Finishes bytes start now (Ok done) = AnswersLines AreLines bytes start now
+  Finishes bytes start now (Err stop) = AnswersSome ⊤ bytes start now
+
+  -- what came of the questions, and what was written of the answers
+  --   left, asking, pulls: what the source of questions has left to tell, how it is doing, how often it was pulled
+  --   written, well: what the writer holds, where it tells, and how it is doing
+  module _ {Q W : Type 0} (left : Q → Option (List ℕ)) (asking : Q → Health) (pulls : Q → ℕ) (written : W → Option (List ℕ))
+      (well : W → Health) (was is : Q) (before after : W) where
+    -- so far these bytes came, and that holds of them
+    pub record Came (Holds : (bytes : List ℕ) (start now : Option (List ℕ)) → Type 0) : Type 0 where
+      pub bytes : List ℕ
+      pub consumed : Consumes (left was) (left is) bytes
+      pub holds : Holds bytes (written before) (written after)
+
+    -- no more is to be answered: all lines of the questions are answered, of which no more come, or those up to one that ends the dialogue
+    abbrev pub IsOver : Type 0
+    IsOver = (Came (AnswersLines AreLines) × IsAtEnd (left is)) ⊎ Came (AnswersLines AreLinesToQuit)
+
+    -- how a dialogue ended
+    abbrev pub EndsDialogue : {A : Type 0} → Result A DialogueStop → Type 0
+    -- no more is to be answered
+    EndsDialogue (Ok done) = IsOver × (asking is ≡ healths.Well) × (well after ≡ healths.Well)
+    -- the questions could not be read on, or were read more often than can be counted: the lines that had ended are answered, and none of
+    -- them ends the dialogue
+    EndsDialogue (Err (stops.Questions fault)) = Came (AnswersLines AreOpenLines)
+        × ((asking is ≡ healths.Failed) ⊎ (2 ^ 64 - 1 ≤ pulls is)) × (well after ≡ healths.Well)
+    -- the writer failed or stuck
+    EndsDialogue (Err (stops.Write fault)) = Came (AnswersSome (IsAtEnd (left is))) × (asking is ≡ healths.Well)
+        × (well after ≡ health_after fault)
+    -- memory was wanted
+    EndsDialogue (Err stops.OutOfMemory) = Came (AnswersSome (IsAtEnd (left is))) × (asking is ≡ healths.Well) × (well after ≡ healths.Well)
+
+  -- the leave to read on: all lines that ended in what came are answered, none of them ends the dialogue, and all answers were flushed
+  --   start: what the writer held before;  flushed: nothing of what was written is held back
+  --   may_read: the source may be read on while that is the writer
+  module _ {Q W : Type 0} (left : Q → Option (List ℕ)) (written : W → Option (List ℕ)) (flushed : W → Type 0)
+      (may_read : Q → W → Type 0) (was : Q) (start : Option (List ℕ)) where
+    abbrev pub LetsReadOn : Type 0
+    LetsReadOn = (bytes : List ℕ) (is : Q) (after : W) → Consumes (left was) (left is) bytes
+        → AnswersLines AreOpenLines bytes start (written after) → flushed after → may_read is after

@@ -1,0 +1,286 @@
+//! Questions that are taken line by line, and answered.
+
+ghost use Rattle.std.specs.Prelude.{◌≡◌, ◌++◌, ◌∷◌, [], ◌<◌, ◌≤◌, ◌+◌, ◌-◌, ℕ, List, Option, take, length, vec_capacity};
+ghost use Rattle.std.specs.Prelude.{Err, OnOk};
+ghost use Rattle.std.specs.Io.KnownBytes.{Keeps};
+ghost use Rattle.hprof_devices.specs.declared.health.Health.TheVariants.{Well, Failed};
+ghost use Rattle.hprof_questions.specs.Answering.{LeavesWriter, PassesOn, TakesQuestion, WritesAnswer};
+ghost use Rattle.hprof_questions.specs.Dialogue.{EndsDialogue, Finishes, GoesOver, Heard, LetsReadOn};
+
+use crate::asker::Asker;
+use crate::question::{Question, ended_question, last_question};
+use crate::stop::DialogueStop;
+use hprof_devices::{Flush, ReadFault, Target};
+use std::alloc::Global;
+
+/// The number of bytes that are pulled at a time.
+const PIECE_LEN: usize = 4096;
+
+/// The number of bytes of a line that are kept. The longest line that is understood has one fewer, with a return behind it.
+const KEPT: usize = 4098;
+
+/// Whether a dialogue goes on.
+#[derive(Clone, Copy, Debug, PartialEq, Eq)]
+pub(crate) enum Course {
+    /// It goes on.
+    Open,
+    /// A line ended it.
+    Ended,
+}
+
+/// A type that answers questions.
+pub trait Answers {
+    ghost use Rattle.hprof_questions.specs.declared.question.Question.{Question};
+    ghost use Rattle.hprof_questions.specs.Same.{IsSame};
+    ghost use Rattle.hprof_devices.specs.declared.health.Health.TheVariants.{Well};
+
+    // The text is the answer to that question.
+    ghost is_answer: { Self → Question → List ℕ → Type 0 };
+
+    // What is kept between questions is of this. It is no part of any answer.
+    ghost keeps: { Self → Self.Kept → Type 0 };
+
+    /// The state that is kept between questions.
+    type Kept;
+
+    /// Writes the answer to a question. If it stops, at a fault or because memory runs out, some of the answer was written, from the front.
+    fn answer<W: Target>(
+        &self,
+        alloc: Global,
+        kept: &mut Self::Kept,
+        question: Question<'_>,
+        target: &mut W,
+    ) -> Result<(), DialogueStop>
+        requires well { W.health target.old ≡ Well }
+        requires kept { keeps self.now kept.old }
+        ensures bytes { (text : List ℕ) × is_answer self.now question.entry text
+            × WritesAnswer (W.written target.old) (W.written target.new) result text }
+        ensures health { LeavesWriter result (W.health target.new) }
+        ensures kept { keeps self.now kept.new };
+
+    // A question has an answer.
+    ghost some_answer: { (answers : Self) (question : Question) → (text : List ℕ) × is_answer answers question text };
+
+    // And no other, wherever the bytes of a name lie.
+    ghost one_answer: { (answers : Self) (question same : Question) (one other : List ℕ) → IsSame question same
+        → is_answer answers question one → is_answer answers same other → one ≡ other };
+}
+
+/// Keeps one more byte of a line, if there is room for it.
+fn keep(line: &mut Vec<u8>, byte: u8)
+    requires { KEPT ≤ vec_capacity line.old }
+    ensures kept { (rest : List ℕ) → line.old.items ≡ take 4098 rest → line.new.items ≡ take 4098 (rest ++ byte ∷ []) }
+    ensures room { KEPT ≤ vec_capacity line.new }
+{
+    if line.len() < KEPT {
+        line.push_reserved(byte);
+    }
+}
+
+/// Answers a question, unless it ends the dialogue. Returns whether the dialogue goes on.
+fn take_question<A: Answers, W: Target>(
+    alloc: Global,
+    answers: &A,
+    kept: &mut A::Kept,
+    question: Question<'_>,
+    target: &mut W,
+) -> Result<Course, DialogueStop>
+    requires well { W.health target.old ≡ Well }
+    requires kept { A.keeps answers.now kept.old }
+    ensures takes { TakesQuestion (A.is_answer answers.now) question.entry (W.written target.old) (W.written target.new) result }
+    ensures health { LeavesWriter result (W.health target.new) }
+    ensures kept { A.keeps answers.now kept.new }
+{
+    match question {
+        Question::Quit => Ok(Course::Ended),
+        _ => {
+            answers.answer(alloc, kept, question, target)?;
+            Ok(Course::Open)
+        }
+    }
+}
+
+/// Goes over a piece of the questions: answers each line that ends in it, up to one that ends the dialogue, and keeps the first bytes
+/// behind the last one. Returns whether the dialogue goes on.
+fn go_over<A: Answers, W: Target>(
+    alloc: Global,
+    answers: &A,
+    kept: &mut A::Kept,
+    piece: &[u8],
+    line: &mut Vec<u8>,
+    target: &mut W,
+) -> Result<Course, DialogueStop>
+    requires well { W.health target.old ≡ Well }
+    requires kept { A.keeps answers.now kept.old }
+    requires room { KEPT ≤ vec_capacity line.old }
+    ensures bytes { (bytes : List ℕ) (start : Option (List ℕ))
+        → Heard (A.is_answer answers.now) bytes start (W.written target.old) line.old.items
+        → GoesOver (A.is_answer answers.now) (bytes ++ piece.now) start (W.written target.new) line.new.items result }
+    ensures health { LeavesWriter result (W.health target.new) }
+    ensures kept { A.keeps answers.now kept.new }
+    ensures room { KEPT ≤ vec_capacity line.new }
+{
+    for byte in piece {
+        if *byte == b'\n' {
+            let question = ended_question(line);
+            if let Course::Ended = take_question(alloc, answers, kept, question, target)? {
+                return Ok(Course::Ended);
+            }
+            line.clear();
+        } else {
+            keep(line, *byte);
+        }
+    }
+    Ok(Course::Open)
+}
+
+/// Passes on all bytes that were written.
+fn flush_all<W: Flush>(target: &mut W) -> Result<(), DialogueStop>
+    requires { W.health target.old ≡ Well }
+    ensures bytes { Keeps (W.written target.old) (W.written target.new) }
+    ensures flushed { OnOk result (W.flushed target.new) }
+    ensures passes { PassesOn result (W.flushed target.new) }
+    ensures health { LeavesWriter result (W.health target.new) }
+{
+    match target.flush() {
+        Ok(()) => Ok(()),
+        Err(fault) => Err(DialogueStop::Write(fault)),
+    }
+}
+
+/// Passes on all bytes that were written before a stop, unless the writer has failed. Returns why it stops now.
+fn pass_on<W: Flush>(stop: DialogueStop, target: &mut W) -> DialogueStop
+    requires { LeavesWriter {A = Unit {0}} (Err stop) (W.health target.old) }
+    ensures bytes { Keeps (W.written target.old) (W.written target.new) }
+    ensures passes { PassesOn {A = Unit {0}} (Err result) (W.flushed target.new) }
+    ensures health { LeavesWriter {A = Unit {0}} (Err result) (W.health target.new) }
+{
+    if let DialogueStop::Write(fault) = stop {
+        return DialogueStop::Write(fault);
+    }
+    match flush_all(target) {
+        Ok(()) => stop,
+        Err(failed) => failed,
+    }
+}
+
+/// Answers the bytes behind the last line feed, if there are some.
+fn answer_last<A: Answers, W: Target>(
+    alloc: Global,
+    answers: &A,
+    kept: &mut A::Kept,
+    line: &[u8],
+    target: &mut W,
+) -> Result<(), DialogueStop>
+    requires well { W.health target.old ≡ Well }
+    requires kept { A.keeps answers.now kept.old }
+    ensures bytes { (bytes : List ℕ) (start : Option (List ℕ)) → Heard (A.is_answer answers.now) bytes start (W.written target.old) line.now
+        → Finishes (A.is_answer answers.now) bytes start (W.written target.new) result }
+    ensures health { LeavesWriter result (W.health target.new) }
+    ensures kept { A.keeps answers.now kept.new }
+{
+    if line.is_empty() {
+        return Ok(());
+    }
+    take_question(alloc, answers, kept, last_question(line), target)?;
+    Ok(())
+}
+
+/// Answers the bytes behind the last line feed, if there are some, and passes all on.
+fn finish<A: Answers, W: Flush>(
+    alloc: Global,
+    answers: &A,
+    kept: &mut A::Kept,
+    line: &[u8],
+    target: &mut W,
+) -> Result<(), DialogueStop>
+    requires well { W.health target.old ≡ Well }
+    requires kept { A.keeps answers.now kept.old }
+    ensures bytes { (bytes : List ℕ) (start : Option (List ℕ)) → Heard (A.is_answer answers.now) bytes start (W.written target.old) line.now
+        → Finishes (A.is_answer answers.now) bytes start (W.written target.new) result }
+    ensures health { LeavesWriter result (W.health target.new) }
+    ensures flushed { PassesOn result (W.flushed target.new) }
+    ensures kept { A.keeps answers.now kept.new }
+{
+    if let Err(stop) = answer_last(alloc, answers, kept, line, target) {
+        return Err(pass_on(stop, target));
+    }
+    flush_all(target)
+}
+
+/// Does what [`converse`] does, with room for a piece of the questions and for a line.
+fn take_lines<A: Answers, Q: Asker<W>, W: Flush>(
+    alloc: Global,
+    answers: &A,
+    kept: &mut A::Kept,
+    questions: &mut Q,
+    piece: &mut [u8],
+    line: &mut Vec<u8>,
+    target: &mut W,
+) -> Result<(), DialogueStop>
+    requires asking { Q.health questions.old ≡ Well }
+    requires well { W.health target.old ≡ Well }
+    requires kept { A.keeps answers.now kept.old }
+    requires leave { LetsReadOn (A.is_answer answers.now) Q.left W.written W.flushed Q.may_read questions.old (W.written target.old) }
+    requires some { 0 < length piece.old }
+    requires empty { line.old.items ≡ [] }
+    requires room { KEPT ≤ vec_capacity line.old }
+    ensures dialogue { EndsDialogue (A.is_answer answers.now) Q.left Q.health Q.pulls W.written W.health
+        questions.old questions.new target.old target.new result }
+    ensures flushed { PassesOn result (W.flushed target.new) }
+    ensures kept { A.keeps answers.now kept.new }
+{
+    'turns: for _turn in 0..u64::MAX {
+        if let Err(stop) = flush_all(target) {
+            return Err(stop);
+        }
+        let count = match questions.read_on(piece, target) {
+            Ok(count) => count,
+            Err(fault) => return Err(DialogueStop::Questions(fault)),
+        };
+        if count == 0 {
+            return finish(alloc, answers, kept, line, target);
+        }
+        match go_over(alloc, answers, kept, &piece[..count], line, target) {
+            Ok(Course::Open) => {}
+            Ok(Course::Ended) => return flush_all(target),
+            Err(stop) => return Err(pass_on(stop, target)),
+        }
+    }
+    // So often no source is pulled.
+    match flush_all(target) {
+        Ok(()) => Err(DialogueStop::Questions(ReadFault::Failed)),
+        Err(stop) => Err(stop),
+    }
+}
+
+/// Takes the lines of the questions and answers each, until there are no more or a line ends the dialogue. What stands behind that line is
+/// not answered, and no more is read. All answers so far are flushed before more is read, and at the end, also if memory runs out or the
+/// questions cannot be read on. Of a line no more than its first bytes are kept.
+pub fn converse<A: Answers, Q: Asker<W>, W: Flush>(
+    alloc: Global,
+    answers: &A,
+    kept: &mut A::Kept,
+    questions: &mut Q,
+    target: &mut W,
+) -> Result<(), DialogueStop>
+    requires asking { Q.health questions.old ≡ Well }
+    requires well { W.health target.old ≡ Well }
+    requires kept { A.keeps answers.now kept.old }
+    // No more is read before all lines that ended are answered, and the answers were flushed, nor behind a line that ends the dialogue.
+    requires leave { LetsReadOn (A.is_answer answers.now) Q.left W.written W.flushed Q.may_read questions.old (W.written target.old) }
+    ensures dialogue { EndsDialogue (A.is_answer answers.now) Q.left Q.health Q.pulls W.written W.health
+        questions.old questions.new target.old target.new result }
+    ensures flushed { PassesOn result (W.flushed target.new) }
+    ensures kept { A.keeps answers.now kept.new }
+{
+    let Ok(mut piece) = vec![in alloc; 0u8; PIECE_LEN] else {
+        return Err(pass_on(DialogueStop::OutOfMemory, target));
+    };
+    let Ok(mut line) = Vec::with_capacity(alloc, KEPT) else {
+        return Err(pass_on(DialogueStop::OutOfMemory, target));
+    };
+    take_lines(
+        alloc, answers, kept, questions, &mut piece, &mut line, target,
+    )
+}

@@ -1,0 +1,20 @@
+//! Reports by their words, questions that come as lines, and the dialogue that answers them.
+#![tactic(auto)]
+
+mod asker;
+mod dialogue;
+mod help;
+pub mod laws;
+mod question;
+mod report;
+mod report_word;
+mod stop;
+mod subject;
+
+pub use asker::Asker;
+pub use dialogue::{Answers, converse};
+pub use question::{Question, question_of};
+pub use report::{HeapReport, KindReport, Kinds, Node, NodeReport, Report};
+pub use report_word::{ALL, Follows, ReportRow, ReportWord};
+pub use stop::DialogueStop;
+pub use subject::Misnamed;
