@@ -5,8 +5,8 @@ from pathlib import Path
 
 ROOT = Path(__file__).resolve().parent.parent
 FOLDER = ROOT / "docs" / "completions"
-REPORTS = ROOT / "crates" / "hprof_ask" / "src" / "report_word.rt"
-COMMANDS = ROOT / "crates" / "hprof_tool" / "src" / "command" / "subcommands.rt"
+REPORTS = ROOT / "crates" / "hprof_questions" / "src" / "report_word.rt"
+COMMANDS = ROOT / "crates" / "hprof_command" / "src" / "command" / "subcommands.rt"
 REPORT = re.compile(r'word: "(\w+)",\s+follows: Follows::(\w+),\s+about: "([^"]*)"')
 COMMAND = re.compile(r'word: "(\w+)",\s+about: "([^"]*)",\s+help: [\w:]+,\s+arguments: &\[([\w, ]*)\]')
 # Which commands take the option --memory: each in its row, but reports in an arm of their own.

@@ -92,9 +92,9 @@ def examples():
 
 def manual():
     """The commands that the program or its manual page has alone, what `--version` should say, and the warnings of man."""
-    code = ROOT / "crates" / "hprof_tool" / "src" / "command"
+    code = ROOT / "crates" / "hprof_command" / "src" / "command"
     commands = set(re.findall(r"(?m)^\.SS (\w+)", MANUAL.read_text()))
-    tables = [code / "subcommands.rt", ROOT / "crates" / "hprof_ask" / "src" / "report_word.rt"]
+    tables = [code / "subcommands.rt", ROOT / "crates" / "hprof_questions" / "src" / "report_word.rt"]
     yield from sorted(commands ^ {word for table in tables for word in COMMAND.findall(table.read_text())})
     yield from set(KIT.findall((ROOT / "README.md").read_text())) - set(KIT.findall((code / "help.rt").read_text()))
     yield from warnings(MANUAL)

@@ -10,5 +10,3 @@ pub mod Streams
 pub mod Telling
 pub mod Comparing
 pub mod Tasks
-pub mod CommandWords
-pub mod CommandLine

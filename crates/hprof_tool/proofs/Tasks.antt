@@ -1,6 +1,6 @@
 -- What a folder lets a task do of which nothing is told.
-use Rattle.hprof_tool.specs.declared.command.Task.{Task}
-use Rattle.hprof_tool.specs.declared.command.Task.TheVariants as tasks
+use Rattle.hprof_command.specs.declared.command.Task.{Task}
+use Rattle.hprof_command.specs.declared.command.Task.TheVariants as tasks
 use Rattle.hprof_tool.specs.Folder.{nothing_told}
 use Rattle.hprof_tool.specs.Tasks.{MayDo}
 

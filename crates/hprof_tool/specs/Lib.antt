@@ -10,5 +10,3 @@ pub mod Comparing
 pub mod Tasks
 pub mod Telling
 pub mod Words
-pub mod Commands
-pub mod CommandLine

@@ -11,10 +11,10 @@ use Rattle.hprof_questions.specs.Asked.{AsksReport, IsMisnamed}
 use Rattle.hprof_ask.specs.Report.{IsReportText}
 use Rattle.hprof_tool.specs.Again.{report_of_parts}
 use Rattle.hprof_engine.specs.declared.salvaged.Salvaged.{Salvaged}
-use Rattle.hprof_tool.specs.declared.command.NewFile.{NewFile}
-use Rattle.hprof_tool.specs.declared.command.NewFile.TheVariants as files
-use Rattle.hprof_tool.specs.declared.command.Task.{Task}
-use Rattle.hprof_tool.specs.declared.command.Task.TheVariants as tasks
+use Rattle.hprof_command.specs.declared.command.NewFile.{NewFile}
+use Rattle.hprof_command.specs.declared.command.NewFile.TheVariants as files
+use Rattle.hprof_command.specs.declared.command.Task.{Task}
+use Rattle.hprof_command.specs.declared.command.Task.TheVariants as tasks
 use Rattle.hprof_tool.specs.declared.program.refused.Refused.{Refused}
 use Rattle.hprof_tool.specs.Comparing.{ComparesFiles, RefusesDiff}
 use Rattle.hprof_tool.specs.Conversing.{AnswersQuestions, HasFailed, RefusesQuestions}

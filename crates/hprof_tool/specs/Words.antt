@@ -4,8 +4,8 @@ use Rattle.hprof_stream.specs.declared.summary.PartSummary.{PartSummary}
 use Rattle.hprof_rows.specs.HeapValue.{HeapValue}
 use Rattle.hprof_engine.specs.Joining101.{IsDump101Text}
 use Rattle.hprof_engine.specs.Makes.{IsDumpText}
-use Rattle.hprof_tool.specs.declared.command.NewFile.{NewFile}
-use Rattle.hprof_tool.specs.declared.command.NewFile.TheVariants as files
+use Rattle.hprof_command.specs.declared.command.NewFile.{NewFile}
+use Rattle.hprof_command.specs.declared.command.NewFile.TheVariants as files
 
 -- the canonical dump, or the 1.0.1 dump
 abbrev pub is_new_file : NewFile → List PartSummary → HeapValue → List ℕ → Type 0

@@ -2,7 +2,6 @@
 //! and write something, and the laws of what they write.
 #![tactic(auto)]
 
-mod command;
 pub mod laws;
 mod program;
 mod status;

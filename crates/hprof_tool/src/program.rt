@@ -21,7 +21,6 @@ ghost use Rattle.hprof_tool.specs.Tasks.{DoesTask, IsMisnamedTask, MayDo, ReadsN
 ghost use Rattle.hprof_tool.specs.Telling.{TellsFaults, TellsFront, RefusesSalvage, TellsRefusal, told_line};
 ghost use Rattle.hprof_tool.specs.Words.{is_new_file};
 
-use crate::command::{Asked, Misunderstood, NewFile, OutName, Task, asked_of};
 use crate::status::Status;
 use crate::storage::Storage;
 use again::{Again, with_again};
@@ -32,6 +31,7 @@ use answers::{
 use comparing::compare_files;
 use conversing::ask_files;
 use folder::Folder;
+use hprof_command::{Asked, Misunderstood, NewFile, OutName, Task, asked_of};
 use hprof_devices::{Device, Source};
 use hprof_engine::{Dump, Dump101};
 use hprof_handles::ReadAt;

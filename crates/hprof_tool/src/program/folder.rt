@@ -1,13 +1,13 @@
 //! The files of the program.
 
-ghost use Rattle.std.specs.Prelude.{◌≡◌, ℕ, List, [], Some, IsSome, IfOk, IfErr, IfSome, OnErr};
+ghost use Rattle.std.specs.Prelude.{◌≡◌, ℕ, List, [], Some, IsSome, IfOk, IfErr, OnErr};
 ghost use Rattle.std.specs.Io.Buffered.{writer_buffer, writer_inner};
 ghost use Rattle.hprof_devices.specs.declared.health.Health.TheVariants.{Well};
 ghost use Rattle.hprof_runs.specs.ReadBack.{HoldsNothing};
 ghost use Rattle.hprof_tool.specs.Folder.{Answered};
 
-use crate::command::OutName;
 use crate::program::refused::Refused;
+use hprof_command::OutName;
 use hprof_devices::Source;
 use hprof_handles::ReadAt;
 use hprof_objects::Keeping;

@@ -1,6 +1,5 @@
 //! Files and writers round a progress meter. What is read and written is what the file or the writer itself would give and take.
 
-use crate::command::OutName;
 use crate::program::folder::Folder;
 use crate::program::meter::{Meter, Part};
 use crate::program::part_file::{PartFile, regular_length};
@@ -8,6 +7,7 @@ use crate::program::refused::Refused;
 use crate::program::scratch_place::{ScratchPlace, folder_of};
 use crate::program::writing::BUFFER_LEN;
 use crate::storage::Storage;
+use hprof_command::OutName;
 use hprof_devices::{Device, ReadFault, Source};
 use hprof_handles::{ReadAt, SharedFile};
 use hprof_objects::Keeping;
@@ -15,7 +15,7 @@ use hprof_scratch::LateScratch;
 use std::alloc::{AllocError, Global};
 use std::fs::{File, OpenOptions};
 use std::io::{BufWriter, ErrorKind, Read, Write};
-use std::os::unix::fs::{FileExt, OpenOptionsExt};
+use std::os::unix::fs::FileExt;
 use std::rt::{Clock, Files};
 use std::{fs, io};
 

@@ -6,9 +6,9 @@ ghost use Rattle.hprof_devices.specs.declared.health.Health.TheVariants.{Well};
 ghost use Rattle.hprof_tool.specs.Folder.{AreOpened, MayCreateBehind};
 ghost use Rattle.hprof_tool.specs.Program.{IsOfOpening, IsOfStarting};
 
-use crate::command::OutName;
 use crate::program::folder::Folder;
 use crate::program::refused::Refused;
+use hprof_command::OutName;
 use std::alloc::Global;
 use std::io::{BufWriter, Write};
 

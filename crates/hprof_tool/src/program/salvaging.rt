@@ -10,12 +10,12 @@ ghost use Rattle.hprof_tool.specs.Folder.{MayCreateBehind};
 ghost use Rattle.hprof_tool.specs.SalvagedFiles.{SalvagesStream, IsSalvagedFile, IsSalvageRefusal};
 ghost use Rattle.hprof_tool.specs.Telling.{TellsFaults, TellsFront, TellsSomeFaults, IsOfTelling, line_end};
 
-use crate::command::OutName;
 use crate::program::folder::Folder;
 use crate::program::opening::{Started, start_file};
 use crate::program::refused::{Refused, WRITE_FAILED};
 use crate::program::telling::write_part_line;
 use crate::program::writing::{Writing, take_apart};
+use hprof_command::OutName;
 use hprof_devices::{Device, Source};
 use hprof_engine::{FaultedPart, Salvaged, SalvagedHeap, ToolFault, salvage_kept};
 use hprof_stream::Limits;

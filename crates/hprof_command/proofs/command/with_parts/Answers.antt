@@ -1,0 +1,14 @@
+use Rattle.std.proofs.Common.{◌∙◌, ap}
+use Rattle.std.proofs.lemmas.Result.{IfOk-weaker}
+use Rattle.clap.specs.Words.{app_of, with_rule}
+use Rattle.hprof_command.specs.CommandLine.{parts_rule}
+use Rattle.hprof_command.proofs.CommandLine.{rule_left, rule_taken}
+use Rattle.hprof_command.proofs.command.with_parts.Goals as goal
+
+pub returns-then-takes_parts : goal.returns-then-takes_parts
+returns-then-takes_parts c = IfOk-weaker c.arg.result _ _ (λ command added. added.shape c.parts_arg.ensures.local
+    ∙ ap (with_rule (app_of c.args.command)) c.parts_arg.ensures.rule
+    ∙ rule_taken (app_of c.args.command) c.args.takes_parts parts_rule c.if-takes_parts.true) c.arg.ensures
+
+pub returns : goal.returns
+returns c = rule_left (app_of c.args.command) c.args.takes_parts parts_rule c.if-takes_parts.false

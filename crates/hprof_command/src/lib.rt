@@ -1,0 +1,6 @@
+//! The command line: which words ask for which task.
+#![tactic(auto)]
+
+mod command;
+
+pub use command::{Asked, Misunderstood, NewFile, OutName, Task, asked_of};
