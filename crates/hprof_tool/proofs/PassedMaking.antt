@@ -1,6 +1,6 @@
 -- What a report makes of parts, whether their objects are read again or not.
-use Rattle.std.proofs.Common.{◌≡◌, inl, inr, List, Option, ℕ}
-use Rattle.std.specs.Prelude.{◌⊎◌, ⊤}
+use Rattle.std.proofs.Common.{◌≡◌, ◌≢◌, inl, inr, List, Option, Some, None, ℕ, refl, subst}
+use Rattle.std.specs.Prelude.{◌⊎◌, ◌↔◌, ⊤, IsTrue, MatchOption, is_some}
 use Rattle.hprof_devices.specs.declared.health.Health.{Health}
 use Rattle.hprof_stream.specs.declared.limits.Limits.{Limits}
 use Rattle.hprof_engine.specs.declared.tool_fault.ToolFault.{ToolFault}
@@ -8,6 +8,8 @@ use Rattle.hprof_engine.specs.Joining.{none_known}
 use Rattle.hprof_engine.specs.Makes.{IsMadeOf, Makes}
 use Rattle.hprof_stored.specs.Storing.{HaveObject}
 use Rattle.hprof_stored.specs.StoredMaking.{stored_making}
+use Rattle.hprof_questions.specs.declared.report.HeapReport.TheVariants as heaps
+use Rattle.hprof_questions.specs.declared.report.KindReport.TheVariants as kinds
 use Rattle.hprof_questions.specs.declared.report.Node.{Node}
 use Rattle.hprof_questions.specs.declared.report.Node.TheVariants as that
 use Rattle.hprof_questions.specs.declared.report.NodeReport.{NodeReport}
@@ -25,6 +27,24 @@ is_passed passed.Check = tt
 is_passed passed.Histogram = tt
 is_passed passed.Classes = tt
 is_passed (passed.Objects kind) = tt
+
+-- the report is another one than those
+some_passed : (report : Report) → ((p : PassedReport) → report_of p ≢ report) → IsPassed report → ⊥
+some_passed (reports.Heap heaps.Check) other is = other passed.Check refl
+some_passed (reports.Heap heaps.Histogram) other is = other passed.Histogram refl
+some_passed (reports.Heap heaps.Classes) other is = other passed.Classes refl
+some_passed (reports.Heap heaps.Suspects) other is = is
+some_passed (reports.Heap heaps.Retained) other is = is
+some_passed (reports.Heap heaps.Threads) other is = is
+some_passed (reports.Kind kinds.Objects these) other is = other (passed.Objects these) refl
+some_passed (reports.Kind kinds.Biggest these) other is = is
+some_passed (reports.Node node id) other is = is
+
+-- a report is found to be one of those exactly if it needs every object
+pub found_passed : (report : Report) (found : Option PassedReport)
+    → MatchOption found ((p : PassedReport) → report_of p ≢ report) (λ p. report_of p ≡ report) → IsTrue (is_some found) ↔ IsPassed report
+found_passed report (Some p) is = (λ told. subst IsPassed is (is_passed p), λ passed. tt)
+found_passed report None other = (λ told. absurd told, λ is. absurd (some_passed report other is))
 
 -- a report on an identifier, by its parts
 pub node_report : (report : Report) (kind known : NodeReport) (node : Node) (id : ℕ) → report ≡ reports.Node kind node → kind ≡ known

@@ -17,14 +17,10 @@ use crate::program::writing::{write_buffered, write_through_buffer};
 use hprof_command::OutName;
 use hprof_devices::Source;
 use hprof_engine::{Dump, ToolFault};
-use hprof_handles::{ReadAt, SharedFile};
-use hprof_runs::{MemoryScratch, Scratch};
+use hprof_handles::ReadAt;
+use hprof_runs::Scratch;
 use std::alloc::Global;
-use std::fs::File;
 use std::io::Write;
-
-/// Parts that are read once.
-const READ_ONCE: Option<Again<SharedFile<File>, MemoryScratch>> = None;
 
 /// Returns what is needed to read the objects of opened parts again, or `None` if the product does not need it, or if they fit into the
 /// memory.

@@ -140,7 +140,7 @@ pub(crate) fn make_again<M: PassProduct, R: Source, H: ReadAt + Drop, S: Scratch
 
 /// A product that a command makes.
 pub(crate) trait Made {
-    ghost use Rattle.std.specs.Prelude.{◌≡◌, All, IfSome};
+    ghost use Rattle.std.specs.Prelude.{◌≡◌, ◌↔◌, All, IfSome, IsTrue};
     ghost use Rattle.hprof_tool.specs.Again.{IsReadyFor};
     ghost use Rattle.hprof_devices.specs.declared.health.Health.TheVariants.{Well};
     ghost use Rattle.hprof_engine.specs.Joining.{fault_of};
@@ -151,7 +151,8 @@ pub(crate) trait Made {
     ghost making: { Self → Making };
 
     /// Returns whether the objects of the parts are gone through again, if they do not fit into the memory.
-    fn reads_again(&self) -> bool;
+    fn reads_again(&self) -> bool
+        ensures { IsTrue result ↔ (making self.now).ReadsAgain };
 
     /// Makes it of the parts of the readers. Their objects are gone through again with `again`, if it is there.
     fn make<R: Source, H: ReadAt + Drop, S: Scratch + Drop, W: Target>(
@@ -211,32 +212,6 @@ impl Made for Dump101 {
             Some(again) => join101_again(alloc, readers, again, target),
             None => make_of_heap(alloc, self, readers, target),
         }
-    }
-}
-
-/// A product that is made of a heap with all facts. No part is read again.
-#[derive(Drop)]
-pub(crate) struct OfHeap<P> {
-    pub(crate) product: P,
-}
-
-impl<P: Product> Made for OfHeap<P> {
-    ghost use Rattle.hprof_engine.specs.Makes.{making_of};
-
-    ghost making = { λ it. making_of (P.is_text it.product) (P.refuses it.product) (P.takes_room it.product) (P.takes_memory it.product) };
-
-    fn reads_again(&self) -> bool {
-        false
-    }
-
-    fn make<R: Source, H: ReadAt + Drop, S: Scratch + Drop, W: Target>(
-        &self,
-        alloc: Global,
-        readers: &mut [R],
-        _again: Option<Again<H, S>>,
-        target: &mut W,
-    ) -> Result<(), ToolFault> {
-        make_of_heap(alloc, &self.product, readers, target)
     }
 }
 
