@@ -1,5 +1,5 @@
 -- What a report makes of parts, whether their objects are read again or not.
-use Rattle.std.proofs.Common.{◌≡◌, ◌≢◌, inl, inr, List, Option, Some, None, ℕ, refl, subst}
+use Rattle.std.proofs.Common.{◌≡◌, ◌≢◌, inl, inr, List, Option, Some, None, ℕ, false, true, refl, subst}
 use Rattle.std.specs.Prelude.{◌⊎◌, ◌↔◌, ⊤, IsTrue, MatchOption, is_some}
 use Rattle.hprof_devices.specs.declared.health.Health.{Health}
 use Rattle.hprof_stream.specs.declared.limits.Limits.{Limits}
@@ -40,11 +40,14 @@ some_passed (reports.Kind kinds.Objects these) other is = other (passed.Objects 
 some_passed (reports.Kind kinds.Biggest these) other is = is
 some_passed (reports.Node node id) other is = is
 
+never_true : false ≡ true → ⊥
+never_true e = cc
+
 -- a report is found to be one of those exactly if it needs every object
 pub found_passed : (report : Report) (found : Option PassedReport)
     → MatchOption found ((p : PassedReport) → report_of p ≢ report) (λ p. report_of p ≡ report) → IsTrue (is_some found) ↔ IsPassed report
-found_passed report (Some p) is = (λ told. subst IsPassed is (is_passed p), λ passed. tt)
-found_passed report None other = (λ told. absurd told, λ is. absurd (some_passed report other is))
+found_passed report (Some p) is = (λ told. subst IsPassed is (is_passed p), λ passed. refl)
+found_passed report None other = (λ told. absurd (never_true told), λ is. absurd (some_passed report other is))
 
 -- a report on an identifier, by its parts
 pub node_report : (report : Report) (kind known : NodeReport) (node : Node) (id : ℕ) → report ≡ reports.Node kind node → kind ≡ known
