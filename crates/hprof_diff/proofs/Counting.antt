@@ -141,7 +141,8 @@ module _ {R : Type 0} (left : R → Option (List ℕ)) (health : R → Health) (
         so_many out no_other)
 
     -- all parts were read
-    module _ (stored : ReadsStored left health pulls limits old new None) (out : AreReadOut left health pulls limits old new (length old)) where
+    module _ (stored : ReadsStored left health pulls limits old new None)
+        (out : AreReadOut left health pulls limits old new (length old)) where
       pub all_counts : CountsStored None
       all_counts = record {
         reads = all_read_so left health pulls limits old new some stored out;

@@ -71,7 +71,8 @@ module _ {A : Type 0} (bytes_of : A → List ℕ) where
       (Writes-stops mid new r f (waiting ++ bytes_of one) behind stop writes))
 
   -- none is left to be taken
-  pub Taken-all : (old new : Option (List ℕ)) (first waiting : List ℕ) (all rest : List A) → Taken old new first waiting all rest → rest ≡ []
+  pub Taken-all : (old new : Option (List ℕ)) (first waiting : List ℕ) (all rest : List A) → Taken old new first waiting all rest
+      → rest ≡ []
       → (front : List ℕ) × Appends old new front × (first ++ flat_map bytes_of all ≡ front ++ waiting)
   Taken-all old new first waiting all rest t none = (
     t.sent,

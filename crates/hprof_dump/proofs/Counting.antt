@@ -94,7 +94,8 @@ Counts-full ids subs count len size next left c e over =
     (lt-leb (sum_by (size_of ids) c.begun + size_of ids next) most_in_segment full))
 
 -- nothing is left
-pub Counts-all : (ids : IdSize) (subs : List FactValue) (count len : ℕ) → Counts ids subs count len [] → IsFirstSegment ids subs count len []
+pub Counts-all : (ids : IdSize) (subs : List FactValue) (count len : ℕ) → Counts ids subs count len []
+    → IsFirstSegment ids subs count len []
 Counts-all ids subs count len c = counted ids subs count len [] c c.behind
 
 -- ---- a segment that was counted
@@ -104,7 +105,8 @@ counted-take : (ids : IdSize) (subs rest : List FactValue) (count len : ℕ) →
     → take count subs ≡ c.segment
 counted-take ids subs rest count len c = rw (c.has_count, c.parts) (take-append_seam c.segment rest)
 
-pub counted-drop : (ids : IdSize) (subs rest : List FactValue) (count len : ℕ) → IsFirstSegment ids subs count len rest → drop count subs ≡ rest
+pub counted-drop : (ids : IdSize) (subs rest : List FactValue) (count len : ℕ) → IsFirstSegment ids subs count len rest
+    → drop count subs ≡ rest
 counted-drop ids subs rest count len c = rw (c.has_count, c.parts) (drop-append_seam c.segment rest)
 
 pub counted-first : (ids : IdSize) (subs rest : List FactValue) (count len : ℕ) → IsFirstSegment ids subs count len rest

@@ -37,7 +37,8 @@ pub(crate) fn count_subs(heap: &Heap, most: u32) -> Option<u32>
 fn take_rows<W: Target>(heap: &Heap, batch: &mut Batch, target: &mut W) -> Result<(), WriteFault>
     requires { W.health target.old ≡ Well }
     ensures bytes { WritesSome (W.written target.old) (W.written target.new) result
-        (batch_bytes batch.old ++ flat_map (dump_bytes (heap_of heap.now).ids) (sub_facts (heap_of heap.now).facts)) (batch_bytes batch.new) }
+        (batch_bytes batch.old ++ flat_map (dump_bytes (heap_of heap.now).ids) (sub_facts (heap_of heap.now).facts))
+        (batch_bytes batch.new) }
     ensures health { LeavesHealth result (W.health target.new) }
 {
     let mut rows = heap.sub_rows();

@@ -45,7 +45,8 @@ module _ (set other : EdgeSet) (edge : Edge) (same : wanted_in other ≡ wanted_
       | inl earlier ↦ subst (λ (l : List Edge). Contains l one) (sym stays) ((of one).1 (earlier, wanted_before one both.1))
       | inr is ↦
           let yes = wanted_before one both.1 in
-          let no : is_edge_wanted (wanted_in set) one ≡ false = subst (λ (e : Edge). is_edge_wanted (wanted_in set) e ≡ false) is unwanted in
+          let no : is_edge_wanted (wanted_in set) one ≡ false = subst (λ (e : Edge). is_edge_wanted (wanted_in set) e ≡ false)
+          is unwanted in
           absurd cc
     ],
   )

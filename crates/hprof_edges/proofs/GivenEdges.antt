@@ -98,8 +98,17 @@ module _ (ids : IdSize) (facts : List FactValue) where
       by_via edge id vias.Field is.from_is is.via_is
       (record { class = class; bytes = bytes; instance = record { trace = trace; has = has }; reference = is.reference })
   object_refers (ObjArray id trace class elements) edge has (inl is) =
-      by_via edge id vias.Class is.from_is is.via_is
-      (is.position_is, inr (elements, record { trace = trace; has = subst (λ (c : ℕ). Has facts (ObjArray id trace c elements)) is.to_is has }))
+      by_via edge id vias.Class is.from_is is.via_is (
+        is.position_is,
+        inr (
+          elements,
+          record {
+            trace = trace;
+            has = subst
+                (λ (c : ℕ). Has facts (ObjArray id trace c elements)) is.to_is has;
+          },
+        ),
+      )
   object_refers (ObjArray id trace class elements) edge has (inr is) =
       by_via edge id vias.Element is.from_is is.via_is
       (record { class = class; elements = elements; array = record { trace = trace; has = has }; there = is.there })

@@ -87,7 +87,8 @@ by_elements array elements edge = (there, back) where
 
 module _ (ids : IdSize) (facts : List FactValue) (object : ℕ) where
   -- where a field gives an edge, the fields of the object are values
-  pub values_of : (edge : Edge) (is : GivenByInstance ids facts object edge) → AreFields ids facts object (Values is.edge_is.reference.values)
+  pub values_of : (edge : Edge) (is : GivenByInstance ids facts object edge)
+      → AreFields ids facts object (Values is.edge_is.reference.values)
   values_of edge is = record {
     class = is.class;
     bytes = is.bytes;

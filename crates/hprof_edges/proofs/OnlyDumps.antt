@@ -66,7 +66,13 @@ module _ (ids : IdSize) (facts : List FactValue) (object : ℕ) where
 
   pub of_only : (fact : FactValue) → IsOnlyObject facts object fact → (edge : Edge)
       → ((edge.from ≡ object) × GivenByObject ids facts edge) ↔ IsObjectEdge ids facts fact edge
-  of_only fact is edge = (by_only fact is edge, λ gives. (from_object fact edge is.id gives, record { fact = fact; has = is.has; edge_is = gives }))
+  of_only fact is edge = (
+    by_only fact is edge,
+    λ gives. (
+      from_object fact edge is.id gives,
+      record { fact = fact; has = is.has; edge_is = gives },
+    ),
+  )
 
   pub by_instance : (id trace class : ℕ) (bytes : List ℕ) → IsOnlyObject facts object (Instance id trace class bytes) → (edge : Edge)
       → ((edge.from ≡ object) × GivenByObject ids facts edge)
@@ -132,7 +138,8 @@ module _ (ids : IdSize) (facts : List FactValue) (object : ℕ) where
 
   -- ---- both
 
-  pub from_dumps : (edge : Edge) → (((edge.from ≡ object) × GivenByClass facts edge) ⊎ ((edge.from ≡ object) × GivenByObject ids facts edge))
+  pub from_dumps : (edge : Edge) → (((edge.from ≡ object) × GivenByClass facts edge)
+      ⊎ ((edge.from ≡ object) × GivenByObject ids facts edge))
       ↔ (IsEdge ids facts edge × (edge.from ≡ object))
   from_dumps edge = (there, back) where
     there : ((edge.from ≡ object) × GivenByClass facts edge) ⊎ ((edge.from ≡ object) × GivenByObject ids facts edge)

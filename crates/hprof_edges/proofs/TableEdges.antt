@@ -98,7 +98,8 @@ gives_dump dump fact is edge = (
   λ edge_is. record { dump = dump; is = is; edge_is = edge_is },
 )
 
-pub no_dump_no_edge : (fact : FactValue) → ((dump : ClassValue) → fact_of_class dump ≡ fact → ⊥) → (edge : Edge) → GivesByClass fact edge → ⊥
+pub no_dump_no_edge : (fact : FactValue) → ((dump : ClassValue) → fact_of_class dump ≡ fact → ⊥) → (edge : Edge)
+    → GivesByClass fact edge → ⊥
 no_dump_no_edge fact none edge gives = none gives.dump gives.is
 
 pub class_table : (facts : List FactValue) (edge : Edge)
@@ -120,7 +121,8 @@ class_table facts edge = (
 
 module _ (ids : IdSize) (facts : List FactValue) where
   -- what gives an edge stands in the table of objects
-  stands_there : (fact : FactValue) (edge : Edge) → IsObjectEdge ids facts fact edge → stands_in (number_of_table tables.Objects) fact ≡ true
+  stands_there : (fact : FactValue) (edge : Edge) → IsObjectEdge ids facts fact edge
+      → stands_in (number_of_table tables.Objects) fact ≡ true
   stands_there (Instance id trace class bytes) edge is = refl
   stands_there (ObjArray id trace class elements) edge is = refl
   stands_there fact edge is = absurd is

@@ -54,7 +54,8 @@ module _ (keeps : Edge → Bool) (which : Wanted) (only : (edge : Edge) → is_w
         let edge : Edge = record { from = from; via = via; position = position; to = to } in
         let rest = numbered from via (position + 1) targets in
         let first = none to (Contains-append_left (to ∷ []) targets to (Contains-push [] to)) in
-        filter-append keeps (unless_zero edge) rest ∙ ap (λ (l : List Edge). l ++ filter keeps rest) (none_kept keeps edge (only edge first))
+        filter-append keeps (unless_zero edge) rest ∙ ap (λ (l : List Edge). l ++ filter keeps rest)
+        (none_kept keeps edge (only edge first))
         ∙ none_numbered via (position + 1) targets (λ other there. none other (Contains-append_right (to ∷ []) targets other there))
 
     -- so others are kept as they are without them

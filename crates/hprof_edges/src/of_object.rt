@@ -74,7 +74,8 @@ pub fn array_edges<C: Collect>(
     into: &mut C,
 ) -> Result<(), AllocError>
     ensures holds { OnOk result ((edges : List Edge) → C.holds into.old edges
-        → PutBehind (C.holds into.new) edges (λ edge. IsEdgeToClass array class edge ⊎ IsElementEdge array (identifiers_of elements.entry) edge)) }
+        → PutBehind (C.holds into.new) edges (λ edge. IsEdgeToClass array class edge
+        ⊎ IsElementEdge array (identifiers_of elements.entry) edge)) }
     ensures keeps { OnOk result (C.keeps into.new ≡ C.keeps into.old) }
 {
     edge_to_class(array, class, into)?;

@@ -32,7 +32,8 @@ use Rattle.hprof_engine.specs.declared.tool_fault.ToolFault.{ToolFault}
 use Rattle.hprof_engine.specs.declared.tool_fault.ToolFault.TheVariants as tool
 use Rattle.hprof_engine.specs.Summaries.{AreSummaries, AreSummarised, HoldsFirst}
 use Rattle.hprof_engine.specs.Joining.{Tell, Agree, Disagree, IsPartFault, IsOfPart, IsAccepted, RefusesPart, AreGiven}
-use Rattle.hprof_engine.specs.Joining.{RefusesReader, AreReadOut, fault_of, read_count, ReadsAll, is_want, IsHindered, IsOkOrConflict, IsOfReading, none_known}
+use Rattle.hprof_engine.specs.Joining.{RefusesReader, AreReadOut, fault_of, read_count, ReadsAll, is_want, IsHindered, IsOkOrConflict}
+use Rattle.hprof_engine.specs.Joining.{IsOfReading, none_known}
 use Rattle.hprof_engine.specs.Makes.{Reads}
 use Rattle.hprof_engine.specs.Through.{TellsHeap}
 use Rattle.hprof_engine.proofs.PartFaults.{of_part}
@@ -106,10 +107,12 @@ never_malformed limits bytes ids millis facts at reason le part first =
 
 -- with what a part is not refused where its reader is well, no limit was met and memory was there
 unexpected : {R : Type 0} (left : R → Option (List ℕ)) (health : R → Health) (pulls : R → ℕ) (TakesKnown : List FactValue → Type 0)
-    (limits : Limits) (earlier : List Given) (bytes came : List ℕ) (was is : R) (ids : IdSize) (millis : ℕ) (facts : List FactValue) (fault : PartFault)
+    (limits : Limits) (earlier : List Given) (bytes came : List ℕ) (was is : R) (ids : IdSize) (millis : ℕ) (facts : List FactValue)
+    (fault : PartFault)
     → limits.max_item ≤ longest_body → IsPart bytes ids millis facts → IsOfPart limits bytes fault
     → IsPartFault left health pulls TakesKnown limits earlier was came is fault → health is ≡ healths.Well → (is_want fault ≡ true → ⊥) → ⊥
-unexpected left health pulls TakesKnown limits earlier bytes came was is ids millis facts (faults.Malformed at reason) le part of_part why well
+unexpected left health pulls TakesKnown limits earlier bytes came was is ids millis facts
+    (faults.Malformed at reason) le part of_part why well
     unhindered = never_malformed limits bytes ids millis facts at reason le part of_part
 unexpected left health pulls TakesKnown limits earlier bytes came was is ids millis facts (faults.ItemTooLong at) le part of_part why well
     unhindered = unhindered refl
@@ -119,13 +122,17 @@ unexpected left health pulls TakesKnown limits earlier bytes came was is ids mil
     let no : healths.Failed ≡ healths.Well = sym why.1 ∙ well in cc
 unexpected left health pulls TakesKnown limits earlier bytes came was is ids millis facts faults.ReadsExceeded le part of_part why well
     unhindered = unhindered refl
-unexpected left health pulls TakesKnown limits earlier bytes came was is ids millis facts faults.OutOfMemory le part of_part why well unhindered =
+unexpected left health pulls TakesKnown limits earlier bytes came was is ids millis facts faults.OutOfMemory le part of_part why well
+    unhindered =
     unhindered refl
-unexpected left health pulls TakesKnown limits earlier bytes came was is ids millis facts (faults.Sink sinks.OutOfMemory) le part of_part why well
+unexpected left health pulls TakesKnown limits earlier bytes came was is ids millis facts
+    (faults.Sink sinks.OutOfMemory) le part of_part why well
     unhindered = unhindered refl
-unexpected left health pulls TakesKnown limits earlier bytes came was is ids millis facts (faults.Sink sinks.Failed) le part of_part why well
+unexpected left health pulls TakesKnown limits earlier bytes came was is ids millis facts
+    (faults.Sink sinks.Failed) le part of_part why well
     unhindered = why
-unexpected left health pulls TakesKnown limits earlier bytes came was is ids millis facts faults.Failed le part of_part why well unhindered = why
+unexpected left health pulls TakesKnown limits earlier bytes came was is ids millis facts faults.Failed le part of_part why well
+    unhindered = why
 
 -- parts of one size do not have two
 pub not_two_sizes : (parts : List (List ℕ)) (ids : IdSize) (millis : ℕ) (facts : List FactValue) → IsState parts ids millis facts
@@ -274,7 +281,8 @@ module _ {R : Type 0} (left : R → Option (List ℕ)) (health : R → Health) (
       accepted = λ all. absurd all;
       read_out = reads.out;
     },
-    λ le parts ids millis facts told state well unhindered. absurd (never_refused none_known limits parts ids millis facts old new index fault le state
+    λ le parts ids millis facts told state well unhindered. absurd (never_refused none_known limits parts ids millis facts old new index
+        fault le state
         (refuses_part limits parts old new index fault from told reads) well unhindered),
   )
   stopped limits old new tool.NoParts from to reads = absurd reads

@@ -15,12 +15,14 @@ use Rattle.hprof_engine.proofs.OneSummary.{some_summary_each}
 use Rattle.hprof_engine.specs.declared.salvaged.FaultedPart.{FaultedPart}
 use Rattle.hprof_engine.specs.declared.salvaged.Salvaged.{Salvaged}
 use Rattle.hprof_engine.specs.Saved.{SavesTo}
-use Rattle.hprof_engine.specs.Salvaging.{PartRead, handled, all_handled, IsOfWhole, fault_with, faults_from, EndsPart, IsReadSo, AreReadSo, SavesAll}
+use Rattle.hprof_engine.specs.Salvaging.{PartRead, handled, all_handled, IsOfWhole, fault_with, faults_from, EndsPart, IsReadSo, AreReadSo}
+use Rattle.hprof_engine.specs.Salvaging.{SavesAll}
 use Rattle.hprof_engine.proofs.SavedParts.{handled_all}
 use Rattle.hprof_engine.proofs.WholeParts.{sound_joins, sound_given}
 
 -- where none is listed, none has a fault
-none_with : (index : ℕ) (fault : Option PartFault) (others : List FaultedPart) → fault_with index fault others ≡ [] → (fault ≡ None) × (others ≡ [])
+none_with : (index : ℕ) (fault : Option PartFault) (others : List FaultedPart) → fault_with index fault others ≡ [] → (fault ≡ None)
+    × (others ≡ [])
 none_with index None others none = (refl, none)
 none_with index (Some fault) others none = absurd cc
 
@@ -31,7 +33,8 @@ none_listed index (read ∷ reads) none =
     (first.0, none_listed (suc index) reads first.1)
 
 -- as many parts as were given
-given_length : (limits : Limits) (parts : List (List ℕ)) (given : List Given) → AreGiven limits (map Some parts) given → length given ≡ length parts
+given_length : (limits : Limits) (parts : List (List ℕ)) (given : List Given) → AreGiven limits (map Some parts) given
+    → length given ≡ length parts
 given_length limits [] [] are = refl
 given_length limits [] (part ∷ given) are = absurd are
 given_length limits (bytes ∷ parts) [] are = absurd are
@@ -81,7 +84,8 @@ module _ {R : Type 0} (left : R → Option (List ℕ)) (health : R → Health) (
       ∙ take-length parts in
       (front.0 ∙ whole, subst (λ (ps : List (List ℕ)). AllByRecursion (IsAccepted limits) ps) whole front.1)
 
-  module _ (old new : List R) {W : Type 0} (written : W → Option (List ℕ)) (well : W → Health) (before after : W) (salvaged : Salvaged) where
+  module _ (old new : List R) {W : Type 0} (written : W → Option (List ℕ)) (well : W → Health) (before after : W)
+      (salvaged : Salvaged) where
     -- where no fault is listed, the parts are joined: their dump was written, and counted
     pub as_joined : SavesAll left health pulls limits old new written well before after salvaged → salvaged.faults.items ≡ []
         → (parts : List (List ℕ)) → Tell left old parts

@@ -10,7 +10,8 @@ module _ {G : Type 0} (gathered : G → Gathered) (begins : G → Header → G �
     (begins_parts : (old : G) (header : Header) (new : G) → begins old header new → Begins (gathered old) header (gathered new))
     (takes_facts : (old : G) (fact : FactValue) (new : G) → steps old fact new → Takes (gathered old) fact (gathered new)) where
   -- facts that step it on step on what it has gathered
-  Steps-shown : (old new : G) (facts : List FactValue) → Steps begins steps old facts new → Steps Begins Takes (gathered old) facts (gathered new)
+  Steps-shown : (old new : G) (facts : List FactValue) → Steps begins steps old facts new
+      → Steps Begins Takes (gathered old) facts (gathered new)
   Steps-shown old new [] run = ap gathered run
   Steps-shown old new (fact ∷ facts) run =
       (gathered run.0, takes_facts old fact run.0 run.1, Steps-shown run.0 new facts run.2)

@@ -65,7 +65,8 @@ module _ {R : Type 0} (left : R → Option (List ℕ)) (health : R → Health) (
           given = so.given ++ given_with takes.header takes.facts [];
           saved = subst (λ (ps : List (List ℕ)). AreSaved longest ps (so.given ++ given_with takes.header takes.facts []))
               (sym (all_handled-more limits so.reads read))
-              (AreSaved-more longest (all_handled limits so.reads) so.given (handled limits read) takes.header takes.facts so.saved takes.states);
+              (AreSaved-more longest (all_handled limits so.reads) so.given (handled limits read) takes.header takes.facts so.saved
+              takes.states);
           gathers = Gathers-with nothing_gathered (gathered from) (gathered to) so.given takes.header takes.facts so.gathers
               (λ e. bare_states_none longest (handled limits read) takes.facts
               (subst (λ (h : Option Header). StatesSoFar longest (handled limits read) h takes.facts) e takes.states)) takes.run;
@@ -81,7 +82,8 @@ module _ {R : Type 0} (left : R → Option (List ℕ)) (health : R → Health) (
         (unread : (k : ℕ) (d : R) → index ≤ k → k < length old → get_or cur k d ≡ get_or old k d)
         (so : GathersSaved left health pulls limits old cur index (gathered from) (parts from) listed)
         (consumed : Consumes (left was) (left is) came) (spared : pulls is ≤ pulls was + limits.max_reads)
-        (reads : ReadsPart left health pulls (begins gathered parts) (steps gathered parts) (refuses gathered parts) (has_failed gathered parts)
+        (reads : ReadsPart left health pulls (begins gathered parts) (steps gathered parts) (refuses gathered parts)
+        (has_failed gathered parts)
         limits was came is from (Err fault) to) where
       -- those behind it stand as they stood
       behind : (k : ℕ) → index < k → slice_get (set cur index is) k ≡ slice_get old k
@@ -113,7 +115,8 @@ module _ {R : Type 0} (left : R → Option (List ℕ)) (health : R → Health) (
       wants_to_list : is_want_of_memory fault ≡ false → WantsToList left health pulls limits old (set cur index is)
       wants_to_list other =
           let read : PartRead = record { came = came; fault = Some fault } in
-          let one = read_faulty gathered parts left health pulls limits was came is from to so.sound so.given so.gathers consumed spared fault
+          let one = read_faulty gathered parts left health pulls limits was came is from to so.sound so.given so.gathers consumed
+          spared fault
           other reads in
           record {
             before = so.reads;
@@ -127,7 +130,8 @@ module _ {R : Type 0} (left : R → Option (List ℕ)) (health : R → Health) (
           → ReadsParts left health pulls limits old (set cur index is) (gathered to) (parts to) more (Err ended)
       ends_at (tool.Part place why) unlisted =
           subst (λ (i : ℕ). WantsAt left health pulls limits old (set cur index is) i why) (sym unlisted.0)
-          (subst (λ (f : PartFault). WantsAt left health pulls limits old (set cur index is) index f) (sym unlisted.1) (wants_at unlisted.2))
+          (subst (λ (f : PartFault). WantsAt left health pulls limits old (set cur index is) index f) (sym unlisted.1)
+          (wants_at unlisted.2))
       ends_at tool.NoParts unlisted = absurd unlisted
       ends_at tool.IdSizes unlisted = absurd unlisted
       ends_at (tool.Conflict key) unlisted = absurd unlisted

@@ -15,7 +15,8 @@ use Rattle.hprof_engine.specs.Dividing.{AreDivided, AreDumps}
 use Rattle.hprof_engine.specs.Outcome.{Outcome, OneHeap, Conflict, TwoSizes, ComesTo, IsSomePart}
 use Rattle.hprof_engine.proofs.Together.{agree_heap, some_disagree}
 use Rattle.hprof_engine.proofs.Outcomes.{SaysOn, comes_on, say_two_sizes, said_two_sizes, one_outcome}
-use Rattle.hprof_engine.proofs.PartByPart.{Says, OneOf, SayTogether, says_once, say_together, contains_first, contains_later, contains_cases}
+use Rattle.hprof_engine.proofs.PartByPart.{Says, OneOf, SayTogether, says_once, say_together, contains_first, contains_later}
+use Rattle.hprof_engine.proofs.PartByPart.{contains_cases}
 use Rattle.hprof_engine.proofs.PartByPart.{contains_none, holds_of}
 
 -- ---- one group and its dump
@@ -42,7 +43,8 @@ joined_as : (ids other : IdSize) (group : List (List ℕ)) (dump : List ℕ) →
 joined_as ids other group dump is each =
     let first = is.say.earliest.0 in
     let again = each first.bytes first.there in
-    let same = (states_one first.bytes ids other first.says.millis again.millis first.says.facts again.facts first.says.part again.part).0 in
+    let same = (states_one first.bytes ids other first.says.millis again.millis first.says.facts again.facts first.says.part
+    again.part).0 in
     subst (λ (i : IdSize). IsJoinedInto i group dump) same is
 
 -- and so is one whose dump has that size
@@ -126,8 +128,10 @@ module _ (parts : List (List ℕ)) (groups : List (List (List ℕ))) (dumps : Li
           let before = of.is.say.least (record { bytes = one.bytes; there = of.inside; says = inside }) in
           let behind = say.least (part_in of.group of.there of.is.say.earliest.0) in
           let at = of.is.say.earliest.1 in
-          let its = say.earliest.1 in
-          (record { bytes = of.dump; there = of.listed; says = dump_says of.group of.dump of.is }, (omega (arith, before, behind, at, its, same.0)));
+          let its = say.earliest.1 in (
+            record { bytes = of.dump; there = of.listed; says = dump_says of.group of.dump of.is },
+            (omega (arith, before, behind, at, its, same.0)),
+          );
       least = λ one.
           let of = of_dump one.bytes one.there in
           let same = says_once ids ids one.bytes one.bytes one.says (dump_says of.group one.bytes of.is) refl in

@@ -51,8 +51,10 @@ module _ (IsText : List PartSummary → HeapValue → List ℕ → Type 0) where
       }
 
   -- and there is one where parts agree, if each heap whose facts agree has one
-  pub made_some : ((summaries : List PartSummary) (heap : HeapValue) → IsConsistent heap.facts → (text : List ℕ) × IsText summaries heap text)
-      → (parts : List (List ℕ)) (heap : HeapValue) → Agree parts heap.ids heap.millis heap.facts → (text : List ℕ) × IsMadeOf IsText parts text
+  pub made_some : ((summaries : List PartSummary) (heap : HeapValue) → IsConsistent heap.facts → (text : List ℕ)
+      × IsText summaries heap text)
+      → (parts : List (List ℕ)) (heap : HeapValue) → Agree parts heap.ids heap.millis heap.facts → (text : List ℕ)
+      × IsMadeOf IsText parts text
   made_some some_text parts heap agree =
       let summaries = some_summary_each agree.state.states agree.state.each in
       let text = some_text summaries.0 heap agree.consistent in (

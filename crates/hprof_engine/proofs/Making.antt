@@ -82,7 +82,8 @@ module _ {R : Type 0} (left : R → Option (List ℕ)) (health : R → Health) (
   }
 
   module _ {W : Type 0} (written : W → Option (List ℕ)) (well : W → Health)
-      (IsText : List PartSummary → HeapValue → List ℕ → Type 0) (Refuses : ProductRefusal → HeapValue → Type 0) (TakesRoom : ℕ → Type 0) (TakesMemory : Type 0)
+      (IsText : List PartSummary → HeapValue → List ℕ → Type 0) (Refuses : ProductRefusal → HeapValue → Type 0) (TakesRoom : ℕ → Type 0)
+      (TakesMemory : Type 0)
       (before after : W) (heap : HeapValue) (summaries : List PartSummary)
       (agree : (parts : List (List ℕ)) → Tell left old parts → Agree parts heap.ids heap.millis heap.facts)
       (of_parts : (parts : List (List ℕ)) → Tell left old parts → AreSummaries parts summaries) where

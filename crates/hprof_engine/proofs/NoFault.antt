@@ -1,5 +1,6 @@
 -- Where no part has a fault, the answer is that of a join.
-use Rattle.std.proofs.Common.{◌≡◌, ℕ, zero, suc, ◌<◌, true, false, List, [], ◌∷◌, ◌++◌, length, map, take, Option, Some, None, Result, Ok, Err, refl}
+use Rattle.std.proofs.Common.{◌≡◌, ℕ, zero, suc, ◌<◌, true, false, List, [], ◌∷◌, ◌++◌, length, map, take, Option, Some, None, Result, Ok}
+use Rattle.std.proofs.Common.{Err, refl}
 use Rattle.std.proofs.Common.{sym, ap, subst, ◌∙◌, arith}
 use Rattle.std.specs.Prelude.{slice_get, All, IsSome}
 use Rattle.std.specs.List.{AllByRecursion}
@@ -26,7 +27,8 @@ use Rattle.hprof_engine.specs.declared.tool_fault.ToolFault.{ToolFault}
 use Rattle.hprof_engine.specs.declared.tool_fault.ToolFault.TheVariants as tool
 use Rattle.hprof_engine.specs.declared.product.WriteStop.{WriteStop}
 use Rattle.hprof_engine.specs.declared.product.WriteStop.TheVariants as stops
-use Rattle.hprof_engine.specs.Joining.{Tell, Agree, IsAccepted, AreGiven, AreReadOut, RefusesPart, fault_of, is_want, IsOfReading, IsHindered, IsOkOrConflict}
+use Rattle.hprof_engine.specs.Joining.{Tell, Agree, IsAccepted, AreGiven, AreReadOut, RefusesPart, fault_of, is_want, IsOfReading}
+use Rattle.hprof_engine.specs.Joining.{IsHindered, IsOkOrConflict}
 use Rattle.hprof_engine.specs.Joining.{none_known}
 use Rattle.hprof_engine.specs.Makes.{Reads, Makes, dump_making, IsDumpText, EndsWriting}
 use Rattle.hprof_engine.specs.Summaries.{AreSummaries}
@@ -104,7 +106,8 @@ as_fault (Err refusals.IdSizes) = Err tool.IdSizes
 as_fault (Err (refusals.Conflict key)) = Err (tool.Conflict key)
 as_fault (Err refusals.Failed) = Err tool.OutOfMemory
 
-tells_fault : (given : List Given) (answer : Result HeapValue Refusal) → Tells given answer → TellsHeap (λ heap. heap) given (as_fault answer)
+tells_fault : (given : List Given) (answer : Result HeapValue Refusal) → Tells given answer
+    → TellsHeap (λ heap. heap) given (as_fault answer)
 tells_fault given (Ok heap) tells = tells
 tells_fault given (Err refusals.NoParts) tells = tells
 tells_fault given (Err refusals.IdSizes) tells = tells
@@ -112,7 +115,8 @@ tells_fault given (Err (refusals.Conflict key)) tells = tells
 tells_fault given (Err refusals.Failed) tells = tells
 
 module _ {R : Type 0} (left : R → Option (List ℕ)) (health : R → Health) (pulls : R → ℕ) (limits : Limits) (old new : List R)
-    {W : Type 0} (written : W → Option (List ℕ)) (well : W → Health) (target : W) (gathered : Gathered) (parts : ℕ) (listed : List FaultedPart) where
+    {W : Type 0} (written : W → Option (List ℕ)) (well : W → Health) (target : W) (gathered : Gathered) (parts : ℕ)
+    (listed : List FaultedPart) where
   -- what is answered where reading wanted memory
   pub reading_ended : (fault : ToolFault) → ReadsParts left health pulls limits old new gathered parts listed (Err fault)
       → Salvages left health pulls limits old new written well target target (Err fault)
@@ -127,7 +131,8 @@ module _ {R : Type 0} (left : R → Option (List ℕ)) (health : R → Health) (
 
   -- and where what was saved comes to no heap
   module _ (so : GathersSaved left health pulls limits old new (length old) gathered parts listed) where
-    refusal_told : (refusal : Refusal) → Tells so.given (Err refusal) → RefusesAll left health pulls limits old new written well target target refusal
+    refusal_told : (refusal : Refusal) → Tells so.given (Err refusal) → RefusesAll left health pulls limits old new written well target
+        target refusal
     refusal_told refusal tells = record {
       reads = so.reads;
       through = record { each = so.each; all = so.all; saves = record { given = so.given; saved = so.saved; tells = tells } };
@@ -211,11 +216,13 @@ module _ {R : Type 0} (left : R → Option (List ℕ)) (health : R → Health) (
     none_of : (parts : List (List ℕ)) (reads : List PartRead) → HaveNoFault left health limits old new parts
         → AreReadSo left health pulls limits old new reads → AreSound reads
     none_of parts reads have are = none_found_all old new reads parts are have.told have.accepted have.few (λ k is there.
-        subst (λ (r : R). health r ≡ healths.Well) (get_or_from_slice_get new k is is there) (have.well k is (slice_get_within new k is there)))
+        subst (λ (r : R). health r ≡ healths.Well) (get_or_from_slice_get new k is is there)
+        (have.well k is (slice_get_within new k is there)))
 
     -- ---- memory was wanted for a part
 
-    module _ (index : ℕ) (fault : PartFault) (wants : WantsAt left health pulls limits old new index fault) (sound : AreSound wants.reads) where
+    module _ (index : ℕ) (fault : PartFault) (wants : WantsAt left health pulls limits old new index fault)
+        (sound : AreSound wants.reads) where
       wants_part : (parts : List (List ℕ)) → Tell left old parts → RefusesPart left health pulls none_known limits parts old new index fault
       wants_part parts told =
           let place = placed left old parts index wants.at.was told wants.at.was_there in
@@ -235,7 +242,8 @@ module _ {R : Type 0} (left : R → Option (List ℕ)) (health : R → Health) (
             stated = sound_given limits place.before wants.given accepted saved;
             at = wants.at;
             told = place.told;
-            of_part = of_part left health pulls none_known limits wants.given wants.at.was place.bytes wants.at.came wants.at.is fault place.told
+            of_part = of_part left health pulls none_known limits wants.given wants.at.was place.bytes wants.at.came wants.at.is
+                fault place.told
                 wants.at.consumed wants.at.refused;
           }
 
@@ -250,7 +258,8 @@ module _ {R : Type 0} (left : R → Option (List ℕ)) (health : R → Health) (
             subst (λ (i : ℕ). RefusesPart left health pulls none_known limits parts old new i why) one
             (subst (λ (f : PartFault). RefusesPart left health pulls none_known limits parts old new index f) its (wants_part parts told));
         accepted = λ all. absurd all;
-        read_out = subst (λ (n : ℕ). AreReadOut left health pulls limits old new n) wants.place (read_out old new wants.reads wants.each sound);
+        read_out = subst (λ (n : ℕ). AreReadOut left health pulls limits old new n) wants.place
+            (read_out old new wants.reads wants.each sound);
       }
 
     -- ---- all parts were read
@@ -277,7 +286,8 @@ module _ {R : Type 0} (left : R → Option (List ℕ)) (health : R → Health) (
     module _ {W : Type 0} (written : W → Option (List ℕ)) (well : W → Health) (before after : W) (parts : List (List ℕ))
         (have : HaveNoFault left health limits old new parts) where
       -- what is answered before writing
-      unwritten : (fault : ToolFault) → after ≡ before → IsOfReading (Some fault) → Reads left health pulls none_known limits old new (Some fault)
+      unwritten : (fault : ToolFault) → after ≡ before → IsOfReading (Some fault)
+          → Reads left health pulls none_known limits old new (Some fault)
           → ((others : List (List ℕ)) (ids : IdSize) (millis : ℕ) (facts : List FactValue) → Tell left old others
           → IsState others ids millis facts → All (λ reader. health reader ≡ healths.Well) new → (IsHindered (Some fault) → ⊥)
           → IsOkOrConflict (Some fault))
@@ -291,7 +301,8 @@ module _ {R : Type 0} (left : R → Option (List ℕ)) (health : R → Health) (
           → Makes left health pulls written well limits dump_making old new before after (Some fault)
       refuses refusal fault is kind all =
           let read = all_read parts have.told all.reads (Err refusal) all.through (none_of parts all.reads have all.through.each) in
-          unwritten fault all.unwritten kind (subst (λ (f : Option ToolFault). Reads left health pulls none_known limits old new f) is read.0)
+          unwritten fault all.unwritten kind (subst (λ (f : Option ToolFault). Reads left health pulls none_known limits old new
+          f) is read.0)
           (λ others ids millis facts told state are_well unhindered. subst IsOkOrConflict is (read.1 others ids millis facts told state))
 
       -- what is answered of a heap that is written
@@ -300,7 +311,8 @@ module _ {R : Type 0} (left : R → Option (List ℕ)) (health : R → Health) (
         sound = none_of parts reads have through.each
 
         agrees : (others : List (List ℕ)) → Tell left old others → Agree others heap.ids heap.millis heap.facts
-        agrees others told = agree left limits old through.saves.given (of_readers parts have.told reads (Ok heap) through sound) others told
+        agrees others told = agree left limits old through.saves.given (of_readers parts have.told reads (Ok heap) through sound)
+            others told
             heap through.saves.tells
 
         summarised : (summaries : List PartSummary) × ((others : List (List ℕ)) → Tell left old others → AreSummaries others summaries)
@@ -312,9 +324,11 @@ module _ {R : Type 0} (left : R → Option (List ℕ)) (health : R → Health) (
                   (its.state.of_parts ∙ told_once parts others (sym have.told ∙ told)) some.1,
             )
 
-        writes : (end : Result (Unit {0}) WriteStop) → EndsWriting written well (IsDumpText summarised.0 heap) (λ refusal. ⊥) ⊥ before after end
+        writes : (end : Result (Unit {0}) WriteStop) → EndsWriting written well (IsDumpText summarised.0 heap)
+            (λ refusal. ⊥) ⊥ before after end
             → Makes left health pulls written well limits dump_making old new before after (fault_of_end end)
-        writes end ends = ended left health pulls limits old new written well IsDumpText (λ refusal other. ⊥) (λ count. ⊥) ⊥ before after heap
+        writes end ends = ended left health pulls limits old new written well IsDumpText (λ refusal other. ⊥)
+            (λ count. ⊥) ⊥ before after heap
             summarised.0 agrees summarised.1 (all_read parts have.told reads (Ok heap) through sound).0 end ends
 
       -- where no part has a fault, the answer is that of a join
@@ -326,7 +340,8 @@ module _ {R : Type 0} (left : R → Option (List ℕ)) (health : R → Health) (
           let dump = canonical_dump saves.heap.ids saves.heap.millis saves.heap.facts in
           record {
             makes = writes saves.reads saves.heap saves.through (Ok tt) (saves.is_well, (dump, refl, saves.wrote));
-            joined = λ others told. (as_joined left health pulls limits old new written well before after salvaged saves none others told).0;
+            joined = λ others told. (as_joined left health pulls limits old new written well before after salvaged saves none
+                others told).0;
             unlisted = none;
           }
       as_join (Err tool.NoParts) all = record { makes = refuses refusals.NoParts tool.NoParts refl tt all; joined = tt; unlisted = tt }

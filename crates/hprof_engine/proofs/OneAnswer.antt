@@ -70,7 +70,8 @@ sizes_of_none : (given : List Given) → given ≡ [] → AllByRecursion (λ par
 sizes_of_none [] none = tt
 sizes_of_none (part ∷ given) none = absurd cc
 
-heap_or_conflict : (given : List Given) (heap : HeapValue) (key : Key) → Tells given (Ok heap) → Tells given (Err (refusals.Conflict key)) → ⊥
+heap_or_conflict : (given : List Given) (heap : HeapValue) (key : Key) → Tells given (Ok heap)
+    → Tells given (Err (refusals.Conflict key)) → ⊥
 heap_or_conflict given heap key tells conflict = no_conflict (all_given given) key tells.2 conflict.2.conflict
 
 tells_once : (given : List Given) (one other : Result HeapValue Refusal) → Tells given one → Tells given other → one ≡ other

@@ -84,7 +84,8 @@ said_two_sizes parts say = record {
 
 -- what one list of parts says, another says too
 pub record SaysOn (parts others : List (List ℕ)) : Type 0 where
-  pub together : (ids : IdSize) (millis : ℕ) (facts : List FactValue) → SayTogether parts ids millis facts → SayTogether others ids millis facts
+  pub together : (ids : IdSize) (millis : ℕ) (facts : List FactValue) → SayTogether parts ids millis facts
+      → SayTogether others ids millis facts
   pub sizes : SayTwoSizes parts → SayTwoSizes others
 
 -- so it comes to the same
@@ -115,7 +116,8 @@ module _ (parts others : List (List ℕ)) (same : SameParts parts others) where
   one_back : (ids : IdSize) → OneOf others ids → OneOf parts ids
   one_back ids one = record { bytes = one.bytes; there = (same one.bytes).1 one.there; says = one.says }
 
-  same_together : (ids : IdSize) (millis : ℕ) (facts : List FactValue) → SayTogether parts ids millis facts → SayTogether others ids millis facts
+  same_together : (ids : IdSize) (millis : ℕ) (facts : List FactValue) → SayTogether parts ids millis facts
+      → SayTogether others ids millis facts
   unfolding one_over one_back
   same_together ids millis facts say = record {
     each = λ bytes there. say.each bytes ((same bytes).1 there);
@@ -273,7 +275,8 @@ module _ (first : PartState) (states : List PartState) (each : AllByRecursion St
           let same = holds_all all_stated new.facts holds in (
             OneHeap first.ids millis new.facts,
             record {
-              state = state_of_set (map (λ (part : PartState). part.bytes) (first ∷ states)) first.ids millis new.facts all_stated state same;
+              state = state_of_set (map (λ (part : PartState). part.bytes) (first ∷ states)) first.ids millis new.facts all_stated
+                  state same;
               consistent = order_agrees new.facts is.ordered;
               ordered = is.ordered;
             },
@@ -322,7 +325,8 @@ some_by parts (first ∷ states) of_parts each some =
     let found = some_of_states first states each in
     (found.0, subst (λ (l : List (List ℕ)). ComesTo l found.0) of_parts found.1)
 
-pub some_outcome : (parts : List (List ℕ)) → (parts ≡ [] → ⊥) → AllByRecursion IsSomePart parts → (outcome : Outcome) × ComesTo parts outcome
+pub some_outcome : (parts : List (List ℕ)) → (parts ≡ [] → ⊥) → AllByRecursion IsSomePart parts → (outcome : Outcome)
+    × ComesTo parts outcome
 some_outcome parts some each =
     let of = states_each parts each in
     some_by parts of.0 of.1 of.2 some

@@ -121,7 +121,8 @@ module _ {G : Type 0} (gathered : G → Gathered) (parts : G → ℕ) where
 
       -- how reading it ended: no gatherer that was not refused memory fails
       ended_so : (fault : PartFault) → is_want_of_memory fault ≡ false
-          → IsPartFault left health pulls none_known limits earlier was came is fault → IsReadingFault left health pulls limits was came is fault
+          → IsPartFault left health pulls none_known limits earlier was came is fault
+          → IsReadingFault left health pulls limits was came is fault
           → EndsPart left health pulls limits was came is (Some fault)
       ended_so (faults.Sink sinks.OutOfMemory) other why reading = absurd cc
       ended_so (faults.Sink sinks.Failed) other why reading = absurd why

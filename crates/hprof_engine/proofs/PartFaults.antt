@@ -57,7 +57,8 @@ module _ {G : Type 0} (gathered : G → Gathered) (begins : G → Header → G �
 
     -- it refuses nothing but for want of memory
     no_failure : (given : List FactValue) (new : G) → refuses mid given sinks.Failed new → ⊥
-    no_failure given new refused = let other : sinks.Failed ≡ sinks.OutOfMemory = (refuses_facts mid given sinks.Failed new refused still).0 in cc
+    no_failure given new refused = let other : sinks.Failed ≡ sinks.OutOfMemory =
+        (refuses_facts mid given sinks.Failed new refused still).0 in cc
 
     -- and that for a fact that is new behind those before it
     new_then : (earlier : List Given) (new : G) → Gathers nothing_gathered earlier (gathered old)
@@ -78,7 +79,8 @@ module _ {G : Type 0} (gathered : G → Gathered) (begins : G → Header → G �
     fault_of_came limits earlier was came is old new (faults.Sink sinks.OutOfMemory) sound gathers reads =
         let item = reads.0.1 in (
           reads.0,
-          inr (new_then limits.max_item (take limits.max_bytes came) item.told item.whole old reads.1.mid sound reads.1.ran earlier new gathers
+          inr (new_then limits.max_item (take limits.max_bytes came) item.told item.whole old reads.1.mid sound reads.1.ran earlier
+              new gathers
               reads.1.refused.0),
         )
     fault_of_came limits earlier was came is old new (faults.Sink sinks.Failed) sound gathers reads =

@@ -102,7 +102,8 @@ given_of-length [] = omega arith
 given_of-length (first ∷ saved) = omega (arith, given_with-length first.header first.facts (given_of saved), given_of-length saved)
 
 -- no more is given than there are parts
-pub given-size : (limits : Limits) (longest : ℕ) (reads : List PartRead) (given : List Given) → AreSaved longest (all_handled limits reads) given
+pub given-size : (limits : Limits) (longest : ℕ) (reads : List PartRead) (given : List Given)
+    → AreSaved longest (all_handled limits reads) given
     → length given ≤ length reads
 given-size limits longest reads given are = omega (
   arith,

@@ -102,10 +102,11 @@ pub record Makes {R W : Type 0} (left : R → Option (List ℕ)) (health : R →
       × ((parts : List (List ℕ)) → Tell left old parts → WritesFront making.IsMade parts (written before) (written after))
   -- objects were lost: they are read again, or go to scratch, and nothing was written, or a front; a part that is told did not change
   pub lost : (loss : Loss) → ended ≡ Some (tool.Lost loss) → making.ReadsAgain
-      × ((after ≡ before) ⊎ ((parts : List (List ℕ)) → Tell left old parts → WritesFront making.IsMade parts (written before) (written after)))
+      × ((after ≡ before) ⊎ ((parts : List (List ℕ)) → Tell left old parts
+      → WritesFront making.IsMade parts (written before) (written after)))
       × ((parts : List (List ℕ)) → Tell left old parts → IsChange loss → ⊥)
-  -- memory was wanted before anything was read or written, or when all was read, and a front was written; of a heap that is refused, nothing,
-  -- nor where objects were being read again
+  -- memory was wanted before anything was read or written, or when all was read, and a front was written; of a heap that is refused,
+  -- nothing, nor where objects were being read again
   pub memory : ended ≡ Some tool.OutOfMemory → (making.TakesRoom (length old) × (new ≡ old) × (after ≡ before))
       ⊎ (making.TakesMemory × AreReadOut left health pulls limits old new (length old) × (well after ≡ healths.Well)
       × (((parts : List (List ℕ)) → Tell left old parts → WritesFront making.IsMade parts (written before) (written after))
@@ -124,7 +125,8 @@ abbrev pub EndsWriting : {W : Type 0} → (W → Option (List ℕ)) → (W → H
 EndsWriting written well IsText Refuses TakesMemory before after (Ok done) =
     (well after ≡ healths.Well) × ((text : List ℕ) × IsText text × Appends (written before) (written after) text)
 EndsWriting written well IsText Refuses TakesMemory before after (Err (stops.Write fault)) =
-    (well after ≡ health_after fault) × ((text : List ℕ) × (count : ℕ) × IsText text × Appends (written before) (written after) (take count text))
+    (well after ≡ health_after fault) × ((text : List ℕ) × (count : ℕ) × IsText text
+    × Appends (written before) (written after) (take count text))
 EndsWriting written well IsText Refuses TakesMemory before after (Err stops.OutOfMemory) = TakesMemory
     × (well after ≡ healths.Well)
     × (((text : List ℕ) × (count : ℕ) × IsText text × Appends (written before) (written after) (take count text))

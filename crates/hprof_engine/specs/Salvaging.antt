@@ -71,7 +71,8 @@ module _ {R : Type 0} (left : R → Option (List ℕ)) (health : R → Health) (
   -- reading a part ended with no fault, at its end, or with one that is no want of memory and not the gatherer's
   --   was, is: the reader, before and afterwards
   abbrev pub EndsPart : (was : R) → List ℕ → (is : R) → Option PartFault → Type 0
-  EndsPart was came is None = PulledOut left pulls limits was came is × IsAtEnd (left is) × (health is ≡ healths.Well) × IsAccepted limits came
+  EndsPart was came is None = PulledOut left pulls limits was came is × IsAtEnd (left is) × (health is ≡ healths.Well)
+      × IsAccepted limits came
   EndsPart was came is (Some (faults.Sink fault)) = ⊥
   EndsPart was came is (Some fault) = IsReadingFault left health pulls limits was came is fault × (is_want_of_memory fault ≡ false)
 

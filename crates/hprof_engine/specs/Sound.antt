@@ -58,7 +58,8 @@ pub record HaveNoFault {R : Type 0} (left : R → Option (List ℕ)) (health : R
 --   left, health, pulls: what a reader has left to tell, how it is doing, how often it was pulled
 --   written, well: what a writer holds, where it tells, and how it is doing
 --   old, new: the readers, before and afterwards;  before, after: the writer
-pub record AnswersAsJoin {R W : Type 0} (left : R → Option (List ℕ)) (health : R → Health) (pulls : R → ℕ) (limits : Limits) (old new : List R)
+pub record AnswersAsJoin {R W : Type 0} (left : R → Option (List ℕ)) (health : R → Health) (pulls : R → ℕ) (limits : Limits)
+    (old new : List R)
     (written : W → Option (List ℕ)) (well : W → Health) (before after : W) (result : Result Salvaged ToolFault) : Type 0 where
   pub makes : Makes left health pulls written well limits dump_making old new before after (fault_of result)
   pub joined : IfOk result (λ salvaged. (parts : List (List ℕ)) → Tell left old parts → AreJoined parts salvaged.joined)

@@ -26,7 +26,8 @@ pub(crate) fn read_parts<R: Source, G: Gather, S: Summaries>(
     requires nothing { G.gathered gatherer.old ≡ nothing_gathered }
     requires none { S.holds summaries.now kept.old [] }
     requires room { S.has_room summaries.now kept.old (length readers.old) }
-    ensures read { ReadsAll R.left R.health R.pulls limits readers.old (G.gathered gatherer.old) result readers.new (G.gathered gatherer.new) }
+    ensures read { ReadsAll R.left R.health R.pulls limits readers.old (G.gathered gatherer.old) result readers.new
+        (G.gathered gatherer.new) }
     ensures watches { (id : ℕ) → G.watches gatherer.old id → OnOk result (G.watches gatherer.new id) }
     ensures summaries { HoldsFirst R.left (S.holds summaries.now) readers.old (read_count (fault_of result) (length readers.old)) kept.new }
 {

@@ -33,7 +33,8 @@ pub fn salvage_kept<R: Source, W: Target>(
         (salvaged_in result) }
     ensures joined { IfOk result (λ kept. IsAsJoined R.left W.written readers.old target.old target.new kept.salvaged) }
     ensures no_fault { (parts : List (List ℕ)) → HaveNoFault R.left R.health limits readers.old readers.new parts
-        → AnswersAsJoin R.left R.health R.pulls limits readers.old readers.new W.written W.health target.old target.new (salvaged_in result) }
+        → AnswersAsJoin R.left R.health R.pulls limits readers.old readers.new W.written W.health target.old target.new
+        (salvaged_in result) }
 
     // The heap that is handed back is what is saved of the parts, and the one whose dump was written.
     ensures saved { IfOk result (λ kept. (saves : SavesAll R.left R.health R.pulls limits readers.old readers.new W.written W.health

@@ -2,7 +2,8 @@
 
 ghost use Rattle.std.specs.Prelude.{◌≡◌, ℕ, List, false, IfOk};
 ghost use Rattle.hprof_items.specs.FactValue.{FactValue};
-ghost use Rattle.hprof_heap.specs.Gathering.{Gathered, Given, nothing_gathered, Begins, Takes, LacksRow, Gathers, Tells, answer_of, seen_in};
+ghost use Rattle.hprof_heap.specs.Gathering.{Gathered, Given, nothing_gathered, Begins, Takes, LacksRow, Gathers, Tells, answer_of};
+ghost use Rattle.hprof_heap.specs.Gathering.{seen_in};
 
 use crate::gatherer::Gatherer;
 use crate::heap::Heap;

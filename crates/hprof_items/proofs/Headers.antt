@@ -113,7 +113,10 @@ header_made bytes version ids long text size =
     ∙ cond-false (ltb (length bytes) 23) (Err Short) (timed_header version (ids_of (big_number 4 (drop 19 bytes))) bytes)
     (le-ltb _ _ (omega arith))
     ∙ ap (λ (o : Option IdSize). timed_header version o bytes) size
-    ∙ cond-false (ltb (length bytes) 31) (Err Short) (Ok (record { version = version; ids = ids; millis = big_number 8 (drop 23 bytes) }, 31)) (le-ltb _ _ (omega arith))
+    ∙ cond-false (ltb (length bytes) 31) (Err Short) (Ok (
+      record { version = version; ids = ids; millis = big_number 8 (drop 23 bytes) },
+      31,
+    )) (le-ltb _ _ (omega arith))
 
 -- where a version's text stands in front
 text_front : (version : Version) (rest : List ℕ) → (version_of (take 19 (text_of version ++ rest)) ≡ Some version)

@@ -89,7 +89,8 @@ head_again ids longest head rest right =
     let long : 9 ≤ length bytes = omega arith in
     let time : big_number 4 (drop 1 bytes) ≡ head.time = big_number-reads_back 4 head.time (big_bytes 4 head.length ++ rest) right.time in
     let len : big_number 4 (drop 5 bytes) ≡ head.length = big_number-reads_back 4 head.length rest right.length in
-    cond-false (ltb (length bytes) 9) (Err Short) (judged_head ids longest (read (big_number 4 (drop 1 bytes)) (big_number 4 (drop 5 bytes))))
+    cond-false (ltb (length bytes) 9) (Err Short) (judged_head ids longest
+    (read (big_number 4 (drop 1 bytes)) (big_number 4 (drop 5 bytes))))
     (le-ltb _ _ long)
     ∙ ap (λ (m : ℕ). judged_head ids longest (read m (big_number 4 (drop 5 bytes)))) time
     ∙ ap (λ (m : ℕ). judged_head ids longest (read head.time m)) len

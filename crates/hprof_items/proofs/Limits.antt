@@ -26,7 +26,8 @@ short_for_both true less longest len le e = le-ltb longest len (let h = ltb-fals
 short_for_both false less longest len le e = refl
 
 -- the same behind a test that more bytes are needed
-guarded : (b : Bool) (x y : Result (Head × ℕ) Stop) → (x ≡ y) ⊎ (x ≡ Err TooLong) → (cond b (Err Short) x ≡ cond b (Err Short) y) ⊎ (cond b (Err Short) x ≡ Err TooLong)
+guarded : (b : Bool) (x y : Result (Head × ℕ) Stop) → (x ≡ y) ⊎ (x ≡ Err TooLong) → (cond b (Err Short) x ≡ cond b (Err Short) y)
+    ⊎ (cond b (Err Short) x ≡ Err TooLong)
 guarded true x y h = inl refl
 guarded false x y h = h
 

@@ -21,7 +21,8 @@ module _ {A : Type 0} where
       let both : ◌≡◌ {A = A × ℕ} (v, m) (w, n) = cc in (ap (λ (read : A × ℕ). read.0) both, ap (λ (read : A × ℕ). read.1) both)
 
   -- there were enough bytes
-  pub long_enough : (a b : ℕ) (s : Result (A × ℕ) Stop) (v : A) (n : ℕ) → cond (ltb a b) (Err Short) s ≡ Ok (v, n) → (b ≤ a) × (s ≡ Ok (v, n))
+  pub long_enough : (a b : ℕ) (s : Result (A × ℕ) Stop) (v : A) (n : ℕ) → cond (ltb a b) (Err Short) s ≡ Ok (v, n) → (b ≤ a)
+      × (s ≡ Ok (v, n))
   long_enough a b s v n e =
       let g = went_on (ltb a b) (Err Short) s (Ok (v, n)) (λ h. cc) e in
       (ltb-false a b g.0, g.1)

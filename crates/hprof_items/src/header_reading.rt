@@ -72,8 +72,8 @@ fn header_in(bytes: &[u8]) -> Result<(Header, usize), Stop>
     Ok((header, HEADER_LEN))
 }
 
-/// Reads the header at the front, and returns it with the number of its bytes: the text, then the identifier size, then the time. A field is
-/// tested once all its bytes are there.
+/// Reads the header at the front, and returns it with the number of its bytes: the text, then the identifier size, then the time. A field
+/// is tested once all its bytes are there.
 pub fn read_header(bytes: &[u8]) -> Result<(Header, usize), Stop>
     // Which header it is, or what stopped it.
     ensures exact { result ≡ header_at bytes.now }

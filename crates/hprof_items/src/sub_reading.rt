@@ -93,8 +93,8 @@ pub fn read_sub_into<'a>(
     read_item(&item, ids, fact)
 }
 
-/// Reads the sub-record at the front of the `room` bytes that its record has left, and returns its fact with the number of its bytes. It may
-/// have at most `longest` bytes.
+/// Reads the sub-record at the front of the `room` bytes that its record has left, and returns its fact with the number of its bytes. It
+/// may have at most `longest` bytes.
 ///
 /// Fields are tested from left to right: each must end within the record, then within `longest`, then its bytes must be there, then it must
 /// be valid. If there are no bytes, more are needed. The bytes of an instance and the elements of an array are not read.

@@ -34,7 +34,8 @@ impl<'a> PassedReport<'a> {
 
     /// Returns the report as one that is made of passes, or `None` if it is not.
     pub fn of(report: Report<'a>) -> Option<PassedReport<'a>>
-        ensures { MatchOption result ((passed : PassedReport) → report_of passed ≢ report.entry) (λ passed. report_of passed ≡ report.entry) }
+        ensures { MatchOption result ((passed : PassedReport) → report_of passed ≢ report.entry)
+            (λ passed. report_of passed ≡ report.entry) }
     {
         match report {
             Report::Heap(HeapReport::Check) => Some(PassedReport::Check),

@@ -293,7 +293,8 @@ module _ (ids : IdSize) (facts : List FactValue) (known : KnownLayouts) (knows :
     | inl zero_is ↦ elim (cases_eq (length bytes) 0) [
       | inl empty ↦ record {
         all = [];
-        all_are = are_references ids facts class bytes [] (subst (λ (c : ℕ). IsKnown facts c []) (sym zero_is) (known_zero facts)) (sym empty)
+        all_are = are_references ids facts class bytes [] (subst (λ (c : ℕ). IsKnown facts c []) (sym zero_is) (known_zero facts))
+            (sym empty)
             (λ others is. zero_known facts others (subst (λ (c : ℕ). IsKnown facts c others) zero_is is));
         wanted_are = refl;
       }

@@ -29,7 +29,8 @@ width_small ids basics.Long = omega arith
 
 -- ---- the slot at a place
 
-module _ (ids : IdSize) (slots : List Slot) (place : ℕ) (slot : Slot) (within : place < length slots) (is : slot ≡ get_or slots place slot) where
+module _ (ids : IdSize) (slots : List Slot) (place : ℕ) (slot : Slot) (within : place < length slots)
+    (is : slot ≡ get_or slots place slot) where
   next_slot : drop place slots ≡ slot ∷ drop (place + 1) slots
   next_slot = drop_from slots place slot within ∙ ap (λ (s : Slot). s ∷ drop (place + 1) slots) (sym is)
 

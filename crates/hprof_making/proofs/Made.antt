@@ -96,7 +96,8 @@ module _ {R W : Type 0} (left : R → Option (List ℕ)) (health : R → Health)
   front : agreed → WritesSome MakeUp (λ all. IsText summaries (heap_with heap all)) (written before) (written after)
       → (told : List (List ℕ)) → Tell left old told → WritesFront (IsMadeOf IsText) told (written before) (written after)
   front agrees writes told tell =
-      made_front heap MakeUp agreed Tells told IsText summaries (are told tell) (of_parts told tell) agrees (written before) (written after) writes
+      made_front heap MakeUp agreed Tells told IsText summaries (are told tell) (of_parts told tell) agrees (written before)
+      (written after) writes
 
   pub makes_whole : (u : Unit {0}) → Ends (Ok u) → MakesSo None
   makes_whole u ends =
@@ -125,11 +126,13 @@ module _ {R W : Type 0} (left : R → Option (List ℕ)) (health : R → Health)
   ]
   stop_so (stops.Write fault) ends =
       failed left health pulls limits old new written well IsText Refuses before after fault
-      (stopped left health pulls limits old new HaveObject (stops.Write fault) (all_read_so left health pulls limits old new some stored out))
+      (stopped left health pulls limits old new HaveObject (stops.Write fault)
+      (all_read_so left health pulls limits old new some stored out))
       ends.2 (front ends.0 ends.1)
   stop_so (stops.Refused refusal) ends =
       heap_refused left health pulls limits old new written well IsText Refuses before after refusal
-      (stopped left health pulls limits old new HaveObject (stops.Refused refusal) (all_read_so left health pulls limits old new some stored out))
+      (stopped left health pulls limits old new HaveObject (stops.Refused refusal)
+      (all_read_so left health pulls limits old new some stored out))
       ends.2 (λ told tell.
       let its = are told tell in
       let all = its.agree ends.0 in

@@ -1,5 +1,6 @@
 -- Keys, one of which stands apart from the others.
-use Rattle.std.proofs.Common.{◌≡◌, ◌≢◌, ◌<◌, ◌≤◌, ℕ, List, Bool, Option, Some, None, sym, ap, subst, ◌∙◌, inl, inr, arith, length, set, cond}
+use Rattle.std.proofs.Common.{◌≡◌, ◌≢◌, ◌<◌, ◌≤◌, ℕ, List, Bool, Option, Some, None, sym, ap, subst, ◌∙◌, inl, inr, arith, length, set}
+use Rattle.std.proofs.Common.{cond}
 use Rattle.std.proofs.lemmas.List.{get_or-set_same, get_or-set_other, length-set, ext_get_or}
 use Rattle.std.proofs.lemmas.Bool.{cases_eq, cases_lt, lt-ltb, le-ltb}
 use Rattle.hprof_merge.specs.Tree.{lesser_of}

@@ -12,7 +12,8 @@ use Rattle.std.specs.declared.cmp.Ordering.TheVariants.{Less, Equal, Greater}
 use Rattle.std.proofs.lemmas.Cmp.{ranked}
 use Rattle.hprof_items.specs.declared.fact.Fact.{Fact}
 use Rattle.hprof_items.specs.declared.fact.Fact.TheVariants as facts
-use Rattle.hprof_items.specs.FactValue.{FactValue, value_of, Name, Load, Unload, Frame, Trace, Start, End, Rooted, Class, Instance, ObjArray}
+use Rattle.hprof_items.specs.FactValue.{FactValue, value_of, Name, Load, Unload, Frame, Trace, Start, End, Rooted, Class, Instance}
+use Rattle.hprof_items.specs.FactValue.{ObjArray}
 use Rattle.hprof_items.specs.FactValue.{PrimArray}
 use Rattle.hprof_rows.specs.declared.table.Table.TheVariants as tables
 use Rattle.hprof_rows.specs.Facts.{Has}
@@ -258,7 +259,8 @@ first_with facts class first fact (Not _ other) is =
     (first, first_stays facts (fact ∷ facts) class fact first (one_before facts fact) other is)
 first_with facts class None _ (It serial trace name) is = (
   Some (record { serial = serial; name = name }),
-  first_comes facts (Load serial class trace name ∷ facts) class serial trace name (one_before facts (Load serial class trace name)) None tt is,
+  first_comes facts (Load serial class trace name ∷ facts) class serial trace name
+      (one_before facts (Load serial class trace name)) None tt is,
 )
 first_with facts class (Some named) _ (It serial trace name) is =
     let more = Load serial class trace name ∷ facts in

@@ -57,7 +57,8 @@ of_zero target coder array zero = rw zero refl
 -- and no text, if there is no such object
 pub of_no_array : (target : ℕ) (coder : Option FieldValue) (array : Option ObjectDump) → array ≡ None
     → NoText ≡ (if target == 0 then NoText else referred_text (is_wide_coder coder) (option_map fact_of_object array))
-of_no_array target coder array none = rw none (elim (target == 0) as (λ b. NoText ≡ (if b then NoText else NoText)) [ true ↦ refl | false ↦ refl ])
+of_no_array target coder array none = rw none (elim (target == 0) as (λ b. NoText ≡ (if b then NoText else NoText))
+    [ true ↦ refl | false ↦ refl ])
 
 -- ---- an identifier
 
@@ -86,7 +87,8 @@ module _ (ids : IdSize) (facts : List FactValue) (id : ℕ) (row : Option Object
       let no_object = (subst (λ (o : Option ObjectDump). IsFoundObject ids facts id o) none found).none in
       record {
         class = Some (class_value dump);
-        class_found = class_is_found ids facts id (Some dump) (subst (λ (c : Option ClassDump). IsFoundClass ids facts id c) there class_found);
+        class_found = class_is_found ids facts id (Some dump) (subst (λ (c : Option ClassDump). IsFoundClass ids facts id c) there
+            class_found);
         object = None;
         object_found = no_object;
         fields = NoObject;
@@ -123,7 +125,8 @@ module _ (ids : IdSize) (facts : List FactValue) (id : ℕ) (row : Option Object
     text_of_instance own trace class bytes (Err e) same is = tt
 
     -- of an array
-    pub text_of_array : (text : TextValue) → ((own trace class : ℕ) (bytes : Bor (List ℕ)) → object ≡ dumps.Instance own trace class bytes → ⊥)
+    pub text_of_array : (text : TextValue) → ((own trace class : ℕ) (bytes : Bor (List ℕ))
+        → object ≡ dumps.Instance own trace class bytes → ⊥)
         → text ≡ array_text false (fact_of_object object) → IsText ids facts id text
     text_of_array text other is =
         let fields = fields_exist ids facts id in

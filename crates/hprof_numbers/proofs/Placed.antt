@@ -1,6 +1,7 @@
 -- The number of a node among nodes that ascend.
 use Rattle.std.specs.Prelude.{◌↔◌, Contains, IsTrue, Option, is_some, refl}
-use Rattle.std.proofs.Common.{◌≡◌, ◌<◌, ◌≤◌, ◌-◌, ◌==◌, ℕ, Bool, true, false, cond, List, length, slice_index, nat_lt, Some, None, Result, Ok, Err, inl, inr, sym, ◌∙◌, arith, nat_cmp, eqb-true, eq-eqb, ne_eqb}
+use Rattle.std.proofs.Common.{◌≡◌, ◌<◌, ◌≤◌, ◌-◌, ◌==◌, ℕ, Bool, true, false, cond, List, length, slice_index, nat_lt, Some, None, Result}
+use Rattle.std.proofs.Common.{Ok, Err, inl, inr, sym, ◌∙◌, arith, nat_cmp, eqb-true, eq-eqb, ne_eqb}
 use Rattle.std.specs.List.{position_or_len}
 use Rattle.std.specs.List.Sorted.{IsStrictlyIncreasing, IsBinarySearchResult}
 use Rattle.std.specs.Result.{result_ok}
@@ -19,7 +20,8 @@ fails_all p xs none = position_or_len_is p xs (length xs) 0 (omega arith) none (
 module _ (nodes : List ℕ) (node : ℕ) where
   pub no_number : ((number : ℕ) → number < length nodes → slice_index nodes number ≡ node → ⊥) → number_in nodes node ≡ None
   no_number nowhere =
-      let first = fails_all (λ other. other == node) nodes (λ number below. ne_eqb (slice_index nodes number) node (nowhere number below)) in
+      let first = fails_all (λ other. other == node) nodes (λ number below. ne_eqb (slice_index nodes number) node
+      (nowhere number below)) in
       let never : nat_lt (length nodes) (length nodes) ≡ false = grind arith in
       (λ i. cond (nat_lt (first i) (length nodes)) (Some (first i)) None) ∙ (λ i. cond (never i) (Some (length nodes)) None)
 

@@ -26,7 +26,8 @@ use Rattle.hprof_questions.specs.declared.subject.Misnamed.{Misnamed}
 use Rattle.hprof_questions.specs.declared.subject.Misnamed.TheVariants as misnamed
 use Rattle.hprof_questions.specs.declared.question.Question.{Question}
 use Rattle.hprof_questions.specs.declared.question.Question.TheVariants as questions
-use Rattle.hprof_questions.specs.Asked.{Asks, AsksReport, IsFollowed, IsLineOf, IsMisnamed, IsNamed, IsQuestion, IsQuit, SaysKinds, SaysNode}
+use Rattle.hprof_questions.specs.Asked.{Asks, AsksReport, IsFollowed, IsLineOf, IsMisnamed, IsNamed, IsQuestion, IsQuit, SaysKinds}
+use Rattle.hprof_questions.specs.Asked.{SaysNode}
 use Rattle.hprof_questions.specs.Same.{IsSame, placed_question, placed_report}
 use Rattle.hprof_questions.specs.Words.{all_words, follows_of, node_follows, word_of}
 

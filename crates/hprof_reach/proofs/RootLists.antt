@@ -1,6 +1,7 @@
 -- The roots of an object, gone over from the front.
 use Rattle.std.specs.Prelude.{map}
-use Rattle.std.proofs.Common.{◌≡◌, ◌⊎◌, ◌==◌, ℕ, Bool, true, false, cond, List, [], ◌∷◌, ◌++◌, Option, Some, None, refl, sym, ap, subst, ◌∙◌, inl, inr, append_assoc, append-nil}
+use Rattle.std.proofs.Common.{◌≡◌, ◌⊎◌, ◌==◌, ℕ, Bool, true, false, cond, List, [], ◌∷◌, ◌++◌, Option, Some, None, refl, sym, ap, subst}
+use Rattle.std.proofs.Common.{◌∙◌, inl, inr, append_assoc, append-nil}
 use Rattle.std.specs.List.{AllByRecursion}
 use Rattle.std.proofs.lemmas.Bool.{both_ways, eq-eqb, eqb-true}
 use Rattle.hprof_values.specs.declared.root.Root.{Root}
@@ -116,7 +117,8 @@ module _ (id : ℕ) where
   }
 
   -- those of the table of roots are those of all facts
-  roots_of_table : (facts : List FactValue) (roots : List Root) → AreRootsOf (facts_of_table tables.Roots facts) id roots → AreRootsOf facts id roots
+  roots_of_table : (facts : List FactValue) (roots : List Root) → AreRootsOf (facts_of_table tables.Roots facts) id roots
+      → AreRootsOf facts id roots
   roots_of_table facts roots are = record {
     ordered = are.ordered;
     exact = λ root. (
@@ -166,7 +168,8 @@ from_map (own ∷ roots) fact has = elim has [
 ]
 
 -- each root of the one list is a root of the other
-of_other : (facts : List FactValue) (id : ℕ) (one other : List Root) → AreRootsOf facts id one → AreRootsOf facts id other → (fact : FactValue)
+of_other : (facts : List FactValue) (id : ℕ) (one other : List Root) → AreRootsOf facts id one → AreRootsOf facts id other
+    → (fact : FactValue)
     → Has (map Rooted one) fact → Has (map Rooted other) fact
 of_other facts id one other are too fact has =
     let found = from_map one fact has in

@@ -172,7 +172,8 @@ module _ (Starts : ℕ → Type 0) (Steps : ℕ → ℕ → Type 0) (nodes start
     | inl closed ↦ (count, closed)
     | inr new ↦
         closes fuel (suc count) (new.0 ∷ found) (ap suc counted) (omega arith) (
-          fresh new.0 found (false_from_ne_true (has found new.0) (λ there. (let seen_it = are new.0 there in let not_seen = new.2 in absurd cc))),
+          fresh new.0 found (false_from_ne_true (has found new.0) (λ there.
+              (let seen_it = are new.0 there in let not_seen = new.2 in absurd cc))),
           distinct,
         )
         (λ n e. elim (or_cases (n == new.0) (has found n) e) [

@@ -157,7 +157,8 @@ module _ (ids : IdSize) (facts others : List FactValue) (key : Key) (fact : List
 
 -- what is found under a key is kept among the facts of a heap
 pub key_kept : (rows : HeapRows) → AreHeap rows → (key : Key)
-    → IsKept rows.ids (joined (tables_of rows)) key (fact_of_key rows.ids key) (row_at (number_of key) (contents_at (table_of_key key) rows))
+    → IsKept rows.ids (joined (tables_of rows)) key (fact_of_key rows.ids key)
+    (row_at (number_of key) (contents_at (table_of_key key) rows))
 key_kept rows are key =
     record { finds = look_up_key rows are key; again = λ content is. (right_key rows are key content is).1 }
 
@@ -261,7 +262,8 @@ module _ (one other : HeapRows) (are : AreHeap one) (others_are : AreHeap other)
 
   module _ (number : ℕ) where
     -- where the table of a rank differs at the number first
-    pub first_least : (rank : ℕ) → rank < 7 → NoneBelow one other rank → DiffersFirst (table_of_rank rank) one other (Some number) → (key : Key)
+    pub first_least : (rank : ℕ) → rank < 7 → NoneBelow one other rank → DiffersFirst (table_of_rank rank) one other (Some number)
+        → (key : Key)
         → key_in (table_of_rank rank) number ≡ Some key → IsLeastConflict both key
     first_least zero lt none first key e = least_is (keys.Name number) none first.first key e
     first_least (suc zero) lt none first key e = least_is (keys.Load number) none first.first key e
@@ -277,7 +279,8 @@ module _ (one other : HeapRows) (are : AreHeap one) (others_are : AreHeap other)
     differ_fits key d = key_fits one are key d.content d.has_content
 
     -- so the number is one of the table's keys
-    pub first_fits : (rank : ℕ) → rank < 7 → DiffersFirst (table_of_rank rank) one other (Some number) → IsNumberIn (table_of_rank rank) number
+    pub first_fits : (rank : ℕ) → rank < 7 → DiffersFirst (table_of_rank rank) one other (Some number)
+        → IsNumberIn (table_of_rank rank) number
     first_fits zero lt first = tt
     first_fits (suc zero) lt first = (differ_fits (keys.Load number) first.first.0).0.numbers.0
     first_fits (suc (suc zero)) lt first = tt

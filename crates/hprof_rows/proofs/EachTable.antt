@@ -1,5 +1,6 @@
 -- What holds of each table of a heap, whichever it is; what stating a fact does to its rows, it does to the heap.
-use Rattle.std.proofs.Common.{◌≡◌, ℕ, zero, suc, ◌<◌, List, ◌∷◌, [], find, Option, Some, None, Result, Ok, Err, refl, sym, ap, subst, ◌∙◌, inl, inr}
+use Rattle.std.proofs.Common.{◌≡◌, ℕ, zero, suc, ◌<◌, List, ◌∷◌, [], find, Option, Some, None, Result, Ok, Err, refl, sym, ap, subst, ◌∙◌}
+use Rattle.std.proofs.Common.{inl, inr}
 use Rattle.std.proofs.Common.{arith}
 use Rattle.std.specs.Prelude.{ℤ, pos, IfOk, OnErr, length}
 use Rattle.std.specs.BTreeMap.{is_at, insert_entry}
@@ -171,7 +172,8 @@ module _ {V : Type 0} (content : V → List ℕ) where
     ]
   ]
 
-  contents_state : {E : Type 0} (old new : List (ℕ × V)) (key : ℕ) (stated : List ℕ) (r : Result Stated E) → StatesRow content old key stated r new
+  contents_state : {E : Type 0} (old new : List (ℕ × V)) (key : ℕ) (stated : List ℕ) (r : Result Stated E)
+      → StatesRow content old key stated r new
       → StatesRow the_bytes (contents_of content old) key stated r (contents_of content new)
   contents_state old new key stated (Ok New) s = record {
     ok = (
@@ -341,7 +343,8 @@ module _ (rows : HeapRows) (are : AreHeap rows) (key : Key) where
       (number_of key) content (right_at (table_of_key key) rows are) e
 
   pub key_fits : (content : List ℕ) → row_at (number_of key) contents ≡ Some content → Fits rows.ids (fact_of_key rows.ids key content)
-  key_fits content e = found_fits rows (has_key key) (fact_of_key rows.ids key content) are (look_up_key ∙ ap (option_map (fact_of_key rows.ids key)) e)
+  key_fits content e = found_fits rows (has_key key) (fact_of_key rows.ids key content) are
+      (look_up_key ∙ ap (option_map (fact_of_key rows.ids key)) e)
 
   -- the same of a row of any kind
   pub look_up_by : {V : Type 0} (content : V → List ℕ) (of_table : List (ℕ × V)) (found : Option V)

@@ -31,7 +31,8 @@ use Rattle.hprof_tables.specs.declared.relation.Stated.{Stated}
 use Rattle.hprof_rows.specs.Key.{has_key}
 use Rattle.hprof_tables.specs.SortedRows.{row_at}
 use Rattle.hprof_rows.proofs.Keys.{place_of_key, stands_at, has_key_at, same_place}
-use Rattle.hprof_rows.specs.Content.{content_of, load_fact, unload_fact, frame_fact, trace_fact, start_fact, end_fact, spelled_fact, object_fact}
+use Rattle.hprof_rows.specs.Content.{content_of, load_fact, unload_fact, frame_fact, trace_fact, start_fact, end_fact, spelled_fact}
+use Rattle.hprof_rows.specs.Content.{object_fact}
 use Rattle.hprof_rows.specs.Content.{line_with, read_fact, facts_of_rows, IsRight, AreRight}
 use Rattle.hprof_byte_tables.specs.Spans.{the_bytes}
 use Rattle.hprof_rows.specs.Stating.{StatesInto, IsNewAmong}
@@ -215,7 +216,8 @@ pub trace_again : (ids : IdSize) (serial thread : ℕ) (frames : List ℕ) → F
     → trace_fact ids serial (content_of ids (Trace serial thread frames)) ≡ Trace serial thread frames
 trace_again ids serial thread frames fits =
     let bytes : List ℕ = field_bytes (id_widths ids (length frames)) frames in
-    ap (λ (n : ℕ). Trace serial n (ids_in ids (drop 4 (big_bytes 4 thread ++ bytes)))) (big_number-reads_back 4 thread bytes fits.0.numbers.1.0)
+    ap (λ (n : ℕ). Trace serial n (ids_in ids (drop 4 (big_bytes 4 thread ++ bytes))))
+    (big_number-reads_back 4 thread bytes fits.0.numbers.1.0)
     ∙ ap (λ (rest : List ℕ). Trace serial thread (ids_in ids rest)) (behind_thread thread bytes)
     ∙ ap (Trace serial thread) (ids_again ids frames bytes (record { fits = fits.0.rest; spelled = refl })).1
 
@@ -333,7 +335,8 @@ row_spells ids key bytes right fits =
     record { fits = spells.fits; spelled = same; short = subst (λ (b : List ℕ). length b ≤ longest_body) (sym same) spells.short }
 
 -- the bytes of a trace's row are those of a trace
-pub row_is_trace : (ids : IdSize) (key : ℕ) (bytes : List ℕ) → IsRight ids 4 (trace_fact ids) key bytes → Fits ids (trace_fact ids key bytes)
+pub row_is_trace : (ids : IdSize) (key : ℕ) (bytes : List ℕ) → IsRight ids 4 (trace_fact ids) key bytes
+    → Fits ids (trace_fact ids key bytes)
     → IsTrace ids bytes
 row_is_trace ids key bytes right fits =
     let thread : ℕ = big_number 4 bytes in

@@ -122,12 +122,14 @@ module _ (ids : IdSize) where
       tagged_again ids tags.ObjArrayDump id (array_rest ids) (trace ∷ length elements ∷ class ∷ []) (elements_bytes ids elements))
       (λ id trace elem bytes. tagged_again ids tags.PrimArrayDump id prim_rest (prim_numbers ids trace elem bytes) bytes)
 
-  pub object_content : (id : ℕ) (fact : FactValue) → order_of fact ≡ 9 ∷ id ∷ [] → content_of ids fact ≡ without_id ids (dump_bytes ids fact)
+  pub object_content : (id : ℕ) (fact : FactValue) → order_of fact ≡ 9 ∷ id ∷ []
+      → content_of ids fact ≡ without_id ids (dump_bytes ids fact)
   object_content = each_object (λ id fact. content_of ids fact ≡ without_id ids (dump_bytes ids fact))
       (λ id trace class bytes. refl) (λ id trace class elements. refl) (λ id trace elem bytes. refl)
 
   -- a fact is read in its content
-  pub object_again : (id : ℕ) (fact : FactValue) → order_of fact ≡ 9 ∷ id ∷ [] → Fits ids fact → object_fact ids id (content_of ids fact) ≡ fact
+  pub object_again : (id : ℕ) (fact : FactValue) → order_of fact ≡ 9 ∷ id ∷ [] → Fits ids fact
+      → object_fact ids id (content_of ids fact) ≡ fact
   object_again id fact at fits =
       ap (object_fact ids id) (object_content id fact at) ∙ ap (spelled_fact ids id) (with_again id fact at)
       ∙ spelled_read ids id fact (dump_bytes ids fact) (sub_spells ids fact (sub_at_place fact 9 id at (omega arith)) fits)

@@ -25,7 +25,8 @@ abbrev keyed_by : IdSize → FactValue → ℕ × List ℕ
 keyed_by ids stated = (slice_index (order_of stated) 1, content_of ids stated)
 
 module _ (ids : IdSize) (table : ℕ) (fact : ℕ → List ℕ → FactValue) where
-  to_contents : (rows : List (ℕ × List ℕ)) → AreRight ids table fact the_bytes rows → rows ≡ map (keyed_by ids) (facts_of_rows fact the_bytes rows)
+  to_contents : (rows : List (ℕ × List ℕ)) → AreRight ids table fact the_bytes rows
+      → rows ≡ map (keyed_by ids) (facts_of_rows fact the_bytes rows)
   to_contents [] right = refl
   to_contents (row ∷ rows) right =
       let key : slice_index (order_of (fact row.0 row.1)) 1 ≡ row.0 = ap (λ (place : List ℕ). slice_index place 1) right.0.0 in

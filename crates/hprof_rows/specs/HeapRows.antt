@@ -9,7 +9,8 @@ use Rattle.hprof_rows.specs.declared.number_rows.LoadRow.{LoadRow}
 use Rattle.hprof_rows.specs.declared.number_rows.FrameRow.{FrameRow}
 use Rattle.hprof_rows.specs.declared.number_rows.StartRow.{StartRow}
 use Rattle.hprof_rows.specs.declared.number_rows.KeyRow.{KeyRow}
-use Rattle.hprof_rows.specs.Content.{load_fact, unload_fact, frame_fact, trace_fact, start_fact, end_fact, spelled_fact, object_fact, facts_of_rows}
+use Rattle.hprof_rows.specs.Content.{load_fact, unload_fact, frame_fact, trace_fact, start_fact, end_fact, spelled_fact, object_fact}
+use Rattle.hprof_rows.specs.Content.{facts_of_rows}
 use Rattle.hprof_rows.specs.Content.{IsRight, AreRight}
 use Rattle.hprof_byte_tables.specs.Spans.{the_bytes}
 use Rattle.hprof_rows.specs.HeapValue.{HeapValue, IsHeap, IsHeap-prop}

@@ -94,7 +94,8 @@ impl SubRow<'_> {
         requires { IsWritable ids self }
         ensures put { IfSome result (λ count. (count ≡ length (dump_bytes ids (sub_fact ids self.entry)))
             × (out.new ≡ dump_bytes ids (sub_fact ids self.entry) ++ drop count out.old)) }
-        ensures not { result ≡ None → (out.new ≡ out.old) × (IsNoObject self.entry ⊎ (length out.old < length (dump_bytes ids (sub_fact ids self.entry)))) }
+        ensures not { result ≡ None → (out.new ≡ out.old) × (IsNoObject self.entry
+            ⊎ (length out.old < length (dump_bytes ids (sub_fact ids self.entry)))) }
     {
         let SubRow::Object { id, kept } = self else {
             return None;

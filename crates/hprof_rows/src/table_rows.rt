@@ -190,7 +190,8 @@ fn next_root<'a>(roots: &mut btree_set::Iter<'a, Root>) -> Option<Fact<'a>>
 #[inline(always)]
 fn next_object_into<'a>(rows: &mut BytesRows<'a>, ids: IdSize, fact: &mut Fact<'a>) -> bool
     requires { AreObjects ids (byte_rows_left rows.old) }
-    ensures some { result ≡ true → object_facts ids (byte_rows_left rows.old) ≡ value_of fact.new ∷ object_facts ids (byte_rows_left rows.new) }
+    ensures some { result ≡ true → object_facts ids (byte_rows_left rows.old) ≡ value_of fact.new
+        ∷ object_facts ids (byte_rows_left rows.new) }
     ensures none { result ≡ false
         → (object_facts ids (byte_rows_left rows.old) ≡ []) × (object_facts ids (byte_rows_left rows.new) ≡ []) × (fact.new ≡ fact.old) }
     ensures lists { result ≡ true → ListsHave ids fact.new }

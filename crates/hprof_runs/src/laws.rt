@@ -83,15 +83,16 @@ pub fn one_run_for_each_list<S: Scratch>()
 {}
 
 /// Cursors that come to the rows of lists show, up to their ends, exactly these rows. If a merge of them stops at the least key with two
-/// contents, it is the least of these lists. If no cursor shows a row below a key, the rows up to the key that came and those that are shown
-/// are those of the lists.
+/// contents, it is the least of these lists. If no cursor shows a row below a key, the rows up to the key that came and those that are
+/// shown are those of the lists.
 pub fn merged_rows_are_all<C: KnownCursor>()
     ensures all { (old new : List C) (lists came : List (List ByteRow)) → AllComeTo C.comes_to old lists
         → AllShow C.shown C.goes old new came → ((row : ByteRow) → AnyHas (all_shown C.shown new) row → ⊥) → came ≡ lists }
     ensures least { (old new : List C) (lists came : List (List ByteRow)) (key : ℕ) → AllComeTo C.comes_to old lists
         → AllShow C.shown C.goes old new came → AllFrom key (all_shown C.shown new)
         → IsLeastWithTwoContents (came ++ all_shown C.shown new) key → IsLeastWithTwoContents lists key }
-    ensures below { (old new : List C) (lists came : List (List ByteRow)) (key bound : ℕ) (front : List ByteRow) → AllComeTo C.comes_to old lists
+    ensures below { (old new : List C) (lists came : List (List ByteRow)) (key bound : ℕ) (front : List ByteRow)
+        → AllComeTo C.comes_to old lists
         → AllShow C.shown C.goes old new came → AllFrom key (all_shown C.shown new) → bound ≤ key + 1
         → IsUnionBelow (came ++ all_shown C.shown new) bound front → IsUnionBelow lists bound front }
 {}

@@ -100,7 +100,8 @@ module _ {R : Type 0} (left : R → Option (List ℕ)) (health : R → Health) (
       scratch = λ why e. absurd cc;
       accepted = λ all. absurd all;
     },
-    λ parts ids millis facts told state fine unhindered. absurd (never_refused left health pulls HaveObject limits parts ids millis facts old new
+    λ parts ids millis facts told state fine unhindered. absurd (never_refused left health pulls HaveObject limits parts ids millis
+        facts old new
         index fault le state
         (stops_part parts old new index fault told reads) fine unhindered),
   )

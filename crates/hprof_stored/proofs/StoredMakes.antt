@@ -132,7 +132,8 @@ module _ {R W : Type 0} (left : R → Option (List ℕ)) (health : R → Health)
     refused = λ other e.
         let one : refusal ≡ other = cc in (
           inl tt,
-          λ parts told. subst (λ (r : ProductRefusal). (heap : HeapValue) × Refuses r heap × Agree parts heap.ids heap.millis heap.facts) one
+          λ parts told. subst (λ (r : ProductRefusal). (heap : HeapValue) × Refuses r heap
+              × Agree parts heap.ids heap.millis heap.facts) one
               (refuses parts told),
         );
     write = λ fault e. absurd cc;
@@ -223,7 +224,8 @@ module _ {R W : Type 0} (left : R → Option (List ℕ)) (health : R → Health)
           made_lost losses.Scratch (lost_scratch left health pulls limits old new some) (inl same) (λ parts told change. change)
 
     -- all parts were read
-    module _ (stored : ReadsStored left health pulls limits old new None) (out : AreReadOut left health pulls limits old new (length old)) where
+    module _ (stored : ReadsStored left health pulls limits old new None)
+        (out : AreReadOut left health pulls limits old new (length old)) where
       abbrev pub Wrote : Type 0
       Wrote = (after ≡ before) ⊎ FrontIfTold
 
@@ -249,5 +251,6 @@ module _ {R W : Type 0} (left : R → Option (List ℕ)) (health : R → Health)
         pass_makes (passes.Scratch runs.Damaged) tells = lost losses.Scratch (inl same) (λ parts told change. change)
         pass_makes (passes.Part part stretches.OutOfMemory) tells = unwritten_wants
         pass_makes (passes.Part part stretches.Read) tells = lost (losses.Read part) (inl same) (λ parts told change. change)
-        pass_makes (passes.Part part stretches.Changed) tells = lost (losses.Changed part) (inl same) (λ parts told change. tells parts told)
+        pass_makes (passes.Part part stretches.Changed) tells = lost (losses.Changed part) (inl same)
+            (λ parts told change. tells parts told)
         pass_makes passes.NoObject tells = lost losses.Objects (inl same) (λ parts told change. tells parts told)

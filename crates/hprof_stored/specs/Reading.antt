@@ -118,7 +118,8 @@ AreAllRead (Some (stops.Part index fault)) = ⊥
 AreAllRead (Some (stops.Scratch why)) = ⊥
 AreAllRead other = ⊤
 
--- what reading answers of the parts, as `Reads` says it, and memory is taken for each object; a conflict of objects is not among the answers
+-- what reading answers of the parts, as `Reads` says it, and memory is taken for each object; a conflict of objects is not among the
+-- answers
 --   old, new: the readers, before and afterwards;  ended: the fault that reading ended with, if any
 pub record ReadsStored {R : Type 0} (left : R → Option (List ℕ)) (health : R → Health) (pulls : R → ℕ) (limits : Limits) (old new : List R)
     (ended : Option StoredFault) : Type 0 where

@@ -72,7 +72,8 @@ pub next_place : (progress : Progress) (item : ItemValue) (n : ℕ) → Stands (
 next_place progress item n stands = place_next progress.header progress.room item n progress refl refl stands
 
 -- how many records it begins
-pub count_next : (header : Option Header) (room : ℕ) (item : ItemValue) (n : ℕ) (progress : Progress) → Stands (place_behind header room) item
+pub count_next : (header : Option Header) (room : ℕ) (item : ItemValue) (n : ℕ) (progress : Progress)
+    → Stands (place_behind header room) item
     → (advanced progress item n).records ≡ progress.records + begun_at (place_behind header room)
 count_next None room (items.Header h) n progress stands = omega arith
 count_next None room (items.Fact fact) n progress stands = absurd stands
@@ -94,7 +95,8 @@ count_next (Some h) (suc room) items.Skipped n progress stands = absurd stands
 count_next (Some h) (suc room) (items.Sub fact) n progress stands = omega arith
 
 -- how many facts, and whether it ends a heap dump
-pub facts_next : (item : ItemValue) (n : ℕ) (progress : Progress) → (advanced progress item n).facts ≡ progress.facts + length (facts_stated item)
+pub facts_next : (item : ItemValue) (n : ℕ) (progress : Progress) → (advanced progress item n).facts ≡ progress.facts + length
+    (facts_stated item)
 facts_next (items.Header h) n progress = omega arith
 facts_next (items.Fact fact) n progress = omega arith
 facts_next (items.Dump len) n progress = omega arith

@@ -164,7 +164,8 @@ short_unsettled longest bytes items place rest splits short fault first =
     short_fault (length (all_bytes first.items)) fault (ap (fault_at (length (all_bytes first.items))) (sym here) ∙ first.fails)
 
 -- what is refused is not done
-pub refused_undone : (longest : ℕ) (place : Place) (rest : List ℕ) → (item_at longest place rest ≡ Err Short → ⊥) → is_done place rest ≡ false
+pub refused_undone : (longest : ℕ) (place : Place) (rest : List ℕ) → (item_at longest place rest ≡ Err Short → ⊥)
+    → is_done place rest ≡ false
 refused_undone longest place rest never =
     elim (cases_Bool (eqb (length rest) 0)) [
       | inl nothing ↦ absurd (never (ap (item_at longest place) (nil_from_length rest (eqb-true (length rest) 0 nothing))

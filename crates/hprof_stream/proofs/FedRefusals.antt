@@ -90,7 +90,8 @@ module _ {S : Type 0} (begins : S → Header → S → Type 0) (steps : S → Fa
       subst (λ (l : Limits). IsItem l.max_item (place_of at) stop.0 stop.1) walked.has_limits stop.3 in
       let up = RanUpTo-walked begins steps limits whole facts before at rest old mid walked stop.0 stop.1 stop.2 told stays is stop.4
       stop.5 stop.6 in
-      subst (λ (b : List ℕ). (w : BeginsWhole limits.max_item b told) × RefusesLast begins steps refuses failed w facts before old fault new)
+      subst (λ (b : List ℕ). (w : BeginsWhole limits.max_item b told) × RefusesLast begins steps refuses failed w facts before
+      old fault new)
       taken (up.0, record { mid = mid; ran = up.1; refused = stop.7 })
   IsFeedFault-stopped limits bytes whole facts before told at rest old mid new faults.OutOfMemory taken walked stays stop = absurd stop
   IsFeedFault-stopped limits bytes whole facts before told at rest old mid new faults.Failed taken walked stays stop = absurd stop

@@ -119,7 +119,8 @@ module _ {S : Type 0} (begins : S → Header → S → Type 0) (steps : S → Fa
     → S → Type 0)
     (failed : S → Bool) where
   -- an item that the sink refused, from where reading began
-  pub RefusesLast-from : {longest : ℕ} {bytes : List ℕ} {told : Option Header} (whole : BeginsWhole longest bytes told) (facts : List FactValue)
+  pub RefusesLast-from : {longest : ℕ} {bytes : List ℕ} {told : Option Header} (whole : BeginsWhole longest bytes told)
+      (facts : List FactValue)
       (before : Option Header) (old mid new : S) (fault : SinkFault) → Run begins steps old before facts mid → (before ≡ None → facts ≡ [])
       → RefusesLast begins steps refuses failed whole facts before mid fault new
       → RefusesLast begins steps refuses failed whole [] None old fault new
@@ -138,7 +139,8 @@ module _ {R : Type 0} (left : R → Option (List ℕ)) (pulls : R → ℕ) where
       Consumes-trans (left was) (left mid) (left is) before piece (Pulled-consumes was before _ mid pulled) last.gave
 
   -- what a reader has read came before a last piece
-  unfoldable pub CameLast-read : (limits : Limits) (bytes : List ℕ) (facts : List FactValue) (reader : PartReader) (piece : List ℕ) (count : ℕ)
+  unfoldable pub CameLast-read : (limits : Limits) (bytes : List ℕ) (facts : List FactValue) (reader : PartReader) (piece : List ℕ)
+      (count : ℕ)
       (was before is : R) → HasRead limits bytes facts reader
       → Pulled left pulls was bytes count before → IsPull left pulls before piece is → 0 < length piece → count < limits.max_reads
       → CameLast left pulls limits was (bytes ++ piece) is

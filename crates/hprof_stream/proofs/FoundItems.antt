@@ -47,7 +47,8 @@ header_step (Ok (header, m)) found n e =
 header_step (Err stop) found n e = absurd cc
 
 -- a head that was found
-head_step : (header : Header) (step : Result (Head × ℕ) Stop) (bytes : List ℕ) (found : Found) (n : ℕ) → found_behind header step bytes ≡ Ok (found, n)
+head_step : (header : Header) (step : Result (Head × ℕ) Stop) (bytes : List ℕ) (found : Found) (n : ℕ)
+    → found_behind header step bytes ≡ Ok (found, n)
     → (head : Head) × (m : ℕ) × (step ≡ Ok (head, m)) × (found_record header (kind_of head.tag) head bytes ≡ Ok (found, n))
 head_step header (Ok (head, m)) bytes found n e = (head, m, refl, e)
 head_step header (Err stop) bytes found n e = absurd cc

@@ -118,7 +118,8 @@ not_passing : (test : Bool) (bytes : List ℕ) (passing : Passing) → 0 < lengt
 not_passing true bytes passing some = absurd (omega (arith, some))
 not_passing false bytes passing some = refl
 
-none_by : (step : Result (Head × ℕ) Stop) (bytes : List ℕ) → 0 < length (cond (is_skipped_head step) [] bytes) → passing_by step (length bytes) ≡ None
+none_by : (step : Result (Head × ℕ) Stop) (bytes : List ℕ) → 0 < length (cond (is_skipped_head step) [] bytes)
+    → passing_by step (length bytes) ≡ None
 none_by (Ok (head, n)) bytes some = not_passing (is_skipped_kind (kind_of head.tag)) bytes (record {
   seen = length bytes;
   left =
@@ -137,7 +138,8 @@ held_unless : (test : Bool) (bytes : List ℕ) (passing : Passing) → cond test
 held_unless true bytes passing e = absurd cc
 held_unless false bytes passing e = refl
 
-held_by : (step : Result (Head × ℕ) Stop) (bytes : List ℕ) → passing_by step (length bytes) ≡ None → cond (is_skipped_head step) [] bytes ≡ bytes
+held_by : (step : Result (Head × ℕ) Stop) (bytes : List ℕ) → passing_by step (length bytes) ≡ None
+    → cond (is_skipped_head step) [] bytes ≡ bytes
 held_by (Ok (head, n)) bytes e = held_unless (is_skipped_kind (kind_of head.tag)) bytes (record {
   seen = length bytes;
   left =

@@ -96,7 +96,8 @@ sub_no_end ids room longest bytes fact n are e =
     tag_no_end (tag_of_dump fact) ∙ ap (λ (b : ℕ). b == 0x2c) (sym first)
 
 -- a record with a fact stands between records
-pub fact_place : (header : Header) (bytes : List ℕ) (step : Result (ItemValue × ℕ) Stop) → IfRead step IsFact → false ≡ (slice_index bytes 0 == 0x2c)
+pub fact_place : (header : Header) (bytes : List ℕ) (step : Result (ItemValue × ℕ) Stop) → IfRead step IsFact
+    → false ≡ (slice_index bytes 0 == 0x2c)
     → IfRead step (IsOfPlace (Between header) bytes)
 fact_place header bytes (Ok (items.Header h, n)) is e = absurd is
 fact_place header bytes (Ok (items.Fact fact, n)) is e = (tt, e)

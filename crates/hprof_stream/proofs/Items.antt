@@ -89,7 +89,11 @@ fact_item_again : (longest : ℕ) (header : Header) (known : RecordTag) (time : 
     → BodyFits header.ids known fact → time < 256 ^ 4
     → length (record_body header.ids known fact) ≤ longest_body → length (record_body header.ids known fact) ≤ longest
     → item_at longest (Between header) (record_bytes (code_of_record known) time (record_body header.ids known fact) ++ rest)
-    ≡ Ok (record { next = Between header; facts = fact ∷ [] }, length (record_bytes (code_of_record known) time (record_body header.ids known fact)))
+    ≡ Ok (
+      record { next = Between header; facts = fact ∷ [] },
+      length (record_bytes (code_of_record known) time
+          (record_body header.ids known fact)),
+    )
 fact_item_again longest header known time fact rest fits is_time small short =
     let ids : IdSize = header.ids in
     let body : List ℕ = record_body ids known fact in

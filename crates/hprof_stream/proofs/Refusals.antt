@@ -36,7 +36,8 @@ use Rattle.hprof_stream.proofs.Tags.{fact_taken}
 -- ---- bytes behind what is judged
 
 -- a header whose text and size were judged
-timed_stays : (version : Version) (size : Option IdSize) (bytes more : List ℕ) (step : Result (Header × ℕ) Stop) → (Err stops.Short ≡ step → ⊥)
+timed_stays : (version : Version) (size : Option IdSize) (bytes more : List ℕ) (step : Result (Header × ℕ) Stop)
+    → (Err stops.Short ≡ step → ⊥)
     → timed_header version size bytes ≡ step → timed_header version size (bytes ++ more) ≡ step
 timed_stays version None bytes more step never e = e
 timed_stays version (Some ids) bytes more step never e =
@@ -48,7 +49,8 @@ timed_stays version (Some ids) bytes more step never e =
     ∙ ap made (number_more 8 23 bytes more long) ∙ g.1
 
 -- a header whose text was judged
-sized_stays : (text : Option Version) (bytes more : List ℕ) (step : Result (Header × ℕ) Stop) → (Err stops.Short ≡ step → ⊥) → sized_header text bytes ≡ step
+sized_stays : (text : Option Version) (bytes more : List ℕ) (step : Result (Header × ℕ) Stop) → (Err stops.Short ≡ step → ⊥)
+    → sized_header text bytes ≡ step
     → sized_header text (bytes ++ more) ≡ step
 sized_stays None bytes more step never e = e
 sized_stays (Some version) bytes more step never e =
@@ -78,7 +80,8 @@ pub head_stays : (ids : IdSize) (longest : ℕ) (bytes more : List ℕ) (step : 
     → head_at ids longest bytes ≡ step → head_at ids longest (bytes ++ more) ≡ step
 unfolding head_at
 head_stays ids longest bytes more step never e =
-    let judged : ℕ → ℕ → ℕ → Result (Head × ℕ) Stop = λ tag time len. judged_head ids longest (record { tag = tag; time = time; length = len }) in
+    let judged : ℕ → ℕ → ℕ → Result (Head × ℕ) Stop = λ tag time len. judged_head ids longest
+    (record { tag = tag; time = time; length = len }) in
     let all : List ℕ = bytes ++ more in
     let g = went_on (ltb (length bytes) 9) (Err stops.Short) (judged (slice_index bytes 0) (number 4 (drop 1 bytes))
     (number 4 (drop 5 bytes))) step never e in
@@ -91,7 +94,8 @@ head_stays ids longest bytes more step never e =
     ∙ g.1
 
 -- a record whose head was read
-pub record_stays : (header : Header) (kind : HeadKind) (head : Head) (bytes more : List ℕ) (step : Result (Found × ℕ) Stop) → (Err stops.Short ≡ step → ⊥)
+pub record_stays : (header : Header) (kind : HeadKind) (head : Head) (bytes more : List ℕ) (step : Result (Found × ℕ) Stop)
+    → (Err stops.Short ≡ step → ⊥)
     → found_record header kind head bytes ≡ step → found_record header kind head (bytes ++ more) ≡ step
 record_stays header FactRecord head bytes more step never e =
     let all : List ℕ = bytes ++ more in
@@ -102,7 +106,8 @@ record_stays header FactRecord head bytes more step never e =
     let body : take len (drop 9 all) ≡ take len (drop 9 bytes) =
     ap (take len) (drop-append-le 9 bytes more (omega arith))
     ∙ take-append-le len (drop 9 bytes) more (omega (arith, length-drop 9 bytes)) in
-    cond-false (ltb (length all) (9 + len)) (Err stops.Short) (found (take len (drop 9 all))) (le-ltb _ _ (omega (arith, length-append bytes more)))
+    cond-false (ltb (length all) (9 + len)) (Err stops.Short) (found (take len (drop 9 all)))
+    (le-ltb _ _ (omega (arith, length-append bytes more)))
     ∙ ap found body ∙ g.1
 record_stays header HeapDump head bytes more step never e = e
 record_stays header DumpEnd head bytes more step never e = e
@@ -114,39 +119,48 @@ record_stays header Skipped head bytes more step never e =
     cond-false (ltb (length (bytes ++ more)) (9 + len)) (Err stops.Short) last (le-ltb _ _ (omega (arith, length-append bytes more))) ∙ g.1
 
 -- what stands behind a header
-behind_stays : (header : Header) (read : Result (Head × ℕ) Stop) (bytes more : List ℕ) (step : Result (Found × ℕ) Stop) → (Err stops.Short ≡ step → ⊥)
+behind_stays : (header : Header) (read : Result (Head × ℕ) Stop) (bytes more : List ℕ) (step : Result (Found × ℕ) Stop)
+    → (Err stops.Short ≡ step → ⊥)
     → found_behind header read bytes ≡ step → found_behind header read (bytes ++ more) ≡ step
 behind_stays header (Ok (head, n)) bytes more step never e = record_stays header (kind_of head.tag) head bytes more step never e
 behind_stays header (Err stop) bytes more step never e = e
 
 -- a step behind a header, by what its head is
-head_cases : (longest : ℕ) (header : Header) (bytes more : List ℕ) (step : Result (Found × ℕ) Stop) (read : Result (Head × ℕ) Stop) → (Err stops.Short ≡ step → ⊥)
+head_cases : (longest : ℕ) (header : Header) (bytes more : List ℕ) (step : Result (Found × ℕ) Stop) (read : Result (Head × ℕ) Stop)
+    → (Err stops.Short ≡ step → ⊥)
     → head_at header.ids longest bytes ≡ read → found_behind header read bytes ≡ step
     → found_behind header (head_at header.ids longest (bytes ++ more)) (bytes ++ more) ≡ step
 head_cases longest header bytes more step (Ok (head, n)) never is e =
-    ap (λ (r : Result (Head × ℕ) Stop). found_behind header r (bytes ++ more)) (head_stays header.ids longest bytes more (Ok (head, n)) (λ q. cc) is)
+    ap (λ (r : Result (Head × ℕ) Stop). found_behind header r (bytes ++ more))
+    (head_stays header.ids longest bytes more (Ok (head, n)) (λ q. cc) is)
     ∙ behind_stays header (Ok (head, n)) bytes more step never e
 head_cases longest header bytes more step (Err stops.Short) never is e = absurd (never e)
 head_cases longest header bytes more step (Err stops.TooLong) never is e =
-    ap (λ (r : Result (Head × ℕ) Stop). found_behind header r (bytes ++ more)) (head_stays header.ids longest bytes more (Err stops.TooLong) (λ q. cc) is) ∙ e
+    ap (λ (r : Result (Head × ℕ) Stop). found_behind header r (bytes ++ more))
+    (head_stays header.ids longest bytes more (Err stops.TooLong) (λ q. cc) is) ∙ e
 head_cases longest header bytes more step (Err (stops.Fault reason)) never is e =
-    ap (λ (r : Result (Head × ℕ) Stop). found_behind header r (bytes ++ more)) (head_stays header.ids longest bytes more (Err (stops.Fault reason)) (λ q. cc) is) ∙ e
+    ap (λ (r : Result (Head × ℕ) Stop). found_behind header r (bytes ++ more))
+    (head_stays header.ids longest bytes more (Err (stops.Fault reason)) (λ q. cc) is) ∙ e
 
 -- what stands at the first byte, by what its header is
-start_cases : (bytes more : List ℕ) (step : Result (Found × ℕ) Stop) (read : Result (Header × ℕ) Stop) → (Err stops.Short ≡ step → ⊥) → header_at bytes ≡ read
+start_cases : (bytes more : List ℕ) (step : Result (Found × ℕ) Stop) (read : Result (Header × ℕ) Stop) → (Err stops.Short ≡ step → ⊥)
+    → header_at bytes ≡ read
     → found_header read ≡ step → found_header (header_at (bytes ++ more)) ≡ step
 start_cases bytes more step (Ok (header, n)) never is e = ap found_header (header_stays bytes more (Ok (header, n)) (λ q. cc) is) ∙ e
 start_cases bytes more step (Err stops.Short) never is e = absurd (never e)
 start_cases bytes more step (Err stops.TooLong) never is e = ap found_header (header_stays bytes more (Err stops.TooLong) (λ q. cc) is) ∙ e
-start_cases bytes more step (Err (stops.Fault reason)) never is e = ap found_header (header_stays bytes more (Err (stops.Fault reason)) (λ q. cc) is) ∙ e
+start_cases bytes more step (Err (stops.Fault reason)) never is e = ap found_header
+    (header_stays bytes more (Err (stops.Fault reason)) (λ q. cc) is) ∙ e
 
 -- a sub-record
-settled_stays : (header : Header) (room : ℕ) (r s : Result (FactValue × ℕ) Stop) (step : Result (Found × ℕ) Stop) → IsSettled r s → (Err stops.Short ≡ step → ⊥)
+settled_stays : (header : Header) (room : ℕ) (r s : Result (FactValue × ℕ) Stop) (step : Result (Found × ℕ) Stop) → IsSettled r s
+    → (Err stops.Short ≡ step → ⊥)
     → found_sub header room r ≡ step → found_sub header room s ≡ step
 settled_stays header room r s step (inl short) never e = absurd (never (sym (ap (found_sub header room) short) ∙ e))
 settled_stays header room r s step (inr same) never e = ap (found_sub header room) same ∙ e
 
-pub sub_stays : (longest : ℕ) (header : Header) (room : ℕ) (bytes more : List ℕ) (step : Result (Found × ℕ) Stop) → (Err stops.Short ≡ step → ⊥)
+pub sub_stays : (longest : ℕ) (header : Header) (room : ℕ) (bytes more : List ℕ) (step : Result (Found × ℕ) Stop)
+    → (Err stops.Short ≡ step → ⊥)
     → found_sub header room (sub_at header.ids (bounds_within room longest bytes) bytes) ≡ step
     → found_sub header room (sub_at header.ids (bounds_within room longest (bytes ++ more)) (bytes ++ more)) ≡ step
 sub_stays longest header room bytes more step never e =
@@ -166,7 +180,8 @@ item_settled longest (Between header) bytes more step never e =
 item_settled longest (Within header room) bytes more step never e = sub_stays longest header room bytes more step never e
 
 -- so does a fault
-pub item_stays : (longest : ℕ) (place : Place) (bytes more : List ℕ) (reason : Reason) → item_at longest place bytes ≡ Err (stops.Fault reason)
+pub item_stays : (longest : ℕ) (place : Place) (bytes more : List ℕ) (reason : Reason)
+    → item_at longest place bytes ≡ Err (stops.Fault reason)
     → item_at longest place (bytes ++ more) ≡ Err (stops.Fault reason)
 item_stays longest place bytes more reason e = item_settled longest place bytes more (Err (stops.Fault reason)) (λ q. cc) e
 
@@ -189,7 +204,8 @@ timed_tells : (version : Version) (size : Option IdSize) (bytes : List ℕ)
     → Tells (λ _. Unit {0}) (length bytes < 31) (Unit {0}) (timed_header version size bytes)
 timed_tells version None bytes = refl
 timed_tells version (Some ids) bytes =
-    cond_both (ltb (length bytes) 31) (Err stops.Short) _ (Tells (λ _. Unit {0}) (length bytes < 31) (Unit {0})) (λ t. ltb-true (length bytes) 31 t)
+    cond_both (ltb (length bytes) 31) (Err stops.Short) _ (Tells (λ _. Unit {0}) (length bytes < 31) (Unit {0}))
+    (λ t. ltb-true (length bytes) 31 t)
     (λ f. tt)
 
 -- a header whose text was judged

@@ -52,7 +52,8 @@ passing_if : (test : Bool) (one passing : Passing) → cond test (Some one) None
 passing_if true one passing e = (refl, cc)
 passing_if false one passing e = absurd cc
 
-passed_by : (longest : ℕ) (header : Header) (front : List ℕ) (passing : Passing) (step : Result (Head × ℕ) Stop) → head_at header.ids longest front
+passed_by : (longest : ℕ) (header : Header) (front : List ℕ) (passing : Passing) (step : Result (Head × ℕ) Stop)
+    → head_at header.ids longest front
     ≡ step → passing_by step (length front) ≡ Some passing
     → IsPassed longest (Between header) front passing
 passed_by longest header front passing (Ok (head, n)) read e =

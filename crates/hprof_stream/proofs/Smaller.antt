@@ -64,7 +64,8 @@ none_is_one fact e = cc
 
 -- what states nothing states no fact
 states_none : (place : Place) (fact : FactValue) (next : Place) (m n : ℕ)
-    → ◌≡◌ {A = Result (Found × ℕ) Stop} (Ok (record { next = place; facts = [] }, m)) (Ok (record { next = next; facts = fact ∷ [] }, n)) → ⊥
+    → ◌≡◌ {A = Result (Found × ℕ) Stop} (Ok (record { next = place; facts = [] }, m))
+    (Ok (record { next = next; facts = fact ∷ [] }, n)) → ⊥
 states_none place fact next m n e =
     let same = whole_parts (record { next = place; facts = [] }) (record { next = next; facts = fact ∷ [] }) m n e in
     none_is_one fact (ap (λ (f : Found). f.facts) same.0)
@@ -125,7 +126,8 @@ long_by less longest from next one extra le is never =
 -- a record that states a fact
 fact_or_long : (less longest : ℕ) (header : Header) (one : Stated) (fact : FactValue) → less ≤ longest
     → IsFactRecord header.ids one.bytes fact → length one.bytes ≤ 9 + longest → one.facts ≡ fact ∷ []
-    → IsItem less (Between header) one (Between header) ⊎ ((extra : List ℕ) → item_at less (Between header) (one.bytes ++ extra) ≡ Err TooLong)
+    → IsItem less (Between header) one (Between header) ⊎ ((extra : List ℕ)
+    → item_at less (Between header) (one.bytes ++ extra) ≡ Err TooLong)
 fact_or_long less longest header one fact le is short facts =
     elim (cases_lt (9 + less) (length one.bytes)) [
       | inr within ↦ inl (is_fact is within facts)

@@ -25,7 +25,8 @@ use Rattle.hprof_stream.specs.Feeding.{FeedsAll}
 use Rattle.hprof_stream.specs.Reader.{header_of, HasRead, IsSettledFault, RanOver, Feeds, Finishes, IsPull, Pulled, none, once_more}
 use Rattle.hprof_stream.specs.Reader.{PulledOut, CameLast, ReadsPart}
 use Rattle.hprof_stream.proofs.Runs.{Run-then}
-use Rattle.hprof_stream.proofs.FedRuns.{no_header_no_fact, RanOver-from, RanOver-read, RanOver-taken, RefusesLast-from, IsAcceptedSoFar-read}
+use Rattle.hprof_stream.proofs.FedRuns.{no_header_no_fact, RanOver-from, RanOver-read, RanOver-taken, RefusesLast-from}
+use Rattle.hprof_stream.proofs.FedRuns.{IsAcceptedSoFar-read}
 use Rattle.hprof_stream.proofs.FedRuns.{Pulled-consumes, CameLast-read}
 use Rattle.hprof_stream.proofs.LastItems.{ends_behind}
 
@@ -57,7 +58,8 @@ no_other : (limits : Limits) (bytes : List ℕ) (fault : PartFault) → is_judge
 no_other limits bytes fault other why = both_ways (is_judgement fault) other (settled_is_judged limits bytes fault why)
 
 module _ {R : Type 0} (left : R → Option (List ℕ)) (health : R → Health) (pulls : R → ℕ)
-    {S : Type 0} (begins : S → Header → S → Type 0) (steps : S → FactValue → S → Type 0) (refuses : S → List FactValue → SinkFault → S → Type 0)
+    {S : Type 0} (begins : S → Header → S → Type 0) (steps : S → FactValue → S → Type 0)
+    (refuses : S → List FactValue → SinkFault → S → Type 0)
     (failed : S → Bool) where
   -- so many pulls gave the bytes that a reader was fed since it was new, with no fault
   pub record HasFed (limits : Limits) (turns : ℕ) (was is : R) (reader : PartReader) (old new : S) : Type 0 where

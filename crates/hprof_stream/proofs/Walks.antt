@@ -246,7 +246,8 @@ fit_at : (longest : ℕ) (header : Option Header) (room : ℕ) (bytes : List ℕ
     → IsBegun header begun → GivesFit begun item
 fit_at longest header room bytes next (items.Header h) begun is stands lists with = tt
 fit_at longest None room bytes next (items.Fact fact) begun is stands lists with = absurd stands
-fit_at longest (Some h) zero bytes next (items.Fact fact) begun is stands lists with = fact_fits longest next h bytes fact begun is lists with
+fit_at longest (Some h) zero bytes next (items.Fact fact) begun is stands lists with = fact_fits longest next h bytes fact begun
+    is lists with
 fit_at longest (Some h) (suc room) bytes next (items.Fact fact) begun is stands lists with = absurd stands
 fit_at longest header room bytes next (items.Dump len) begun is stands lists with = tt
 fit_at longest header room bytes next items.End begun is stands lists with = tt

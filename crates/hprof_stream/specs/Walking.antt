@@ -52,7 +52,8 @@ module _ {S : Type 0} (refuses : S → List FactValue → SinkFault → S → Ty
       (item_at progress.limits.max_item (place_of progress) bytes ≡ Err (Fault reason)) × (at ≡ progress.at) × (told ≡ progress.header)
       × (old ≡ new)
   Stops progress bytes old (faults.ItemTooLong at) told new =
-      (item_at progress.limits.max_item (place_of progress) bytes ≡ Err TooLong) × (at ≡ progress.at) × (told ≡ progress.header) × (old ≡ new)
+      (item_at progress.limits.max_item (place_of progress) bytes ≡ Err TooLong) × (at ≡ progress.at) × (told ≡ progress.header)
+      × (old ≡ new)
   Stops progress bytes old (faults.Sink fault) told new =
       (one : Stated) × (next : Place) × (back : List ℕ) × IsItem progress.limits.max_item (place_of progress) one next
       × (header_before next ≡ told)

@@ -1,6 +1,7 @@
 //! A map from numbers that finds most keys without a search.
 
-ghost use Rattle.std.specs.Prelude.{◌≡◌, ◌↔◌, ◌++◌, ◌∷◌, ◌<◌, ◌==◌, ℕ, [], length, IsTrue, IfNone, IfSome, OnErr, OnOk, Some, None, is_some, nat_eq};
+ghost use Rattle.std.specs.Prelude.{◌≡◌, ◌↔◌, ◌++◌, ◌∷◌, ◌<◌, ◌==◌, ℕ, [], length, IsTrue, IfNone, IfSome, OnErr, OnOk, Some, None};
+ghost use Rattle.std.specs.Prelude.{is_some, nat_eq};
 ghost use Rattle.std.specs.Prelude.{Contains, if◌then◌else◌, slice_get, vec_capacity};
 ghost use Rattle.std.specs.List.{IsDistinct};
 ghost use Rattle.std.specs.Map.{keys_of};

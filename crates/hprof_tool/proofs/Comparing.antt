@@ -212,7 +212,8 @@ module _ {P W O : Type 0} (answered : Answered P W) (tells : P → Option (List 
     front_of_dumps : (held holds : Option (List ℕ)) → IsFrontOfBoth tells olds news held holds → FrontOfDumps held holds
     front_of_dumps held holds front = over_dumps (λ one other. WritesFront (IsDifferenceOf one) other held holds) front
 
-    some_left : (after : O) → LeavesFront contents (IsFrontOfBoth tells olds news) before after → LeavesFront contents FrontOfDumps before after
+    some_left : (after : O) → LeavesFront contents (IsFrontOfBoth tells olds news) before after
+        → LeavesFront contents FrontOfDumps before after
     some_left after leaves = (
       leaves.0,
       elim leaves.1 [

@@ -34,7 +34,11 @@ one_compared first id others false = go (nat_eq first id) refl where
     λ it. inl refl,
   )
   go false e = (
-    λ it. elim it [ inl never ↦ (let no : false ≡ true = never in absurd cc) | inr there ↦ inr (Contains-append_right (first ∷ []) others id there) ],
+    λ it. elim it [
+      | inl never ↦ (let no : false ≡ true = never in absurd cc)
+      | inr there ↦ inr
+          (Contains-append_right (first ∷ []) others id there)
+    ],
     λ it. elim it [
       | inl never ↦ (let no : false ≡ true = never in absurd cc)
       | inr there ↦ elim (Contains-append_cases (first ∷ []) others id there) [

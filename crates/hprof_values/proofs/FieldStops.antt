@@ -1,5 +1,6 @@
 -- Where fields end, or the first of them that does not lie within bounds: both are what their tests answer.
-use Rattle.std.proofs.Common.{◌≡◌, ℕ, ◌+◌, ◌<◌, ◌⊎◌, inl, inr, List, [], ◌∷◌, ◌++◌, length, Result, Ok, Err, refl, sym, ap, subst, ◌∙◌, arith}
+use Rattle.std.proofs.Common.{◌≡◌, ℕ, ◌+◌, ◌<◌, ◌⊎◌, inl, inr, List, [], ◌∷◌, ◌++◌, length, Result, Ok, Err, refl, sym, ap, subst, ◌∙◌}
+use Rattle.std.proofs.Common.{arith}
 use Rattle.std.specs.Prelude.{sum}
 use Rattle.hprof_values.specs.declared.stop.Stop.{Stop}
 use Rattle.hprof_values.specs.FieldGroups.{Bounds, ◌>>=◌, field_end, reached, IsWithin}
@@ -64,7 +65,8 @@ first_stop bounds at (w ∷ ws) stop e = elim (then_err (field_end bounds (at + 
       }
   | inr later ↦
       let passed = field_passed bounds (at + w) later.0 later.1 in
-      stop_behind bounds at w later.0 ws stop passed.0 (subst (IsWithin bounds) (sym passed.0) passed.1) (first_stop bounds later.0 ws stop later.2)
+      stop_behind bounds at w later.0 ws stop passed.0 (subst (IsWithin bounds) (sym passed.0) passed.1)
+      (first_stop bounds later.0 ws stop later.2)
 ]
 
 stop_there : (bounds : Bounds) (at : ℕ) (before : List ℕ) (width : ℕ) (behind : List ℕ) (stop : Stop)

@@ -81,8 +81,8 @@ fn compare_stored(
     }
 }
 
-/// Makes the call of parts whose objects are kept so, and returns the text of its answer, if it can be made so. `done` is that of a call that
-/// was done.
+/// Makes the call of parts whose objects are kept so, and returns the text of its answer, if it can be made so. `done` is that of a call
+/// that was done.
 fn answer_stored(
     alloc: Global,
     call: Call<'_>,

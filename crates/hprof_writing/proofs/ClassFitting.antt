@@ -45,7 +45,8 @@ class_spelled ids tag numbers constants statics own first second third a b c sam
     let begun : List ℕ = list_bytes ids kinds.Constant constants in
     sym (
     ap (λ (t : ℕ). field_bytes (1 ∷ class_widths ids) (t ∷ numbers) ++ (counted first a ++ rest)) same
-    ∙ ap (λ (l : List ℕ). tagged_bytes tags.ClassDump (class_widths ids) numbers (l ++ rest)) (list_is ids kinds.Constant constants first a one)
+    ∙ ap (λ (l : List ℕ). tagged_bytes tags.ClassDump (class_widths ids) numbers (l ++ rest))
+    (list_is ids kinds.Constant constants first a one)
     ∙ ap (λ (l : List ℕ). tagged_bytes tags.ClassDump (class_widths ids) numbers (begun ++ (l ++ counted third c)))
     (list_is ids kinds.Static statics second b two)
     ∙ ap (λ (l : List ℕ). tagged_bytes tags.ClassDump (class_widths ids) numbers (begun ++ (list_bytes ids kinds.Static statics ++ l)))

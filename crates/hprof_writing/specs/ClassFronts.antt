@@ -21,6 +21,7 @@ counted count bytes = big_bytes 2 count ++ bytes
 pub record IsClassFront (ids : IdSize) (fact : Fact) (fields : List Number) (constants statics own : List ℕ) : Type 0 where
   pub is : record_of (value_of fact) ≡ None
   pub widths : number_widths ids fields ≡ 1 ∷ class_widths ids
-  pub spelled : dump_bytes ids (value_of fact) ≡ field_bytes (number_widths ids fields) (number_values fields) ++ (constants ++ (statics ++ own))
+  pub spelled : dump_bytes ids (value_of fact) ≡ field_bytes (number_widths ids fields) (number_values fields)
+      ++ (constants ++ (statics ++ own))
   pub fits : FitFields (number_widths ids fields) (number_values fields) ↔ Fits ids (value_of fact)
   pub lists : ListsHave ids fact

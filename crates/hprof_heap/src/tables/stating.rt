@@ -29,7 +29,8 @@ impl Tables {
         frames: IdList<'_>,
     ) -> Result<Stated, AllocError>
         requires { identifiers_size frames ≡ self.old.ids }
-        ensures { StatesFact (rows_in_tables self.old) (Trace serial thread (identifiers_of frames.entry)) result (rows_in_tables self.new) }
+        ensures { StatesFact (rows_in_tables self.old) (Trace serial thread (identifiers_of frames.entry)) result
+            (rows_in_tables self.new) }
     {
         self.traces
             .state_four_apart(serial as u64, thread_bytes(thread), frames.bytes())

@@ -31,7 +31,8 @@ fn again_for<P: Made, F: Folder>(
     parts: &[F::Part],
     out: Option<&str>,
 ) -> Result<Option<Again<F::Handle, F::Scratch>>, Refused>
-    ensures ready { IfOk result (λ again. IfSome again (IsReadyFor F.Part.left F.Handle.bytes F.Scratch.written F.Scratch.health parts.now)) }
+    ensures ready { IfOk result (λ again. IfSome again (IsReadyFor F.Part.left F.Handle.bytes F.Scratch.written F.Scratch.health
+        parts.now)) }
     ensures refused { IfErr result (λ why. why ≡ Refused.OutOfMemory) }
 {
     if !product.reads_again() {

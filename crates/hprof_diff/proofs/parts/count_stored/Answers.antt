@@ -23,7 +23,8 @@ returns-in-Err-clause-counts g c =
     subst (λ (fault : ToolFault). Counts g.R.Source.left g.R.Source.health g.R.Source.pulls HaveObject ⊤ c.args.limits c.args.readers.now
     c.read_stored.new.readers (Some fault)) (sym c.from.ensures)
     (reading_counts g.R.Source.left g.R.Source.health g.R.Source.pulls c.args.limits c.args.readers.now c.read_stored.new.readers
-    (some_readers c.args.readers.now c.if-is_empty.ensures) c.in-Err.fault e.reads e.first.count e.first.so_many e.first.read_out e.no_other)
+    (some_readers c.args.readers.now c.if-is_empty.ensures) c.in-Err.fault e.reads e.first.count e.first.so_many e.first.read_out
+    e.no_other)
 
 -- the objects were counted
 pub returns-in-Ok-over-clause-counts : goal.returns-in-Ok-over-clause-counts
@@ -32,7 +33,8 @@ returns-in-Ok-over-clause-counts g c =
     let then = c.read_stored.new.readers in
     let e = c.in-Ok.ensures in
     all_counts g.R.Source.left g.R.Source.health g.R.Source.pulls c.args.limits readers then (some_readers readers c.if-is_empty.ensures)
-    e.reads (subst (AreReadOut g.R.Source.left g.R.Source.health g.R.Source.pulls c.args.limits readers then) e.first.so_many e.first.read_out)
+    e.reads (subst (AreReadOut g.R.Source.left g.R.Source.health g.R.Source.pulls c.args.limits readers then) e.first.so_many
+    e.first.read_out)
 
 pub returns-in-Ok-over-clause-totals : goal.returns-in-Ok-over-clause-totals
 unfolding facts_of size_of

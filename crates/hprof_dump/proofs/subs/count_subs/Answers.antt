@@ -29,7 +29,8 @@ loop-row-preserved c =
     let size = subst (λ (i : IdSize). c.len-len.result ≡ length (dump_bytes i (sub_fact i row)))
     (c.ids-ids.ensures ∙ c.sub_rows-rows.ensures.ids) c.len-len.ensures.value in
     record {
-      counts = Counts-more ids subs loop.len c.len-len.result (sub_fact ids row) rest (subst (Counts ids subs loop.len) next loop.invariant.counts)
+      counts = Counts-more ids subs loop.len c.len-len.result (sub_fact ids row) rest
+          (subst (Counts ids subs loop.len) next loop.invariant.counts)
           size;
       short = omega (arith, c.if-len-from.false, c.from.ensures);
       has_ids = c.next.ensures.has_ids ∙ loop.invariant.has_ids;

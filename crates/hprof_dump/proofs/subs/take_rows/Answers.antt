@@ -68,7 +68,8 @@ returns-in_err-take-clause-bytes g c =
     stops old new r p.0 _ _ p.1
     (Taken-stops (dump_bytes ids) old mid new r p.0 start waiting all (sub_fact ids row) rest p.1
     (subst (Taken (dump_bytes ids) old mid start waiting all) next loop.invariant.taken)
-    (subst (λ (i : IdSize). WritesFront mid new (waiting ++ dump_bytes i (sub_fact i row))) (c.ids-ids.ensures ∙ c.sub_rows-rows.ensures.ids)
+    (subst (λ (i : IdSize). WritesFront mid new (waiting ++ dump_bytes i (sub_fact i row)))
+    (c.ids-ids.ensures ∙ c.sub_rows-rows.ensures.ids)
     c.in_err-take.ensures.bytes))
 
 pub returns-clause-bytes : goal.returns-clause-bytes

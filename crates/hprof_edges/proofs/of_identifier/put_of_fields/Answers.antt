@@ -24,7 +24,8 @@ other_answer variants.NoObject none values e = cc
 pub returns-in_default : goal.returns-in_default
 returns-in_default g c = record {
   holds = λ edges held.
-      put_nothing edges (g.C.Collect.holds c.args.into.now) (GivenByInstance (size_of c.args.heap.now) (facts_of c.args.heap.now) c.args.id) held
+      put_nothing edges (g.C.Collect.holds c.args.into.now) (GivenByInstance (size_of c.args.heap.now)
+      (facts_of c.args.heap.now) c.args.id) held
       (no_values (size_of c.args.heap.now) (facts_of c.args.heap.now) c.args.id c.holds_of_heap.ensures.agree _ c.in_ok-values.ensures
       (other_answer _ c.in_default.not-Values));
   keeps = refl;

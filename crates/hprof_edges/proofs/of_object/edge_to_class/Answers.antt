@@ -17,6 +17,7 @@ returns-then-not-wants-clause-holds g c =
     let unkept : g.C.Collect.keeps into edge ≡ false = c.wanted.ensures edge (sym wants ∙ c.if-not-wants.true) in
     λ edges held. record {
       more = unless_zero edge;
-      holds_more = g.C.Collect.same_kept into edges (edges ++ unless_zero edge) (kept_without (g.C.Collect.keeps into) edges edge unkept) held;
+      holds_more = g.C.Collect.same_kept into edges (edges ++ unless_zero edge)
+          (kept_without (g.C.Collect.keeps into) edges edge unkept) held;
       exact = to_class object class;
     }

@@ -20,7 +20,8 @@ returns-clause-holds g c = λ facts edges knows held.
       more = reference_edges instance are.all;
       holds_more = g.C.Collect.same_kept new (edges ++ reference_edges instance references)
           (edges ++ reference_edges instance are.all)
-          (kept_alike (g.C.Collect.keeps new) c.wanted.result only instance edges are.all references (c.deref.ensures.value ∙ are.wanted_are))
+          (kept_alike (g.C.Collect.keeps new) c.wanted.result only instance edges are.all references
+          (c.deref.ensures.value ∙ are.wanted_are))
           (c.in_ok-put_references.ensures.holds edges held);
       exact = by_references c.args.ids facts instance c.args.class c.args.bytes.now are.all are.all_are;
     }

@@ -12,7 +12,8 @@ abbrev pub invariant-loop-constant : goal.invariant-loop-constant
 invariant-loop-constant g l = record {
   put : (edges : List Edge) → g.C.Collect.holds l.fn.into edges → Putting (g.C.Collect.holds l.into) edges
       (numbered l.class vias.Constant 0 (targets_of_constants (entries_of l.fn.constants)))
-      (numbered l.class vias.Constant l.position (map (λ constant. target_of constant.value.basic constant.value.bits) (map constant_of (entries_left l.constant-iterator))));
+      (numbered l.class vias.Constant l.position (map (λ constant. target_of constant.value.basic constant.value.bits)
+      (map constant_of (entries_left l.constant-iterator))));
   keeps : g.C.Collect.keeps l.into ≡ g.C.Collect.keeps l.fn.into;
   count : l.position + length (map constant_of (entries_left l.constant-iterator)) ≡ length (entries_of l.fn.constants);
 }

@@ -25,8 +25,10 @@ returns-in-Ok-write-clause-makes g c =
 pub returns-clause-makes : goal.returns-clause-makes
 returns-clause-makes g c =
     let e = c.in-Ok-read_heap.ensures in
-    subst (λ (fault : ToolFault). Makes g.R.Source.left g.R.Source.health g.R.Source.pulls g.W.Target.written g.W.Target.health c.args.limits
-    (making_of (g.P.Product.is_text c.args.product.now) (g.P.Product.refuses c.args.product.now) (g.P.Summaries.takes_room c.args.product.now)
+    subst (λ (fault : ToolFault). Makes g.R.Source.left g.R.Source.health g.R.Source.pulls g.W.Target.written g.W.Target.health
+    c.args.limits
+    (making_of (g.P.Product.is_text c.args.product.now) (g.P.Product.refuses c.args.product.now)
+    (g.P.Summaries.takes_room c.args.product.now)
     (g.P.Product.takes_memory c.args.product.now)) c.args.readers.now c.read_heap.new.readers
     c.args.target.now c.write.new.target (Some fault)) (sym c.from.ensures)
     (ended g.R.Source.left g.R.Source.health g.R.Source.pulls c.args.limits c.args.readers.now c.read_heap.new.readers

@@ -26,7 +26,8 @@ returns-in-Err g c =
     let same_length : length c.loop-index.readers ≡ length c.args.readers.now = omega arith in
     let read = c.in-Err.ensures.read in
     let first = c.loop-index.invariant.first in
-    let gathers = from_nothing (g.G.Gather.gathered c.args.gatherer.now) (g.G.Gather.gathered c.loop-index.gatherer) first.given c.requires.nothing
+    let gathers = from_nothing (g.G.Gather.gathered c.args.gatherer.now)
+    (g.G.Gather.gathered c.loop-index.gatherer) first.given c.requires.nothing
     first.gathers in
     record {
       read = record {
@@ -44,7 +45,8 @@ returns-in-Err g c =
           consumed = read.1;
           spared = c.in-Err.ensures.pulls;
           refused = fault_of_came g.G.Gather.gathered g.G.Sink.begins g.G.Sink.steps g.G.Sink.refuses g.G.Sink.failed
-              g.met.G.Gather.begins_parts g.met.G.Gather.takes_facts g.met.G.Gather.refuses_facts g.R.Source.left g.R.Source.health g.R.Source.pulls c.args.limits first.given was read.0
+              g.met.G.Gather.begins_parts g.met.G.Gather.takes_facts g.met.G.Gather.refuses_facts g.R.Source.left g.R.Source.health
+              g.R.Source.pulls c.args.limits first.given was read.0
               c.read_part.new.source c.loop-index.gatherer c.read_part.new.sink c.in-Err.fault c.loop-index.invariant.sound gathers read.2;
           unread = λ k behind. same_at (set c.loop-index.readers index c.read_part.new.source) c.args.readers.now k
               (length-set c.loop-index.readers index c.read_part.new.source ∙ same_length)
@@ -78,7 +80,8 @@ loop-index-preserved g c =
           get_or-set_other c.loop-index.readers index k c.read_part.new.source d other
           ∙ c.loop-index.invariant.unread k d (omega arith) below;
       first = GathersFirst-more g.R.Source.left c.args.limits c.args.readers.now index was (g.G.Gather.gathered c.args.gatherer.now)
-          (g.G.Gather.gathered c.loop-index.gatherer) (g.G.Gather.gathered c.read_part.new.sink) header facts there c.loop-index.invariant.first run is;
+          (g.G.Gather.gathered c.loop-index.gatherer) (g.G.Gather.gathered c.read_part.new.sink) header facts there
+          c.loop-index.invariant.first run is;
       out = AreReadOut-more g.R.Source.left g.R.Source.health g.R.Source.pulls c.args.limits c.args.readers.now c.loop-index.readers
           index was c.read_part.new.source there (omega arith) c.loop-index.invariant.out (record {
             came = read.0;
@@ -94,7 +97,8 @@ loop-index-preserved g c =
           (summarised_if_told (g.R.Source.left was) (g.R.Source.left c.read_part.new.source) read.0 c.in-Ok.summary read.1 read.2.1
           read.2.5);
       room = c.keep.ensures.room (length c.args.readers.now - (index + 1))
-          (room_behind (g.S.Summaries.has_room c.args.summaries.now) (length c.args.readers.now) index c.loop-index.kept within c.loop-index.invariant.room);
+          (room_behind (g.S.Summaries.has_room c.args.summaries.now) (length c.args.readers.now) index c.loop-index.kept within
+          c.loop-index.invariant.room);
       watches = λ id watched. Run-kept g.G.Sink.begins g.G.Sink.steps (λ it. g.G.Gather.watches it id)
           (λ old header new begins. g.met.G.Gather.watches_on old header new begins id)
           (λ old fact new steps. g.met.G.Gather.watches_still old fact new steps id)
@@ -108,13 +112,15 @@ keep-requires g c =
     let index = c.loop-index.index in
     let within : index < length c.args.readers.now = omega arith in (
       length c.args.readers.now - (index + 1),
-      room_behind (g.S.Summaries.has_room c.args.summaries.now) (length c.args.readers.now) index c.loop-index.kept within c.loop-index.invariant.room,
+      room_behind (g.S.Summaries.has_room c.args.summaries.now) (length c.args.readers.now) index c.loop-index.kept within
+          c.loop-index.invariant.room,
     )
 
 pub returns-clause-summaries : goal.returns-clause-summaries
 returns-clause-summaries g c =
     let all : c.loop-index.index ≡ length c.args.readers.now = omega arith in
-    subst (λ (count : ℕ). HoldsFirst g.R.Source.left (g.S.Summaries.holds c.args.summaries.now) c.args.readers.now count c.loop-index.kept) all c.loop-index.invariant.kept
+    subst (λ (count : ℕ). HoldsFirst g.R.Source.left (g.S.Summaries.holds c.args.summaries.now) c.args.readers.now count c.loop-index.kept)
+    all c.loop-index.invariant.kept
 
 pub returns-clause-read : goal.returns-clause-read
 returns-clause-read g c = search rules

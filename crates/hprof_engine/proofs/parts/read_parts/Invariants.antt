@@ -8,7 +8,8 @@ use Rattle.hprof_engine.proofs.parts.read_parts.Given as goal
 abbrev pub invariant-loop-index : goal.invariant-loop-index
 invariant-loop-index g l = record {
   unread : (k : ℕ) (d : _) → l.index ≤ k → k < length l.fn.readers → get_or l.readers k d ≡ get_or l.fn.readers k d;
-  first : GathersFirst g.R.Source.left l.fn.limits l.fn.readers l.index (g.G.Gather.gathered l.fn.gatherer) (g.G.Gather.gathered l.gatherer);
+  first : GathersFirst g.R.Source.left l.fn.limits l.fn.readers l.index (g.G.Gather.gathered l.fn.gatherer)
+      (g.G.Gather.gathered l.gatherer);
   out : AreReadOut g.R.Source.left g.R.Source.health g.R.Source.pulls l.fn.limits l.fn.readers l.readers l.index;
   kept : HoldsFirst g.R.Source.left (g.S.Summaries.holds l.summaries) l.fn.readers l.index l.kept;
   room : g.S.Summaries.has_room l.summaries l.kept (length l.fn.readers - l.index);

@@ -1,4 +1,5 @@
-use Rattle.std.proofs.Common.{◌≡◌, ◌≢◌, ◌-◌, ◌<◌, ◌^◌, length, set, get_or, Some, None, refl, ap, ◌∙◌, arith, get_or-set_other, append-nil, sym}
+use Rattle.std.proofs.Common.{◌≡◌, ◌≢◌, ◌-◌, ◌<◌, ◌^◌, length, set, get_or, Some, None, refl, ap, ◌∙◌, arith, get_or-set_other, append-nil}
+use Rattle.std.proofs.Common.{sym}
 use Rattle.hprof_heap.specs.Gathering.{gathered}
 use Rattle.hprof_engine.proofs.Reading.{element_at}
 use Rattle.hprof_engine.specs.Through.{ReadsParts}
@@ -58,8 +59,10 @@ loop-index-preserved g c =
                 let listed = w.in_ok-list_fault.ensures.ok in
                 let one = read_faulty (λ it. gathered it.gatherer) (λ it. it.parts) g.R.Source.left g.R.Source.health g.R.Source.pulls
                 c.args.limits was read.0 c.read_part.new.source c.loop-index.counter c.read_part.new.sink c.loop-index.invariant.saved.sound
-                c.loop-index.invariant.saved.given c.loop-index.invariant.saved.gathers read.1 w.in-Err.ensures.pulls w.in-Err.fault listed.0 read.2 in
-                more (record { came = read.0; fault = Some w.in-Err.fault }) c.loop-index.counter c.read_part.new.sink c.loop-index.faults.items
+                c.loop-index.invariant.saved.given c.loop-index.invariant.saved.gathers read.1 w.in-Err.ensures.pulls w.in-Err.fault
+                listed.0 read.2 in
+                more (record { came = read.0; fault = Some w.in-Err.fault }) c.loop-index.counter c.read_part.new.sink
+                c.loop-index.faults.items
                 c.match-read_part.faults.items there still few c.loop-index.invariant.saved one.0 one.1
                 (ap (λ v. v.items) w.faults-is ∙ listed.1)
             | in_default w ↦

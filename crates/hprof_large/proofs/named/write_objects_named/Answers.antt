@@ -17,7 +17,8 @@ returns-in-Err g c =
     let facts = facts_of c.args.heap.now in
     let objects = c.args.objects.now in
     stops_before (g.O.Objects.make_up objects ids facts) (g.O.Objects.agree objects ids facts) (g.O.Objects.tells objects ids facts)
-    (λ all. IsNamedKind ids all Objects c.args.name.now) (λ refusal all. RefusesReport all (reports.Kind Objects (Named c.args.name)) refusal)
+    (λ all. IsNamedKind ids all Objects c.args.name.now) (λ refusal all. RefusesReport all
+    (reports.Kind Objects (Named c.args.name)) refusal)
     g.W.Target.written g.W.Target.health c.args.target.now c.in-Err.stop c.stop_of_pass.result c.stop_of_pass.ensures
     (c.in-Err.ensures.meant c.args.name.now c.of-meant.ensures)
 

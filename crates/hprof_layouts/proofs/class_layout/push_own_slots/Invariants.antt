@@ -8,4 +8,5 @@ use Rattle.hprof_layouts.proofs.class_layout.push_own_slots.Given as goal
 
 abbrev pub invariant-loop-field : goal.invariant-loop-field
 invariant-loop-field l =
-    l.slots.items ++ map (slot_of l.dump.id) (map field_of (entries_left l.field-iterator)) ≡ l.fn.slots.items ++ own_slots (class_value l.dump)
+    l.slots.items ++ map (slot_of l.dump.id) (map field_of (entries_left l.field-iterator)) ≡ l.fn.slots.items
+    ++ own_slots (class_value l.dump)

@@ -19,7 +19,8 @@ unreachable-requires c =
 
 pub loop-passed-preserved : goal.loop-passed-preserved
 loop-passed-preserved c =
-    let more = gathered_more (facts_of c.args.heap.now) c.args.class _ _ _ (class_value c.in-Some.dump) c.loop-passed.invariant (omega arith)
+    let more = gathered_more (facts_of c.args.heap.now) c.args.class _ _ _ (class_value c.in-Some.dump) c.loop-passed.invariant
+    (omega arith)
     (λ other has is. c.in-Some.ensures.only other has is) in
     rw c.in_ok-push_own_slots.ensures (subst (λ (left : ℕ). Gathering (facts_of c.args.heap.now) c.args.class c.in-Some.dump.parent left
     (c.loop-passed.slots.items ++ own_slots (class_value c.in-Some.dump))) (omega arith) more)

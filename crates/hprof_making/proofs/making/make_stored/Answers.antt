@@ -20,7 +20,8 @@ pub returns-in-Err : goal.returns-in-Err
 returns-in-Err g c =
     let e = c.in-Err.ensures in
     let some = some_readers c.args.readers.now c.if-is_empty.ensures in
-    subst (λ (fault : ToolFault). Makes g.R.Source.left g.R.Source.health g.R.Source.pulls g.W.Target.written g.W.Target.health c.args.limits
+    subst (λ (fault : ToolFault). Makes g.R.Source.left g.R.Source.health g.R.Source.pulls g.W.Target.written g.W.Target.health
+    c.args.limits
     (stored_making (g.M.PassProduct.is_text c.args.product.now) (g.M.PassProduct.refuses c.args.product.now)) c.args.readers.now
     c.read_stored.new.readers c.args.target.now c.args.target.now (Some fault)) (sym c.from.ensures)
     (reading_makes g.R.Source.left g.R.Source.health g.R.Source.pulls c.args.limits c.args.readers.now c.read_stored.new.readers

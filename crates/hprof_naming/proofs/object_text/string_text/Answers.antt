@@ -5,7 +5,8 @@ use Rattle.hprof_naming.proofs.object_text.string_text.Goals.{in_default-via-in-
 
 pub returns-in-Some : goal.returns-in-Some
 returns-in-Some c =
-    string_text_is (size_of c.args.heap.now) (facts_of c.args.heap.now) c.args.values.now c.first_named-value.result c.first_named-coder.result
+    string_text_is (size_of c.args.heap.now) (facts_of c.args.heap.now) c.args.values.now c.first_named-value.result
+    c.first_named-coder.result
     c.target_of_field-target.result c.find_object.result _ c.first_named-value.ensures c.first_named-coder.ensures
     c.target_of_field-target.ensures c.find_object.ensures
     (of_array_there c.target_of_field-target.result c.first_named-coder.result c.find_object.result c.in-Some.array c.is_wide_coder.result _
@@ -13,7 +14,8 @@ returns-in-Some c =
 
 pub returns-in_default : goal.returns-in_default
 returns-in_default c =
-    string_text_is (size_of c.args.heap.now) (facts_of c.args.heap.now) c.args.values.now c.first_named-value.result c.first_named-coder.result
+    string_text_is (size_of c.args.heap.now) (facts_of c.args.heap.now) c.args.values.now c.first_named-value.result
+    c.first_named-coder.result
     c.target_of_field-target.result c.find_object.result _ c.first_named-value.ensures c.first_named-coder.ensures
     c.target_of_field-target.ensures c.find_object.ensures
     (elim c.in_default.branch [

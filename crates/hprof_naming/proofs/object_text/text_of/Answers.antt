@@ -5,7 +5,8 @@ use Rattle.hprof_naming.proofs.object_text.text_of.Goals as goal
 pub returns-in-Instance : goal.returns-in-Instance
 returns-in-Instance c =
     let it = c.in-Instance in
-    text_of_instance (size_of c.args.heap.now) (facts_of c.args.heap.now) c.args.id c.find_object.result c.find_object.ensures c.in-Some.dump
+    text_of_instance (size_of c.args.heap.now) (facts_of c.args.heap.now) c.args.id c.find_object.result c.find_object.ensures
+    c.in-Some.dump
     c.in-Some.is it.id it.trace it.class it.bytes c.instance_text.result it.is c.instance_text.ensures
 
 pub returns-in_default : goal.returns-in_default

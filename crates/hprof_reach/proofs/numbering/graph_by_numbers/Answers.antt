@@ -18,12 +18,18 @@ returns c =
           (λ has. same.0 has, λ is. same.1 is);
       as_many = c.in_ok-edges.ensures.as_many;
       leads = c.in_ok-edges.ensures.leads;
-      edges = λ from to from_below to_below. rw (← c.in_ok-graph.ensures.heap, ← c.in_ok-graph.ensures.left_out) (exact from to from_below to_below);
+      edges = λ from to from_below to_below. rw (← c.in_ok-graph.ensures.heap, ← c.in_ok-graph.ensures.left_out)
+          (exact from to from_below to_below);
       starts = λ number.
           let found = c.in_ok-starts.ensures number in
           let rooted = c.in_ok-starts_of.ensures (slice_index nodes number) in
-          let there : (ids : List ℕ) → c.deref.result.now ≡ ids → Contains ids (slice_index nodes number) ↔ Contains c.deref.result.now (slice_index nodes number) =
-          λ ids same. (subst (λ (l : List ℕ). Contains l (slice_index nodes number)) (sym same), subst (λ (l : List ℕ). Contains l (slice_index nodes number)) same) in
+          let there : (ids : List ℕ) → c.deref.result.now ≡ ids → Contains ids (slice_index nodes number)
+          ↔ Contains c.deref.result.now (slice_index nodes number) =
+          λ ids same. (
+            subst (λ (l : List ℕ). Contains l (slice_index nodes number)) (sym same),
+            subst
+                (λ (l : List ℕ). Contains l (slice_index nodes number)) same,
+          ) in
           let at = there c.in_ok-starts_of.field-0.items c.deref.ensures.value in (
             λ has. let was = found.0 has in (was.0, rooted.0 (at.1 was.1)),
             λ is. found.1 (is.0, at.0 (rooted.1 is.1)),

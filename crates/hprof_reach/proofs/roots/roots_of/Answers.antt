@@ -17,7 +17,8 @@ loop-fact-init c =
 
 pub loop-fact-preserved : goal.loop-fact-preserved
 loop-fact-preserved c =
-    picked_more c.args.id (facts_of_table tables.Roots (facts_of c.args.heap.now)) (facts_left c.loop-fact.fact-iterator) (facts_left c.next.new.self)
+    picked_more c.args.id (facts_of_table tables.Roots (facts_of c.args.heap.now)) (facts_left c.loop-fact.fact-iterator)
+    (facts_left c.next.new.self)
     c.loop-fact.roots.items c.push_root.new.roots.items (value_of c.in-Some.fact) c.in-Some.ensures.steps.0 c.in_ok-push_root.ensures
     c.loop-fact.invariant
 

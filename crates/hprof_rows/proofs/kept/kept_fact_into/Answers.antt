@@ -9,7 +9,8 @@ use Rattle.hprof_rows.proofs.kept.kept_fact_into.Goals as goal
 
 -- what is read behind the tag that was found
 reads : (ids : IdSize) (id : ℕ) (fact : FactValue) (kept behind : List ℕ) (tag : ℕ) (answer : Option SubTag) (is : SubTag)
-    → KeepsObject ids id fact kept → kept ≡ tag ∷ behind → answer ≡ tag_of_code tag → answer ≡ Some is → IsReadAs ids id fact (Some is) behind
+    → KeepsObject ids id fact kept → kept ≡ tag ∷ behind → answer ≡ tag_of_code tag
+    → answer ≡ Some is → IsReadAs ids id fact (Some is) behind
 reads ids id fact kept behind tag answer is keeps parts exact e =
     subst (λ (t : Option SubTag). IsReadAs ids id fact t behind) (sym exact ∙ e)
     (object_read ids id fact tag behind (subst (KeepsObject ids id fact) parts keeps))

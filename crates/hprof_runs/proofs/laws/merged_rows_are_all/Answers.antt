@@ -11,5 +11,6 @@ returns-clause-least g c =
 
 pub returns-clause-below : goal.returns-clause-below
 returns-clause-below g c = λ old new lists came key bound front come shows low small union.
-    below_come g.C.RowCursor.shown g.C.RowCursor.goes g.C.KnownCursor.comes_to g.met.C.KnownCursor.known old new lists came key come shows low
+    below_come g.C.RowCursor.shown g.C.RowCursor.goes g.C.KnownCursor.comes_to g.met.C.KnownCursor.known old new lists came key
+    come shows low
     bound front small union

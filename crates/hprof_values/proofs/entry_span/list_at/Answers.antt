@@ -32,6 +32,7 @@ returns-clause-end c = search rules
 pub invariant_of-result : goal.invariant_of-result
 invariant_of-result c = record {
   range = subst IsBytes (sym c.split_at-2.ensures.front) (IsBytes-take (c.in_ok-end.end - c.in_ok-first.first) c.split_at.result.1.now
-      (subst IsBytes (sym c.split_at.ensures.back) (IsBytes-drop c.in_ok-first.first c.args.item.now.bytes.now c.count_at-count.ensures.bytes)));
+      (subst IsBytes (sym c.split_at.ensures.back) (IsBytes-drop c.in_ok-first.first c.args.item.now.bytes.now
+      c.count_at-count.ensures.bytes)));
   few = omega (arith, c.count_at-count.type_inv);
 }

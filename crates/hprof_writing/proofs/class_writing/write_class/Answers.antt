@@ -40,7 +40,8 @@ returns-clause-bytes g c =
     let own : List ℕ = counted front.own.count front.own.bytes.now in
     let more = Writes-then _ _ _ c.in_ok-write_list-2.field-0 c.write_list-3.result statics own c.in_ok-write_list-2.ensures.bytes
     c.write_list-3.ensures.bytes in
-    subst (Writes _ _ c.write_list-3.result) parts (Writes-then _ _ _ c.in_ok-write_list.field-0 c.write_list-3.result begun (statics ++ own)
+    subst (Writes _ _ c.write_list-3.result) parts (Writes-then _ _ _ c.in_ok-write_list.field-0 c.write_list-3.result begun
+    (statics ++ own)
     c.in_ok-write_list.ensures.bytes more)
 
 pub returns-clause-health : goal.returns-clause-health

@@ -10,4 +10,5 @@ returns-then-edge-self-clause-holds c = λ edges least.
 
 pub returns-else-edge-self-clause-holds : goal.returns-else-edge-self-clause-holds
 returns-else-edge-self-clause-holds c = λ edges least.
-    keeps_same c.args.self.now.to edges c.args.edge c.args.self.now.edge (not_same c.args.edge.to c.args.self.now.to c.if-edge-self.false) least
+    keeps_same c.args.self.now.to edges c.args.edge c.args.self.now.edge
+    (not_same c.args.edge.to c.args.self.now.to c.if-edge-self.false) least

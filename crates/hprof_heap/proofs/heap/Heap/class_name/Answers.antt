@@ -8,7 +8,8 @@ use Rattle.hprof_heap.proofs.heap.Heap.class_name.Goals as goal
 
 pub loop-serial-init : goal.loop-serial-init
 loop-serial-init c = rw c.into_iter-serial-iterator.ensures.into_iter_gives
-    (passed_nothing c.args.class (rows_of c.args.self.now.tables.loads) (rows_left c.rows-serial-items.result) c.rows-serial-items.ensures.all
+    (passed_nothing c.args.class (rows_of c.args.self.now.tables.loads) (rows_left c.rows-serial-items.result)
+    c.rows-serial-items.ensures.all
     c.rows-serial-items.ensures.ascending)
 
 pub loop-serial-preserved : goal.loop-serial-preserved

@@ -12,7 +12,8 @@ pub returns-in_err-row : goal.returns-in_err-row
 returns-in_err-row c =
     let heap = c.args.self.now in
     ap (option_map value_of) c.from_residual.ensures
-    ∙ look_up_by (rows_in heap) heap.sound (keys.Thread c.args.serial) start_numbers (rows_of heap.tables.starts) _ refl c.in_err-row.ensures
+    ∙ look_up_by (rows_in heap) heap.sound (keys.Thread c.args.serial) start_numbers
+    (rows_of heap.tables.starts) _ refl c.in_err-row.ensures
 
 pub returns : goal.returns
 returns c =

@@ -21,8 +21,12 @@ returns-in-Check g c = λ summaries holds.
     let objects = c.args.objects.now in
     let report = report_of c.args.self.now in
     ends_over (g.O.Objects.make_up objects ids facts) (g.O.Objects.agree objects ids facts) (g.O.Objects.tells objects ids facts)
-    (IsCheck c.deref.result.now) (λ all. IsReportText report summaries (heap_with (heap_of c.args.heap.now) all)) g.W.Target.written g.W.Target.health
-    c.args.target.now c.write_check.new.target (λ all text make is. subst (λ (p : PassedReport). IsReportText (report_of p) summaries (heap_with (heap_of c.args.heap.now) all) text) (sym c.in-Check.is) (subst (λ (l : List PartSummary). IsCheck l all text) (c.deref.ensures.value ∙ subst (λ (p : PassedReport). Holds (report_of p) c.args.kept.now summaries) c.in-Check.is holds) is))
+    (IsCheck c.deref.result.now) (λ all. IsReportText report summaries (heap_with (heap_of c.args.heap.now) all)) g.W.Target.written
+    g.W.Target.health
+    c.args.target.now c.write_check.new.target (λ all text make is. subst
+    (λ (p : PassedReport). IsReportText (report_of p) summaries (heap_with (heap_of c.args.heap.now) all) text) (sym c.in-Check.is)
+    (subst (λ (l : List PartSummary). IsCheck l all text) (c.deref.ensures.value
+    ∙ subst (λ (p : PassedReport). Holds (report_of p) c.args.kept.now summaries) c.in-Check.is holds) is))
     (λ refusal all. RefusesReport all report refusal) c.write_check.result c.write_check.ensures
 
 pub returns-in-Histogram : goal.returns-in-Histogram
@@ -33,8 +37,11 @@ returns-in-Histogram g c = λ summaries holds.
     let objects = c.args.objects.now in
     let report = report_of c.args.self.now in
     ends_over (g.O.Objects.make_up objects ids facts) (g.O.Objects.agree objects ids facts) (g.O.Objects.tells objects ids facts)
-    (IsHistogramText ids) (λ all. IsReportText report summaries (heap_with (heap_of c.args.heap.now) all)) g.W.Target.written g.W.Target.health
-    c.args.target.now c.write_histogram_over.new.target (λ all text make is. subst (λ (p : PassedReport). IsReportText (report_of p) summaries (heap_with (heap_of c.args.heap.now) all) text) (sym c.in-Histogram.is) is)
+    (IsHistogramText ids) (λ all. IsReportText report summaries (heap_with (heap_of c.args.heap.now) all)) g.W.Target.written
+    g.W.Target.health
+    c.args.target.now c.write_histogram_over.new.target (λ all text make is. subst
+    (λ (p : PassedReport). IsReportText (report_of p) summaries (heap_with (heap_of c.args.heap.now) all) text)
+    (sym c.in-Histogram.is) is)
     (λ refusal all. RefusesReport all report refusal) c.write_histogram_over.result c.write_histogram_over.ensures
 
 pub returns-in-Classes : goal.returns-in-Classes
@@ -45,8 +52,11 @@ returns-in-Classes g c = λ summaries holds.
     let objects = c.args.objects.now in
     let report = report_of c.args.self.now in
     ends_over (g.O.Objects.make_up objects ids facts) (g.O.Objects.agree objects ids facts) (g.O.Objects.tells objects ids facts)
-    (IsClassesText ids) (λ all. IsReportText report summaries (heap_with (heap_of c.args.heap.now) all)) g.W.Target.written g.W.Target.health
-    c.args.target.now c.write_classes_over.new.target (λ all text make is. subst (λ (p : PassedReport). IsReportText (report_of p) summaries (heap_with (heap_of c.args.heap.now) all) text) (sym c.in-Classes.is) is)
+    (IsClassesText ids) (λ all. IsReportText report summaries (heap_with (heap_of c.args.heap.now) all)) g.W.Target.written
+    g.W.Target.health
+    c.args.target.now c.write_classes_over.new.target (λ all text make is. subst
+    (λ (p : PassedReport). IsReportText (report_of p) summaries (heap_with (heap_of c.args.heap.now) all) text)
+    (sym c.in-Classes.is) is)
     (λ refusal all. RefusesReport all report refusal) c.write_classes_over.result c.write_classes_over.ensures
 
 pub returns-in-Objects : goal.returns-in-Objects

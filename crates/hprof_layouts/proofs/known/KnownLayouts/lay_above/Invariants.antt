@@ -12,7 +12,8 @@ use Rattle.hprof_layouts.proofs.known.KnownLayouts.lay_above.Given as goal
 abbrev pub invariant-loop-plan : goal.invariant-loop-plan
 invariant-loop-plan l = (facts : List FactValue) (slots : List Slot) → Knows l.ids facts l.self → IsJump l.ids facts slots l.fn.first
     → width_of_slots l.ids slots ≡ length l.bytes → l.place + length slots < 2 ^ 64
-    → Laying l.ids facts l.wanted (l.fn.references.items ++ wanted_of l.wanted (references_in l.ids l.place slots l.bytes)) (Some l.jump) l.rest
+    → Laying l.ids facts l.wanted (l.fn.references.items ++ wanted_of l.wanted (references_in l.ids l.place slots l.bytes))
+    (Some l.jump) l.rest
     l.before l.references.items
 
 abbrev pub decreases-loop-plan : goal.decreases-loop-plan

@@ -12,7 +12,8 @@ returns-in_default c = λ facts class slots knows is fills.
     let plan = c.args.plan.now in
     let bytes = c.args.bytes.now in
     let small : length bytes < 2 ^ 64 = omega arith in
-    c.in_ok-push_references.ensures (plan_fields ids facts class slots plan is bytes fills) (plan_own ids facts class slots plan is bytes fills)
+    c.in_ok-push_references.ensures (plan_fields ids facts class slots plan is bytes fills)
+    (plan_own ids facts class slots plan is bytes fills)
     (plan_within ids facts class slots plan is bytes fills) (fields_few ids facts class slots plan is bytes fills small)
     ∙ sym (ap (λ (l : List Reference). c.args.references.now.items ++ l)
     (plan_last ids facts class slots plan is bytes fills c.args.wanted c.in_default.is))
@@ -28,13 +29,16 @@ returns c = λ facts class slots knows is fills.
     let behind = drop plan.own.width bytes in
     let rest_is : c.in-Some-split_at_checked.rest.now ≡ behind = c.in-Some-split_at_checked.ensures.cases.2 in
     let pushed : c.push_references.new.references.items ≡ old ++ own =
-    c.in_ok-push_references.ensures (plan_fields ids facts class slots plan is bytes fills) (plan_own ids facts class slots plan is bytes fills)
+    c.in_ok-push_references.ensures (plan_fields ids facts class slots plan is bytes fills)
+    (plan_own ids facts class slots plan is bytes fills)
     (plan_within ids facts class slots plan is bytes fills) (fields_few ids facts class slots plan is bytes fills small) in
     let more : c.lay_above.new.references.items
     ≡ c.push_references.new.references.items ++ wanted_of c.args.wanted (references_in ids plan.own.count is.left behind) =
     c.in_ok-lay_above.ensures facts is.left knows (subst (IsFirstJump ids facts is.left) c.in-Some.is is.above_is)
-    (above_fills ids facts class slots plan is bytes fills ∙ sym (ap length rest_is)) (plan_few ids facts class slots plan is bytes fills small)
-    ∙ ap (λ (l : List ℕ). c.push_references.new.references.items ++ wanted_of c.args.wanted (references_in ids plan.own.count is.left l)) rest_is in
+    (above_fills ids facts class slots plan is bytes fills ∙ sym (ap length rest_is))
+    (plan_few ids facts class slots plan is bytes fills small)
+    ∙ ap (λ (l : List ℕ). c.push_references.new.references.items ++ wanted_of c.args.wanted
+    (references_in ids plan.own.count is.left l)) rest_is in
     more
     ∙ ap (λ (l : List Reference). l ++ wanted_of c.args.wanted (references_in ids plan.own.count is.left behind)) pushed
     ∙ append_assoc old own (wanted_of c.args.wanted (references_in ids plan.own.count is.left behind))

@@ -21,7 +21,8 @@ returns-in_default c = λ slots are wide small.
     let one : OwnReference = get_or c.deref-own-items.result.now c.loop-own.own-index first in
     let lt : c.loop-own.own-index < length c.args.self.now.references.items =
     subst (λ (l : List OwnReference). c.loop-own.own-index < length l) items c.loop-own-test.true in
-    let within = one_within c.args.ids c.args.bytes.now c.args.place c.args.wanted c.args.self.now slots are c.loop-own.own-index one first lt
+    let within = one_within c.args.ids c.args.bytes.now c.args.place c.args.wanted c.args.self.now slots are c.loop-own.own-index
+    one first lt
     (ap (λ (l : List OwnReference). get_or l c.loop-own.own-index first) items) in
     let fits : one.offset + width_of c.args.ids ≤ length c.args.bytes.now = let end = within.0 in omega arith in
     absurd (none fits)

@@ -45,7 +45,8 @@ returns-in_default-clause-step g c =
 
 pub returns-in-Err-Short-clause-step : goal.returns-in-Err-Short-clause-step
 returns-in-Err-Short-clause-step g c = (
-  sub_stopped c.args.self.now c.args.header.now c.args.bytes.now Short c.requires.header c.requires.room (c.in-Err-Short.ensures.exact ∙ ap Err c.in-Err-Short.field-0-is),
+  sub_stopped c.args.self.now c.args.header.now c.args.bytes.now Short c.requires.header c.requires.room
+      (c.in-Err-Short.ensures.exact ∙ ap Err c.in-Err-Short.field-0-is),
   refl,
   refl,
 )

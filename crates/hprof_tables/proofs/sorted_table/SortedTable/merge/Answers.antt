@@ -23,7 +23,8 @@ of-requires g c =
     let rows = rows_along old.pages.items (values_of old.places.entries) in
     let all =
     all_merged old c.replace-old.result fresh c.reserve_exact.new.self.items c.move_rows.new.rows.items
-    c.reserve_exact-2.new.self.items c.merge_into.new.all.items (search rules) c.replace-old.ensures.value c.move_rows.ensures (search rules)
+    c.reserve_exact-2.new.self.items c.merge_into.new.all.items (search rules) c.replace-old.ensures.value c.move_rows.ensures
+    (search rules)
     c.merge_into.ensures in
     subst IsAscending (sym all)
     (merged_union rows fresh (listed-ascending old.pages.items old.places.entries old.listed) c.requires.ascending c.requires.apart).ascends
@@ -35,7 +36,8 @@ invariant_of-drop g c =
     let rows = rows_along old.pages.items (values_of old.places.entries) in
     let all =
     all_merged old c.replace-old.result fresh c.reserve_exact.new.self.items c.move_rows.new.rows.items
-    c.reserve_exact-2.new.self.items c.merge_into.new.all.items (search rules) c.replace-old.ensures.value c.move_rows.ensures (search rules)
+    c.reserve_exact-2.new.self.items c.merge_into.new.all.items (search rules) c.replace-old.ensures.value c.move_rows.ensures
+    (search rules)
     c.merge_into.ensures in
     let none : c.reserve_exact-3.new.self.items ≡ [] = search rules in
     let places : c.insert.new.self.entries ≡ (0, 0) ∷ [] = search rules in
@@ -61,7 +63,8 @@ returns-clause-ok g c =
     let rows = rows_along old.pages.items (values_of old.places.entries) in
     let all =
     all_merged old c.replace-old.result fresh c.reserve_exact.new.self.items c.move_rows.new.rows.items
-    c.reserve_exact-2.new.self.items c.merge_into.new.all.items (search rules) c.replace-old.ensures.value c.move_rows.ensures (search rules)
+    c.reserve_exact-2.new.self.items c.merge_into.new.all.items (search rules) c.replace-old.ensures.value c.move_rows.ensures
+    (search rules)
     c.merge_into.ensures in
     let none : c.reserve_exact-3.new.self.items ≡ [] = search rules in
     let places : c.insert.new.self.entries ≡ (0, 0) ∷ [] = search rules in

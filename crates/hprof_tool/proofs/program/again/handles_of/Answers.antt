@@ -10,7 +10,8 @@ loop-part-preserved g c =
     record {
       handles = subst (λ (handles : List _). AreHandles left bytes (take (c.loop-part.part-index + 1) c.args.parts.now) handles)
           (sym c.in_ok-push.ensures.items)
-          (handles_at left bytes c.args.parts.now c.loop-part.part-index _ c.loop-part.handles.items c.in_ok-handle.handle c.loop-part-test.true
+          (handles_at left bytes c.args.parts.now c.loop-part.part-index _ c.loop-part.handles.items c.in_ok-handle.handle
+          c.loop-part-test.true
           (subst (λ (part : g.row.F-Part.Denot). (told : List ℕ) → left part ≡ Some told → bytes c.in_ok-handle.handle ≡ Some told)
           c.part-item.is c.in_ok-handle.ensures) c.loop-part.invariant.handles);
     }

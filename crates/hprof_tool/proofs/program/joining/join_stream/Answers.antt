@@ -35,7 +35,8 @@ returns-clause-refused g c =
     if_err_more _ _ c.write_through_buffer.result (λ stopped stops. (
       (
         read,
-        λ part told. subst (λ (l : List g.row.I.Denot). IsRefusal g.I.Source.left g.I.Source.health g.I.Source.pulls l read stored_dump_making
+        λ part told. subst (λ (l : List g.row.I.Denot). IsRefusal g.I.Source.left g.I.Source.health g.I.Source.pulls l read
+            stored_dump_making
             stopped.why (part ∷ [])) one
             (stream_refusal _ _ _ _ _ stored_dump_making _ _ stopped.why stopped.writer stops (part ∷ [])
             (told_by part told)),
@@ -51,5 +52,6 @@ pub write_through_buffer-requires-clause-again : goal.write_through_buffer-requi
 write_through_buffer-requires-clause-again g c =
     let one : c.deref_mut.result.now ≡ c.args.input ∷ [] = c.deref_mut.ensures.value ∙ c.in-Ok.ensures.items
     ∙ ap (λ (l : List g.row.I.Denot). l ++ c.args.input ∷ []) c.new-part.ensures.items in
-    subst (λ (l : List g.row.I.Denot). IfSome c.args.again (IsReadyFor g.I.Source.left g.H.ReadAt.bytes g.S.Target.written g.S.Target.health l))
+    subst (λ (l : List g.row.I.Denot). IfSome c.args.again (IsReadyFor g.I.Source.left g.H.ReadAt.bytes g.S.Target.written
+    g.S.Target.health l))
     (sym one) c.requires.again

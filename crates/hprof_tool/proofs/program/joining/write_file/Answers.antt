@@ -76,7 +76,8 @@ returns-clause-no_parts g c = λ same.
 
 pub returns-in-Err-clause-refused : goal.returns-in-Err-clause-refused
 returns-in-Err-clause-refused g c =
-    subst (λ (why : Refused). IsFilesRefusal (g.P.Made.making c.args.product.now) (g.F.Folder.answered c.args.files.now) g.F.Part.Source.left
+    subst (λ (why : Refused). IsFilesRefusal (g.P.Made.making c.args.product.now)
+    (g.F.Folder.answered c.args.files.now) g.F.Part.Source.left
     g.F.Part.Source.health g.F.Part.Source.pulls c.args.names.now c.args.out.name.now why) (sym c.in-Err.ensures.refused)
     (tt, subst (g.F.Folder.answered c.args.files.now).HasNone c.as_str-name.ensures c.remove_out.ensures)
 

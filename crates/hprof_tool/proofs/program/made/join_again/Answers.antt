@@ -10,5 +10,6 @@ pub returns : goal.returns
 returns g c =
     let usual = c.usual.ensures in
     subst (λ (limits : Limits). Makes g.R.Source.left g.R.Source.health g.R.Source.pulls g.W.Target.written g.W.Target.health limits
-    stored_dump_making c.args.readers.now c.join_stored.new.readers c.args.target.now c.join_stored.new.target (fault_of c.join_stored.result))
+    stored_dump_making c.args.readers.now c.join_stored.new.readers c.args.target.now c.join_stored.new.target
+    (fault_of c.join_stored.result))
     (are_usual c.usual.result usual.item usual.reads usual.bytes) c.join_stored.ensures

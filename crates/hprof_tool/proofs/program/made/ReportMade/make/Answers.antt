@@ -36,7 +36,8 @@ returns-in-Node-Refs-Identifier g c =
     let is : c.args.self.now ≡ report = node_report c.args.self.now known.field-0 nodes.Refs known.field-1 known.id known.is
     (rw known.is at known.field-0-is) (rw known.is at known.field-1-is) in
     subst (λ (report : Report). Makes g.R.Source.left g.R.Source.health g.R.Source.pulls g.W.Target.written g.W.Target.health usual_limits
-    (report_of_parts report) c.args.readers.now c.refs_to.new.readers c.args.target.now c.refs_to.new.target (fault_of c.refs_to.result)) (sym is)
+    (report_of_parts report) c.args.readers.now c.refs_to.new.readers c.args.target.now c.refs_to.new.target
+    (fault_of c.refs_to.result)) (sym is)
     (heap_makes g.R.Source.left g.R.Source.health g.R.Source.pulls usual_limits g.W.Target.written g.W.Target.health
     c.args.readers.now c.refs_to.new.readers c.args.target.now c.refs_to.new.target (fault_of c.refs_to.result) report
     (subst (λ (limits : Limits). Makes g.R.Source.left g.R.Source.health g.R.Source.pulls g.W.Target.written g.W.Target.health limits
@@ -51,7 +52,8 @@ returns-in-Node-Who-Identifier g c =
     let is : c.args.self.now ≡ report = node_report c.args.self.now known.field-0 nodes.Who known.field-1 known.id known.is
     (rw known.is at known.field-0-is) (rw known.is at known.field-1-is) in
     subst (λ (report : Report). Makes g.R.Source.left g.R.Source.health g.R.Source.pulls g.W.Target.written g.W.Target.health usual_limits
-    (report_of_parts report) c.args.readers.now c.who_to.new.readers c.args.target.now c.who_to.new.target (fault_of c.who_to.result)) (sym is)
+    (report_of_parts report) c.args.readers.now c.who_to.new.readers c.args.target.now c.who_to.new.target
+    (fault_of c.who_to.result)) (sym is)
     (heap_makes g.R.Source.left g.R.Source.health g.R.Source.pulls usual_limits g.W.Target.written g.W.Target.health
     c.args.readers.now c.who_to.new.readers c.args.target.now c.who_to.new.target (fault_of c.who_to.result) report
     (subst (λ (limits : Limits). Makes g.R.Source.left g.R.Source.health g.R.Source.pulls g.W.Target.written g.W.Target.health limits
