@@ -12,11 +12,12 @@ pub struct Keeping {
 }
 
 impl Keeping {
-    /// Returns what the program uses: stretches of a mebibyte or more stay, at most 64 of a part.
+    /// Returns what the program uses: at most 64 stretches of a part stay, each of a mebibyte or more, or of a quarter of the memory if that
+    /// is less, but not of less than four kibibytes. A stretch is in memory before it stays, where it takes up to 2.41 times its bytes.
     pub fn usual(memory: u64) -> Keeping {
         Keeping {
             memory,
-            stretch: 1_048_576,
+            stretch: (memory / 4).max(4_096).min(1_048_576),
             stretches: 64,
         }
     }
