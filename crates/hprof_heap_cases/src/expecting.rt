@@ -10,6 +10,16 @@ pub(crate) fn equal<T: PartialEq + Debug + Drop>(rt: &impl Abort, found: T, expe
     assert_eq!(rt; found, expected);
 }
 
+/// Asserts that the value found is the expected one, in one of several cases. Prints the case if it fails.
+pub(crate) fn equal_at<C: Debug + Drop, T: PartialEq + Debug + Drop>(
+    rt: &impl Abort,
+    case: C,
+    found: T,
+    expected: T,
+) {
+    assert_eq!(rt; found, expected, "{case:?}");
+}
+
 /// Asserts that this holds.
 pub(crate) fn holds(rt: &impl Abort, condition: bool)
     ensures { IsTrue condition }
