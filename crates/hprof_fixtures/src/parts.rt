@@ -19,13 +19,7 @@ pub const PLAIN: &[u8; 89] = b"JAVA PROFILE 1.0.2\0\0\0\0\x04\0\0\0\0\0\0\0\x01\
     \x01\0\0\0\0\0\0\0\x05\0\0\0\x02B\x01\0\0\0\0\0\0\0\x05\0\0\0\x01A\
     \x1c\0\0\0\0\0\0\0\x15\x23\0\0\0\x10\0\0\0\x01\0\0\0\x02\x08\x01\x02\x05\0\0\0\x10";
 
-/// The canonical dump of the facts of the plain part: 98 bytes.
-pub const PLAIN_DUMP: &[u8] = b"JAVA PROFILE 1.0.2\0\0\0\0\x04\0\0\0\0\0\0\0\x01\
-    \x01\0\0\0\0\0\0\0\x05\0\0\0\x01A\x01\0\0\0\0\0\0\0\x05\0\0\0\x02B\
-    \x1c\0\0\0\0\0\0\0\x15\x05\0\0\0\x10\x23\0\0\0\x10\0\0\0\x01\0\0\0\x02\x08\x01\x02\
-    \x2c\0\0\0\0\0\0\0\0";
-
-/// The 1.0.1 dump of the same facts: 89 bytes.
+/// The 1.0.1 dump of the facts of the plain part: 89 bytes.
 pub const PLAIN_101: &[u8] = b"JAVA PROFILE 1.0.1\0\0\0\0\x04\0\0\0\0\0\0\0\x01\
     \x01\0\0\0\0\0\0\0\x05\0\0\0\x01A\x01\0\0\0\0\0\0\0\x05\0\0\0\x02B\
     \x0c\0\0\0\0\0\0\0\x15\x05\0\0\0\x10\x23\0\0\0\x10\0\0\0\x01\0\0\0\x02\x08\x01\x02";
@@ -47,11 +41,4 @@ pub fn record(alloc: Global, tag: u8, body: &[u8]) -> Result<Vec<u8>, AllocError
     bytes.extend_from_slice(&len.to_be_bytes())?;
     bytes.extend_from_slice(body)?;
     Ok(bytes)
-}
-
-/// Returns the part with one segment of these sub-records.
-pub fn part_of(alloc: Global, subs: &[&[u8]]) -> Result<Vec<u8>, AllocError> {
-    let body = bytes_of(alloc, subs)?;
-    let segment = record(alloc, 0x1c, &body)?;
-    bytes_of(alloc, &[HEADER, &segment])
 }

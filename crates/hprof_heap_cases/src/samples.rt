@@ -30,39 +30,6 @@ pub(crate) fn begun(alloc: Global, ids: IdSize, millis: u64) -> Result<Gatherer,
     Ok(gatherer)
 }
 
-// Gives the gatherer a part with these names.
-fn give(
-    gatherer: &mut Gatherer,
-    ids: IdSize,
-    millis: u64,
-    names: &[(u64, &[u8])],
-) -> Result<(), SinkFault> {
-    gatherer.begin_part(Header {
-        version: Version::V102,
-        ids,
-        millis,
-    })?;
-    for &(id, text) in names {
-        let fact = Fact::Name { id, text };
-        if fits(&fact, ids) {
-            gatherer.take(&fact, &[])?;
-        }
-    }
-    Ok(())
-}
-
-// A part's size and time, with its names.
-pub(crate) type Part<'a> = (IdSize, u64, &'a [(u64, &'a [u8])]);
-
-// A gatherer that was given these parts.
-pub(crate) fn given(alloc: Global, parts: &[Part<'_>]) -> Result<Gatherer, SinkFault> {
-    let mut gatherer = Gatherer::new(alloc);
-    for &(ids, millis, names) in parts {
-        give(&mut gatherer, ids, millis, names)?;
-    }
-    Ok(gatherer)
-}
-
 // How many facts the heap has, while the gatherer is clean.
 fn count(gatherer: &Gatherer) -> Option<u128> {
     Some(gatherer.heap()?.count())

@@ -1,7 +1,5 @@
 //! Assertions. Each comparison is a function of its own: written out in a test, it costs the prover as much as several calls.
 
-ghost use Rattle.std.specs.Prelude.{IsTrue};
-
 use std::fmt::Debug;
 use std::process::Abort;
 
@@ -18,11 +16,4 @@ pub(crate) fn equal_at<C: Debug + Drop, T: PartialEq + Debug + Drop>(
     expected: T,
 ) {
     assert_eq!(rt; found, expected, "{case:?}");
-}
-
-/// Asserts that this holds.
-pub(crate) fn holds(rt: &impl Abort, condition: bool)
-    ensures { IsTrue condition }
-{
-    assert!(rt; condition);
 }

@@ -1,5 +1,5 @@
-//! Tests of the crates that read parts, and of hprof_tables and hprof_byte_tables, through public calls: types, lists, pushes and pulls, a
-//! reader that is fed in pieces, and tables. Tests that fit one line are in the table of hprof_worked.
+//! Tests of the crates that read parts: what devices call of std, the memory and the time that long and hostile items take, and names as
+//! units.
 #![tactic(auto)]
 
 #[cfg(test)]
@@ -7,25 +7,10 @@ mod devices;
 #[cfg(test)]
 mod expecting;
 #[cfg(test)]
-mod facts;
-#[cfg(test)]
-mod floats;
-pub mod laws;
-#[cfg(test)]
 mod lengths;
 #[cfg(test)]
 mod lists;
 #[cfg(test)]
-mod pieces;
-#[cfg(test)]
 mod samples;
 #[cfg(test)]
-mod sinks;
-#[cfg(test)]
-mod sub_records;
-#[cfg(test)]
-mod tables;
-#[cfg(test)]
 mod units;
-#[cfg(test)]
-mod values;

@@ -9,8 +9,6 @@ mod merging;
 mod segment_fault;
 mod segment_sink;
 mod segment_writer;
-#[cfg(test)]
-mod tests;
 
 pub use merging::merge_sub_records;
 pub use segment_fault::SegmentFault;

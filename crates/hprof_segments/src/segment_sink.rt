@@ -30,7 +30,7 @@ impl<'a, W: Target> SegmentSink<'a, W> {
 }
 
 /// Returns whether these may be the bytes of a sub-record.
-pub(crate) fn is_sub(bytes: &[u8]) -> bool
+fn is_sub(bytes: &[u8]) -> bool
     ensures { IsTrue result ↔ IsSub bytes.now }
 {
     !bytes.is_empty() && bytes.len() <= u32::MAX as usize

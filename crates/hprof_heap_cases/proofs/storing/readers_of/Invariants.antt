@@ -1,7 +1,7 @@
 use Rattle.std.proofs.Common.{◌≡◌, All}
 use Rattle.hprof_devices.specs.declared.health.Health.TheVariants.{Well}
 use Rattle.hprof_devices.specs.Device.{health_of}
-use Rattle.hprof_stored_cases.proofs.joining.untold_of.Given as goal
+use Rattle.hprof_heap_cases.proofs.storing.readers_of.Given as goal
 
 -- the readers so far are well
 abbrev pub invariant-loop-part : goal.invariant-loop-part

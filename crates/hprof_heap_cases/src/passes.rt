@@ -15,6 +15,15 @@ use hprof_values::IdSize;
 use std::alloc::{AllocError, Global};
 use std::test::*;
 
+/// The ordered part, with the identifier 8 in place of 32.
+const DESCENDING: &[u8; 134] = b"JAVA PROFILE 1.0.2\0\0\0\0\x04\0\0\0\0\0\0\0\x02\
+    \x01\0\0\0\0\0\0\0\x05\0\0\0\x02B\
+    \x1c\0\0\0\0\0\0\0\x50\
+    \x23\0\0\0\x10\0\0\0\x01\0\0\0\x02\x08\x01\x02\
+    \x23\0\0\0\x08\0\0\0\x01\0\0\0\x02\x08\x03\x04\
+    \x20\0\0\0\x40\0\0\0\x01\0\0\0\0\0\0\0\0\0\0\0\0\0\0\0\0\0\0\0\0\0\0\0\0\0\0\0\0\0\0\0\0\0\0\
+    \x05\0\0\0\x40";
+
 /// A sink that keeps the identifiers of objects.
 #[derive(Drop)]
 struct Identifiers {
@@ -90,6 +99,17 @@ fn a_part_that_changed(rt: HostRuntime) -> Result<(), Fail> {
     let it = pass_over(rt.alloc(), &[ORDERED, UNORDERED], &[ORDERED])?;
     assert!(rt; it.outcome == Err(PassStop::Lost(changed)));
     assert!(rt; it.ids.is_empty());
+    Ok(())
+}
+
+#[test]
+fn a_part_whose_identifiers_do_not_ascend_any_more(rt: HostRuntime) -> Result<(), Fail> {
+    let changed = PassFault::Part {
+        part: 0,
+        fault: StretchFault::Changed,
+    };
+    let it = pass_over(rt.alloc(), &[ORDERED], &[DESCENDING])?;
+    assert!(rt; it.outcome == Err(PassStop::Lost(changed)));
     Ok(())
 }
 
