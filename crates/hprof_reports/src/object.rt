@@ -20,7 +20,7 @@ use hprof_devices::Target;
 use hprof_engine::WriteStop;
 use hprof_heap::{ClassDump, Heap, ObjectDump, find_class, find_object, holds_of_heap, id_size};
 use hprof_layouts::{Fields, fields};
-use hprof_lines::write_line;
+use hprof_lines::{nothing_line, write_line};
 use std::alloc::{AllocError, Global};
 
 /// Writes the contents of a class dump.
