@@ -82,7 +82,8 @@ def main():
                 took, count, answer = out.strip().split(" ", 2)
                 ok = answer == wanted and int(count) == len(bytes_) and int(took) <= MOST_MILLIS
                 right = right and ok
-                print(f"{what}, {len(bytes_)} bytes, pieces of {min(piece_len, len(bytes_))}: {took} ms, {answer}{'' if ok else ' (WRONG)'}")
+                size = f"{len(bytes_)} bytes, pieces of {min(piece_len, len(bytes_))}"
+                print(f"{what}, {size}: {took} ms, {answer}{'' if ok else ' (WRONG)'}")
     return 0 if right else 1
 
 

@@ -67,7 +67,10 @@ def run(folder, words):
 
 
 def main():
-    print("| collector | dump | the heap alone | its peak | with all edges | its peak | edges asked for | after half of it | took | all put in order | at the end | took |")
+    print(
+        "| collector | dump | the heap alone | its peak | with all edges | its peak "
+        "| edges asked for | after half of it | took | all put in order | at the end | took |"
+    )
     print("|---|---|---|---|---|---|---|---|---|---|---|---|")
     right = True
     with tempfile.TemporaryDirectory() as folder:

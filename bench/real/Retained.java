@@ -20,7 +20,8 @@ public class Retained {
             sum += all.next().getRetainedSize();
         }
         long end = System.nanoTime();
-        System.out.printf("read %.2f s, retained sizes %.2f s, %d instances, sum %d%n", (read - start) / 1e9, (end - read) / 1e9, count, sum);
+        System.out.printf("read %.2f s, retained sizes %.2f s, %d instances, sum %d%n",
+                (read - start) / 1e9, (end - read) / 1e9, count, sum);
         for (int place = 1; place < words.length; place++) {
             Instance one = heap.getInstanceByID(Long.parseUnsignedLong(words[place], 16));
             System.out.println(words[place] + " " + (one == null ? "none" : one.getRetainedSize()));

@@ -82,7 +82,8 @@ def asked(dialogue, name, questions):
         (few if name != "refs" or answer.count(b"\n") <= FEW_REFERRERS else many).append(seconds)
     row(f"{name}, {len(few)} questions: median", statistics.median(few), f"longest {max(few) * 1000:.2f} ms")
     if many:
-        row(f"{name} of more than {FEW_REFERRERS} referrers, {len(many)} questions: median", statistics.median(many), f"longest {max(many) * 1000:.2f} ms")
+        what = f"{name} of more than {FEW_REFERRERS} referrers, {len(many)} questions: median"
+        row(what, statistics.median(many), f"longest {max(many) * 1000:.2f} ms")
 
 
 def main():

@@ -1,5 +1,6 @@
 #!/usr/bin/env python3
-"""Times the commands that read objects again, with little memory and with all objects in memory: large.py [--turns N] [--memory SIZE] DUMP..
+"""Times the commands that read objects again, with little memory and with all objects in memory:
+large.py [--turns N] [--memory SIZE] DUMP..
 
 Each command runs on each dump with `--memory SIZE`, 256M unless it is given, and with `--memory 1T`, in turn. Both must print and write the
 same. A line has the medians of the times, their ratio, and the greatest peaks of memory. It needs the built program (`rt run` in

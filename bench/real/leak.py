@@ -5,8 +5,8 @@
     bench/real/leak.py [--turns N] [--collector NAME] [--dump FILE] [MEGABYTES]    (5 turns; Serial; 100 megabytes)
 
 It prints the fastest time and the least peak memory of each command, beside the time of the other command in the same turns; `diff` reads
-the dump twice, and stands beside twice that time. Then the same is asked of `hprof ask`. It needs the built program, and java, javac and rustc
-where no dump is given. It is no part of the gate.
+the dump twice, and stands beside twice that time. Then the same is asked of `hprof ask`. It needs the built program, and java, javac and
+rustc where no dump is given. It is no part of the gate.
 """
 
 import argparse

@@ -1,11 +1,11 @@
 #!/usr/bin/env python3
-"""Checks what `why` of identifiers at random tells by what `path`, `refs` and `object` tell of the same nodes, through one `hprof ask`: each
-node, each step that is printed, the distance, and that what is left out is counted.
+"""Checks what `why` of identifiers at random tells by what `path`, `refs` and `object` tell of the same nodes, through one `hprof ask`:
+each node, each step that is printed, the distance, and that what is left out is counted.
 
     bench/real/why.py [--collector NAME] [--count N] [--dump FILE] [MEGABYTES]    (Serial; 100 of each kind; 100 megabytes)
 
-The lines of roots and threads are in no other report: it checks that there are roots. It needs the built program, java, javac and rustc. It is no part
-of the gate.
+The lines of roots and threads are in no other report: it checks that there are roots. It needs the built program, java, javac and rustc. It
+is no part of the gate.
 """
 
 import argparse
@@ -70,7 +70,7 @@ class Told:
 
 
 def step_faults(dialogue, before, after, step, only_weak):
-    """What is wrong with a step that was told from one node to the next: it is the first reference, of strong ones if they are asked for."""
+    """What is wrong with a step that was told from one node to the next: it is the first reference, or the first strong one."""
     contents = asked(dialogue, f"object {before}")
     for line in asked(dialogue, f"refs {after}"):
         holder, via, place = line.split(" ")

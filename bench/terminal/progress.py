@@ -181,35 +181,46 @@ def percents(folder):
     yield f"percents: {len(lines)} lines, {[line[2] for _, line in lines][:12]}"
 
 
-def again(folder):
-    """A file of 1.5 GB whose objects stay in it, since they are small and ascend. They are read once and again."""
+def write_arrays(path, step):
+    """Writes a dump of 1.5 GB: small arrays whose identifiers ascend by 1, or descend."""
     length, id_size = 1_000, int.from_bytes(HEADER[19:23], "big")
-    with open(folder / "arrays", "wb") as arrays:
+    with open(path, "wb") as arrays:
         arrays.write(HEADER)
-        for first in range(1, 1_500_001, 10_000):
-            ids = (number.to_bytes(id_size, "big") for number in range(first, first + 10_000))
+        for first in range(1, 1_500_001, 10_000)[::step]:
+            ids = (number.to_bytes(id_size, "big") for number in range(first, first + 10_000)[::step])
             segment = b"".join(b"\x23" + name + bytes(4) + length.to_bytes(4, "big") + b"\x08" + bytes(length) for name in ids)
             arrays.write(b"\x1c" + bytes(4) + len(segment).to_bytes(4, "big") + segment)
-    words = ["histo", "--memory", "64M", "arrays"]
-    pieces, _, status = on_terminal(words, folder)
-    lines, left = lines_of(pieces)
-    first, second = ([line for line in lines if (line[1][0] == 0) == is_again] for is_again in (False, True))
-    assert lines == first + second and len(first) >= 3 and len(second) >= 3, (len(first), len(second))
-    check_lines(first, 1, ["%"])
-    numbers = [line[2] for _, line in second]
-    assert numbers == sorted(numbers) and numbers[-1] > 700 and {line[3] for _, line in second} == {"MB"}, numbers
-    assert (left, b"", status) == quiet(words, folder) and status == 0, left
-    (folder / "arrays").unlink()
-    yield f"again: {len(first)} lines, and {len(second)} again"
+
+
+def again(folder):
+    """Objects that stay in their file, since they ascend, and objects that go to another, since they descend. All are read again."""
+    for step in (1, -1):
+        write_arrays(folder / "arrays", step)
+        words = ["histo", "--memory", "64M", "arrays"]
+        pieces, _, status = on_terminal(words, folder)
+        lines, left = lines_of(pieces)
+        first, second = ([line for line in lines if (line[1][0] == 0) == is_again] for is_again in (False, True))
+        assert lines == first + second and len(first) >= 3 and len(second) >= 3, (len(first), len(second))
+        check_lines(first, 1, ["%"])
+        numbers = [line[2] for _, line in second]
+        assert numbers == sorted(numbers) and numbers[-1] > 700 and {line[3] for _, line in second} == {"MB"}, numbers
+        assert (left, b"", status) == quiet(words, folder) and status == 0, left
+        (folder / "arrays").unlink()
+        yield f"again: {len(first)} lines, and {len(second)} again"
 
 
 def refusals(folder):
     """A line is gone before a refusal: in the middle of a part, behind one that is cut, and of an output that is there."""
     (folder / "there").write_bytes(b"")
     bad = FRIDAY + b"\x02\0\0\0\0\0\0\0\1" + FRIDAY[31:]
-    cases = [(["check"], [FRIDAY, bad], b"hprof: part 1: malformed at 8081: "), (["histo"], [FRIDAY[:5000]], b"hprof: part 0: malformed at 4974: ")]
-    cases += [(["join", "out"], [MONDAY, FRIDAY], b"hprof: conflict at load 1\n"), (["object", "1x"], [], b"hprof: not an identifier\n")]
-    cases += [(["join", "there"], [FRIDAY], b"hprof: cannot create the output\n"), (["diff"], [FRIDAY, FRIDAY[:4000]], b"hprof: part 1: malformed at ")]
+    cases = [
+        (["check"], [FRIDAY, bad], b"hprof: part 1: malformed at 8081: "),
+        (["histo"], [FRIDAY[:5000]], b"hprof: part 0: malformed at 4974: "),
+        (["join", "out"], [MONDAY, FRIDAY], b"hprof: conflict at load 1\n"),
+        (["object", "1x"], [], b"hprof: not an identifier\n"),
+        (["join", "there"], [FRIDAY], b"hprof: cannot create the output\n"),
+        (["diff"], [FRIDAY, FRIDAY[:4000]], b"hprof: part 1: malformed at "),
+    ]
     for words, parts, told in cases:
         names, feeder = fifos(folder, parts, 0.6)
         pieces, _, status = on_terminal([*words, *names], folder)

@@ -1,10 +1,10 @@
 #!/usr/bin/env python3
 """Writes two small heap dumps beside itself: monday.hprof and friday.hprof.
 
-They are dumps of one made-up server, `shop.Server`, as a JDK 17 writes them: names and loads first, then frames and traces, then segments of
-class dumps, objects and roots. The server forgets to close its sessions, so Friday's dump has more of them. Identifiers have eight bytes, and
-are others on Friday. A thread sends mails, which it keeps in a queue: one of them holds a session that was closed. Of another closed session a
-frame has a weak reference, and a third is garbage.
+They are dumps of one made-up server, `shop.Server`, as a JDK 17 writes them: names and loads first, then frames and traces, then segments
+of class dumps, objects and roots. The server forgets to close its sessions, so Friday's dump has more of them. Identifiers have eight
+bytes, and are others on Friday. A thread sends mails, which it keeps in a queue: one of them holds a session that was closed. Of another
+closed session a frame has a weak reference, and a third is garbage.
 """
 
 import struct

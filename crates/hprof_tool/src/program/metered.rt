@@ -131,7 +131,7 @@ where
 
     type Handle = MeteredHandle<'a, S::File, S, T>;
 
-    type Scratch = LateScratch<ScratchPlace<'a, S>>;
+    type Scratch = LateScratch<ScratchPlace<'a, S, T>>;
 
     type Out = S::File;
 
@@ -198,7 +198,7 @@ where
         &self,
         alloc: Global,
         out: Option<&str>,
-    ) -> Result<LateScratch<ScratchPlace<'a, S>>, AllocError> {
+    ) -> Result<LateScratch<ScratchPlace<'a, S, T>>, AllocError> {
         let folder = match out {
             Some(name) => folder_of(alloc, name)?,
             None => String::from_str(alloc, self.storage.folder)?,
@@ -206,6 +206,7 @@ where
         Ok(LateScratch::new(ScratchPlace {
             alloc,
             system: self.system,
+            meter: self.meter,
             folder,
         }))
     }
