@@ -10,7 +10,7 @@ use crate::answerer::Answerer;
 use crate::ask_fault::AskFault;
 use crate::kept::Kept;
 use hprof_devices::{Flush, Source};
-use hprof_engine::{AllSummaries, ToolFault, read_heap};
+use hprof_engine::{AllSummaries, Summaries, ToolFault, read_heap};
 use hprof_heap::{Gatherer, Heap};
 use hprof_questions::{Asker, converse};
 use hprof_stream::Limits;

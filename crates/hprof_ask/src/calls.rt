@@ -6,6 +6,7 @@ ghost use Rattle.hprof_engine.specs.Joining.{fault_of};
 ghost use Rattle.hprof_engine.specs.Makes.{Makes};
 ghost use Rattle.hprof_ask.specs.Report.{report_making};
 
+use crate::product::Reporting;
 use crate::referring::write_who_once;
 use hprof_devices::{Source, Target};
 use hprof_engine::{NoSummaries, ToolFault, read_heap, write_to};
@@ -31,7 +32,7 @@ pub fn report_to<R: Source, W: Target>(
     ensures { Makes R.left R.health R.pulls W.written W.health limits (report_making report.entry)
         readers.old readers.new target.old target.new (fault_of result) }
 {
-    write_to(alloc, &report, readers, target, limits)
+    write_to(alloc, &Reporting { report }, readers, target, limits)
 }
 
 /// Reads all parts, and writes the report `check`: a line for each part, in order, a line for each table of their heap with the

@@ -24,3 +24,4 @@ pub use calls::{
 };
 pub use kept::Kept;
 pub use named::names_classes;
+pub use product::Reporting;

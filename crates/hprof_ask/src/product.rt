@@ -11,45 +11,52 @@ use hprof_questions::{HeapReport, Report};
 use hprof_stream::PartSummary;
 use std::alloc::{AllocError, Global};
 
+/// A report as a product of parts.
+#[derive(Clone, Copy, Debug)]
+pub struct Reporting<'a> {
+    /// The report.
+    pub report: Report<'a>,
+}
+
 /// The report `check` wants the summaries of all parts, and the others want none.
-impl<'a> Summaries for Report<'a> {
+impl Summaries for Reporting<'_> {
     ghost use Rattle.hprof_ask.specs.Report.{TakesRoom};
     ghost use Rattle.hprof_ask.specs.Summarised.{HasRoom, Holds, no_room_for_none};
 
-    ghost has_room = { HasRoom };
+    ghost has_room = { λ it. HasRoom it.report };
 
-    ghost holds = { Holds };
+    ghost holds = { λ it. Holds it.report };
 
-    ghost takes_room = { TakesRoom };
+    ghost takes_room = { λ it. TakesRoom it.report };
 
     type Kept = Vec<PartSummary>;
 
     fn with_room(&self, alloc: Global, parts: usize) -> Result<Vec<PartSummary>, AllocError> {
-        match self {
+        match self.report {
             Report::Heap(HeapReport::Check) => Vec::with_capacity(alloc, parts),
             _ => Ok(Vec::new(alloc)),
         }
     }
 
     fn keep(&self, kept: &mut Vec<PartSummary>, summary: PartSummary) {
-        if let Report::Heap(HeapReport::Check) = self {
+        if let Report::Heap(HeapReport::Check) = self.report {
             kept.push_reserved(summary);
         }
     }
 
-    ghost no_room = { no_room_for_none };
+    ghost no_room = { λ it. no_room_for_none it.report };
 }
 
 /// A command asks once, as a dialogue asks many times.
-impl<'a> Product for Report<'a> {
+impl Product for Reporting<'_> {
     ghost use Rattle.hprof_ask.specs.OneReport.{one_report};
     ghost use Rattle.hprof_ask.specs.Report.{IsReportText, RefusesReport, TakesMemory};
 
-    ghost is_text = { IsReportText };
+    ghost is_text = { λ it. IsReportText it.report };
 
-    ghost refuses = { λ report refusal heap. RefusesReport heap.facts report refusal };
+    ghost refuses = { λ it refusal heap. RefusesReport heap.facts it.report refusal };
 
-    ghost takes_memory = { TakesMemory };
+    ghost takes_memory = { λ it. TakesMemory it.report };
 
     fn write<W: Target>(
         &self,
@@ -62,8 +69,8 @@ impl<'a> Product for Report<'a> {
             heap,
             summaries: kept,
         };
-        answerer.write(alloc, &mut Kept::for_one(), *self, target)
+        answerer.write(alloc, &mut Kept::for_one(), self.report, target)
     }
 
-    ghost one_text = { λ report summaries heap. one_report summaries heap.ids heap.facts report };
+    ghost one_text = { λ it summaries heap. one_report summaries heap.ids heap.facts it.report };
 }

@@ -4,6 +4,7 @@ ghost use Rattle.std.specs.Prelude.{◌≡◌};
 
 use crate::checked::write_check;
 use crate::named::write_objects;
+use hprof_ask::Reporting;
 use hprof_devices::Target;
 use hprof_engine::{Summaries, WriteStop};
 use hprof_heap::Heap;
@@ -59,6 +60,15 @@ impl<'a> PassedReport<'a> {
             PassedReport::Objects(kinds) => Report::Kind(KindReport::Objects, kinds),
         }
     }
+
+    /// Returns the report as a product of parts.
+    fn reporting(self) -> Reporting<'a>
+        ensures { result.report ≡ report_of self.entry }
+    {
+        Reporting {
+            report: self.report(),
+        }
+    }
 }
 
 /// It wants the summaries that the report wants.
@@ -76,11 +86,11 @@ impl Summaries for PassedReport<'_> {
     type Kept = Vec<PartSummary>;
 
     fn with_room(&self, alloc: Global, parts: usize) -> Result<Vec<PartSummary>, AllocError> {
-        self.report().with_room(alloc, parts)
+        self.reporting().with_room(alloc, parts)
     }
 
     fn keep(&self, kept: &mut Vec<PartSummary>, summary: PartSummary) {
-        self.report().keep(kept, summary);
+        self.reporting().keep(kept, summary);
     }
 
     ghost no_room = { λ passed. no_room_for_none (report_of passed) };

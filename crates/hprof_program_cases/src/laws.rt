@@ -1,10 +1,10 @@
 //! The laws of the engine and the reports.
 
-use hprof_ask::laws as ask_laws;
+use hprof_ask::{Reporting, laws as ask_laws};
 use hprof_dump::laws as dump101_laws;
 use hprof_engine::{Dump, Dump101};
 use hprof_naming::laws as naming_laws;
-use hprof_questions::{HeapReport, Report};
+use hprof_questions::{HeapReport, Report, laws as questions_laws};
 use hprof_tool::laws;
 
 /// Calls each law of the engine, of the reports, of salvage, of names and of the 1.0.1 dump.
@@ -20,7 +20,9 @@ pub fn call_laws() {
     laws::what_is_saved_comes_to_one_thing();
     laws::what_is_saved_stands_before_the_fault();
     laws::one_text_is_made_of_parts(&Dump);
-    laws::one_text_is_made_of_parts(&Report::Heap(HeapReport::Check));
+    laws::one_text_is_made_of_parts(&Reporting {
+        report: Report::Heap(HeapReport::Check),
+    });
     laws::one_text_is_made_of_parts(&Dump101);
     laws::what_comes_to_the_same_is_made_into_the_same(&Dump);
     laws::what_comes_to_the_same_is_made_into_the_same(&Dump101);
@@ -33,6 +35,6 @@ pub fn call_laws() {
     naming_laws::dots_count_as_slashes();
     naming_laws::all_pairs_count();
     ask_laws::a_report_is_one_text();
-    ask_laws::a_line_asks_one_thing();
+    questions_laws::a_line_asks_one_thing();
     ask_laws::answers_over_parts_are_one_text();
 }

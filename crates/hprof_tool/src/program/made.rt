@@ -10,7 +10,7 @@ ghost use Rattle.hprof_tool.specs.Again.{IsReadyFor};
 ghost use Rattle.hprof_tool.specs.Program.{usual_limits};
 
 use crate::program::again::Again;
-use hprof_ask::{refs_to, who_to};
+use hprof_ask::{Reporting, refs_to, who_to};
 use hprof_devices::{Source, Target};
 use hprof_engine::{Dump, Dump101, Product, ToolFault, make_to};
 use hprof_handles::{Handles, ReadAt};
@@ -235,7 +235,7 @@ impl<'a> Made for Report<'a> {
         if let Some(passed) = PassedReport::of(*self) {
             return match again {
                 Some(again) => make_again(alloc, &passed, readers, again, target),
-                None => make_of_heap(alloc, self, readers, target),
+                None => make_of_heap(alloc, &Reporting { report: *self }, readers, target),
             };
         }
         match *self {
@@ -245,7 +245,7 @@ impl<'a> Made for Report<'a> {
             Report::Node(NodeReport::Who, Node::Identifier(id)) => {
                 who_to(alloc, readers, id, target, Limits::usual())
             }
-            _ => make_of_heap(alloc, self, readers, target),
+            _ => make_of_heap(alloc, &Reporting { report: *self }, readers, target),
         }
     }
 }

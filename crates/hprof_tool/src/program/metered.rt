@@ -15,7 +15,7 @@ use hprof_scratch::LateScratch;
 use std::alloc::{AllocError, Global};
 use std::fs::{File, OpenOptions};
 use std::io::{BufWriter, ErrorKind, Read, Write};
-use std::os::unix::fs::FileExt;
+use std::os::unix::fs::{FileExt, OpenOptionsExt};
 use std::rt::{Clock, Files};
 use std::{fs, io};
 
