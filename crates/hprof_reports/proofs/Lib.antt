@@ -8,5 +8,5 @@ pub mod KnownChains
 pub mod Places
 pub mod Finding
 pub mod SomeRoots
-pub mod Contents
+pub mod Digits
 pub mod WholeDumps

@@ -4,7 +4,7 @@ use Rattle.hex.specs.Hex.{encode_lower}
 use Rattle.hprof_devices.proofs.Writes.{WritesFront, WritesFront-more, WritesFront-then}
 use Rattle.hprof_lines.specs.Stopping.{WritesText}
 use Rattle.hprof_lines.proofs.TextWriting.{text_stops, text_then}
-use Rattle.hprof_reports.proofs.Contents.{contents_are}
+use Rattle.hprof_reports.proofs.Digits.{contents_are}
 use Rattle.hprof_reports.proofs.contents.write_contents.Goals as goal
 
 pub returns-in_err-write_str-clause-bytes : goal.returns-in_err-write_str-clause-bytes

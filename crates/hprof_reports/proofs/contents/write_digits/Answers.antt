@@ -2,7 +2,7 @@ use Rattle.std.proofs.Common.{◌≡◌, ◌∙◌, sym}
 use Rattle.std.proofs.lemmas.Result.{err_from_is_err_and}
 use Rattle.hex.specs.Hex.{encode_lower}
 use Rattle.hprof_devices.proofs.Writes.{Pushed-more, Pushed-all}
-use Rattle.hprof_reports.proofs.Contents.{digits_split, no_digits}
+use Rattle.hprof_reports.proofs.Digits.{digits_split, no_digits}
 use Rattle.hprof_reports.proofs.CheckLines.{Pushed-stops}
 use Rattle.hprof_text.proofs.Fronts.{ended}
 use Rattle.hprof_reports.proofs.contents.write_digits.Goals as goal

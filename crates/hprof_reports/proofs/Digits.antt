@@ -1,4 +1,4 @@
--- The contents of an array, whose digits are written piece by piece.
+-- Digits of the contents of an array, which are written piece by piece.
 use Rattle.std.proofs.Common.{◌≡◌, ℕ, List, [], ◌∷◌, ◌++◌, length, refl, ap, ◌∙◌, ◌==◌, false, codes}
 use Rattle.hex.specs.Hex.{encode_lower, encode_with, lower_digits}
 use Rattle.hprof_text.proofs.Prints.{encode_with-append}
