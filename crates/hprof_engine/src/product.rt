@@ -7,15 +7,19 @@ use crate::summaries::Summaries;
 use hprof_devices::{Target, WriteFault};
 use hprof_heap::Heap;
 use std::alloc::{AllocError, Global};
+use thiserror::Error;
 
 /// The reason why the writing of a product stopped.
-#[derive(Clone, Copy, Debug, PartialEq, Eq)]
+#[derive(Clone, Copy, Debug, PartialEq, Eq, Error)]
 pub enum WriteStop {
     /// The writer failed or stuck.
+    #[error("{0}")]
     Write(WriteFault),
     /// The heap was refused. Nothing was written.
+    #[error("{0}")]
     Refused(ProductRefusal),
     /// Memory ran out.
+    #[error("out of memory")]
     OutOfMemory,
 }
 
