@@ -14,3 +14,25 @@ pub enum AskFault {
     #[error("{0}")]
     Dialogue(DialogueStop),
 }
+
+impl From<ToolFault> for AskFault {
+    ghost use Rattle.std.specs.Prelude.{◌≡◌};
+    ghost use Rattle.hprof_ask.specs.declared.ask_fault.AskFault.TheVariants.{Parts};
+
+    ghost from_gives = { λ fault given. given ≡ Parts fault };
+
+    fn from(fault: ToolFault) -> AskFault {
+        AskFault::Parts(fault)
+    }
+}
+
+impl From<DialogueStop> for AskFault {
+    ghost use Rattle.std.specs.Prelude.{◌≡◌};
+    ghost use Rattle.hprof_ask.specs.declared.ask_fault.AskFault.TheVariants.{Dialogue};
+
+    ghost from_gives = { λ stop given. given ≡ Dialogue stop };
+
+    fn from(stop: DialogueStop) -> AskFault {
+        AskFault::Dialogue(stop)
+    }
+}

@@ -33,6 +33,26 @@ impl From<AllocError> for WriteStop {
     }
 }
 
+impl From<WriteFault> for WriteStop {
+    ghost use Rattle.hprof_engine.specs.declared.product.WriteStop.TheVariants.{Write};
+
+    ghost from_gives = { λ fault given. given ≡ Write fault };
+
+    fn from(fault: WriteFault) -> WriteStop {
+        WriteStop::Write(fault)
+    }
+}
+
+impl From<ProductRefusal> for WriteStop {
+    ghost use Rattle.hprof_engine.specs.declared.product.WriteStop.TheVariants.{Refused};
+
+    ghost from_gives = { λ refusal given. given ≡ Refused refusal };
+
+    fn from(refusal: ProductRefusal) -> WriteStop {
+        WriteStop::Refused(refusal)
+    }
+}
+
 /// A dump or a report: a text that is made of the heap that parts state, and of the summaries of the parts. It says which summaries it
 /// wants.
 pub trait Product: Summaries {

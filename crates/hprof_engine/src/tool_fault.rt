@@ -1,6 +1,6 @@
 //! Reasons why parts are refused.
 
-ghost use Rattle.std.specs.Prelude.{IfOk, string_bytes};
+ghost use Rattle.std.specs.Prelude.{◌≡◌, ◌++◌, IfOk, codes, decimal, string_bytes};
 ghost use Rattle.hprof_engine.specs.FaultText.{IsFaultText, IsPartText};
 
 use crate::loss::Loss;
@@ -84,5 +84,12 @@ fn text_of_part(alloc: Global, index: usize, fault: PartFault) -> Result<String,
     ensures { IfOk result (λ text. IsPartText index (string_bytes text)) }
 {
     let why = fault.to_string(alloc)?;
+    text_with(alloc, index, &why)
+}
+
+/// Returns the text of a part: its number, and why it was refused.
+fn text_with(alloc: Global, index: usize, why: &str) -> Result<String, AllocError>
+    ensures { IfOk result (λ text. string_bytes text ≡ codes "part " ++ (decimal index ++ (codes ": " ++ why.now))) }
+{
     format!(in alloc; "part {index}: {why}")
 }

@@ -29,3 +29,23 @@ impl From<AllocError> for DialogueStop {
         DialogueStop::OutOfMemory
     }
 }
+
+impl From<ReadFault> for DialogueStop {
+    ghost use Rattle.hprof_questions.specs.declared.stop.DialogueStop.TheVariants.{Questions};
+
+    ghost from_gives = { λ fault given. given ≡ Questions fault };
+
+    fn from(fault: ReadFault) -> DialogueStop {
+        DialogueStop::Questions(fault)
+    }
+}
+
+impl From<WriteFault> for DialogueStop {
+    ghost use Rattle.hprof_questions.specs.declared.stop.DialogueStop.TheVariants.{Write};
+
+    ghost from_gives = { λ fault given. given ≡ Write fault };
+
+    fn from(fault: WriteFault) -> DialogueStop {
+        DialogueStop::Write(fault)
+    }
+}
