@@ -18,7 +18,7 @@ use Rattle.hprof_layouts.specs.declared.field_value.FieldValue.{FieldValue}
 use Rattle.hprof_layouts.specs.Fields.{FieldsValue, Values, Missing, Cyclic, WidthDiffers, AreFields}
 use Rattle.hprof_naming.specs.Naming.{Naming, IsNaming}
 use Rattle.hprof_naming.specs.TypeWord.{type_word}
-use Rattle.hprof_lines.specs.Line.{line_of, each_line, text_of_lines}
+use Rattle.hprof_lines.specs.Line.{line_of, each_line, nothing_line, text_of_lines}
 use Rattle.hprof_reports.specs.Shown.{bits_text}
 
 -- ---- a class dump

@@ -7,6 +7,7 @@ use Rattle.hprof_items.specs.FactValue.{FactValue}
 use Rattle.hprof_rows.specs.Conflict.{IsConsistent}
 use Rattle.hprof_naming.specs.Texts.{TextValue, Units, NoText, Nothing, IsText}
 use Rattle.hprof_lines.specs.Line.{line_of, nothing_line}
+use Rattle.hprof_lines.specs.Printed.{printed_units}
 
 -- the number of units, and the units
 abbrev pub text_start : ℕ → List ℕ
