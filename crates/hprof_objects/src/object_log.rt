@@ -318,14 +318,17 @@ impl<S: Scratch + Drop> ObjectLog<S> {
         ensures piece { self.new.piece ≡ self.old.piece }
         ensures health { LeavesScratch result (S.health (scratch_of_log self.new)) }
     {
-        match self.growing {
+        match &mut self.growing {
             Some(growing) if growing.last < id && growing.stretch.count < u64::MAX => {
                 match growing.stands {
                     Stands::InPart => {
-                        self.growing = Some(growing.with(id, spelled.len()));
+                        growing.grow(id, spelled.len());
                         Ok(())
                     }
-                    Stands::InMemory(from) => self.extend(growing, from, id, spelled),
+                    Stands::InMemory(from) => {
+                        let growing = *growing;
+                        self.extend(growing, from, id, spelled)
+                    }
                 }
             }
             _ => self.start(id, spelled),
