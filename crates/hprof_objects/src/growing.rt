@@ -35,6 +35,17 @@ pub(crate) struct Growing {
 impl Growing {
     ghost use Rattle.hprof_objects.specs.Growing.{extended, grown_first, grown_in_part};
 
+    /// Adds one object more, in place.
+    #[inline(always)]
+    pub(crate) fn grow(&mut self, id: u64, len: usize)
+        requires { self.old.stretch.count < 2 ^ 64 - 1 }
+        ensures { self.new ≡ extended self.old id len }
+    {
+        self.stretch.count += 1;
+        self.last = id;
+        self.size = self.size.saturating_add(len as u64);
+    }
+
     /// Returns the stretch with one object more.
     #[inline(always)]
     pub(crate) fn with(self, id: u64, len: usize) -> Growing
