@@ -68,19 +68,19 @@ fn piece_at(place: Option<PartPlace>) -> Option<Piece>
     }
 }
 
-/// Returns the piece with one fact more that was taken of it. Where they cannot be counted, no stretch may begin behind them.
+/// Counts one fact more that was taken of the piece. Where they cannot be counted, no stretch may begin behind them.
 #[inline(always)]
-fn with_one_more(piece: Option<Piece>) -> Option<Piece>
-    ensures { (limits : Limits) (part : PartRead) (fact : FactValue) → IsPieceOf limits part piece
-        → IsPieceOf limits (with_fact part fact) result }
+fn pass_one(piece: &mut Option<Piece>)
+    ensures { (limits : Limits) (part : PartRead) (fact : FactValue) → IsPieceOf limits part piece.old
+        → IsPieceOf limits (with_fact part fact) piece.new }
 {
-    match piece {
-        Some(Piece { place, passed }) if passed < u64::MAX => Some(Piece {
-            place,
-            passed: passed + 1,
-        }),
-        _ => None,
+    if let Some(begun) = piece {
+        if begun.passed < u64::MAX {
+            begun.passed += 1;
+            return;
+        }
     }
+    *piece = None;
 }
 
 impl<S: Scratch + Drop> ObjectLog<S> {
@@ -183,7 +183,7 @@ impl<S: Scratch + Drop> ObjectLog<S> {
             → HasLogged S.written S.health limits parts (with_fact part fact) self.new }
         ensures scratch { scratch_of_log self.new ≡ scratch_of_log self.old }
     {
-        self.piece = with_one_more(self.piece);
+        pass_one(&mut self.piece);
     }
 
     /// Returns whether a stretch of so many bytes may stay in its part. Then there is room for it.
@@ -353,7 +353,7 @@ impl<S: Scratch + Drop> ObjectLog<S> {
         ensures health { LeavesScratch result (S.health (scratch_of_log self.new)) }
     {
         let outcome = self.take_row(id, spelled);
-        self.piece = with_one_more(self.piece);
+        pass_one(&mut self.piece);
         outcome
     }
 }

@@ -2,7 +2,8 @@
 
 ghost use Rattle.std.specs.Prelude.{◌≡◌};
 
-use crate::object_row::object_of_row;
+use crate::object_row::read_object;
+use hprof_items::Fact;
 use hprof_merge::RowSink;
 use hprof_passes::ObjectSink;
 use hprof_values::IdSize;
@@ -48,9 +49,10 @@ impl<T: ObjectSink> RowSink for RowDecoder<'_, T> {
     type Fault = RowRefusal<T::Fault>;
 
     fn take(&mut self, _key: u64, bytes: &[u8]) -> Result<(), RowRefusal<T::Fault>> {
-        let Some(object) = object_of_row(bytes, self.ids) else {
+        let mut object = Fact::End { thread: 0 };
+        if !read_object(bytes, self.ids, &mut object) {
             return Err(RowRefusal::NoObject);
-        };
+        }
         match self.sink.take(self.ids, &object) {
             Ok(()) => Ok(()),
             Err(fault) => Err(RowRefusal::Sink(fault)),

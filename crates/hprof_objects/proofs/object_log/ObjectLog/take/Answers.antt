@@ -12,6 +12,6 @@ on_ok (Err fault) holds then = tt
 pub returns-clause-log : goal.returns-clause-log
 returns-clause-log g c = on_ok c.take_row-outcome.result c.take_row-outcome.ensures.log (λ taken limits parts part fact it object. (
   taken limits parts part fact it object,
-  c.with_one_more-self.ensures limits part fact
+  c.pass_one.ensures limits part fact
       (subst (λ (p : Option Piece). IsPieceOf limits part p) (sym c.take_row-outcome.ensures.piece) it.1),
 ))
