@@ -23,9 +23,6 @@ fn main(rt: HostRuntime) -> io::Result<()> {
                 joined.parts, joined.facts
             )
         }
-        Err(fault) => {
-            let text = fault.text(rt.alloc())?;
-            println!(rt; "{text}")
-        }
+        Err(fault) => println!(rt; "{fault}"),
     }
 }

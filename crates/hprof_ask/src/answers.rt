@@ -15,7 +15,7 @@ use hprof_devices::Target;
 use hprof_engine::WriteStop;
 use hprof_lines::write_str;
 use hprof_questions::{
-    ALL, Answers, DialogueStop, Follows, Misnamed, Question, Report, ReportWord,
+    Answers, DialogueStop, Follows, Misnamed, Question, Report, ReportWord,
 };
 use std::alloc::Global;
 
@@ -47,7 +47,7 @@ fn write_usages<W: Target>(target: &mut W) -> Result<(), WriteStop>
     ensures bytes { WritesText (W.written target.old) (W.written target.new) result (flat_map usage_line all_words) }
     ensures health { LeavesTarget result (W.health target.new) }
 {
-    for word in &ALL {
+    for word in &ReportWord::ALL {
         write_usage(*word, target)?;
     }
     Ok(())

@@ -1,8 +1,7 @@
 -- The texts of refusals, each in one line, this project's own.
-use Rattle.std.specs.Prelude.{◌≡◌, ℕ, List, ◌++◌, codes, decimal}
-use Rattle.hprof_text.specs.Identifier.{id_digits}
+use Rattle.std.specs.Prelude.{◌≡◌, ℕ, List, ◌++◌, Option, None, Some, codes, decimal}
 use Rattle.hprof_rows.specs.declared.key.Key.{Key}
-use Rattle.hprof_rows.specs.declared.key.Key.TheVariants as keys
+use Rattle.hprof_rows.specs.KeyText.{key_text}
 use Rattle.hprof_engine.specs.declared.product_refusal.ProductRefusal.{ProductRefusal}
 use Rattle.hprof_engine.specs.declared.product_refusal.ProductRefusal.TheVariants as products
 use Rattle.hprof_engine.specs.declared.loss.Loss.{Loss}
@@ -10,15 +9,9 @@ use Rattle.hprof_engine.specs.declared.loss.Loss.TheVariants as losses
 use Rattle.hprof_engine.specs.declared.tool_fault.ToolFault.{ToolFault}
 use Rattle.hprof_engine.specs.declared.tool_fault.ToolFault.TheVariants as tool
 
--- where a conflict is: an identifier in hexadecimal, a serial in decimal
+-- where a conflict is
 abbrev pub conflict_text : Key → List ℕ
-conflict_text (keys.Name id) = codes "conflict at name " ++ id_digits id
-conflict_text (keys.Load serial) = codes "conflict at load " ++ decimal serial
-conflict_text (keys.Frame id) = codes "conflict at frame " ++ id_digits id
-conflict_text (keys.Trace serial) = codes "conflict at trace " ++ decimal serial
-conflict_text (keys.Thread serial) = codes "conflict at thread " ++ decimal serial
-conflict_text (keys.Class id) = codes "conflict at class " ++ id_digits id
-conflict_text (keys.Object id) = codes "conflict at object " ++ id_digits id
+conflict_text key = codes "conflict at " ++ key_text key
 
 -- why a heap was refused
 abbrev pub refusal_text : ProductRefusal → List ℕ
@@ -40,13 +33,18 @@ loss_text (losses.Read index) = lost_part index (codes "read failed")
 loss_text losses.Objects = codes "objects changed"
 loss_text losses.Scratch = codes "scratch failed"
 
+-- the text of a fault, unless it is one of a part
+abbrev pub known_text : ToolFault → Option (List ℕ)
+known_text (tool.Part index fault) = None
+known_text tool.NoParts = Some (codes "no parts")
+known_text tool.IdSizes = Some (codes "identifier sizes differ")
+known_text (tool.Conflict key) = Some (conflict_text key)
+known_text (tool.Refused refusal) = Some (refusal_text refusal)
+known_text (tool.Lost loss) = Some (loss_text loss)
+known_text (tool.Write fault) = Some (codes "write failed")
+known_text tool.OutOfMemory = Some (codes "out of memory")
+
 -- this is the text of a fault
 abbrev pub IsFaultText : ToolFault → List ℕ → Type 0
 IsFaultText (tool.Part index fault) text = IsPartText index text
-IsFaultText tool.NoParts text = text ≡ codes "no parts"
-IsFaultText tool.IdSizes text = text ≡ codes "identifier sizes differ"
-IsFaultText (tool.Conflict key) text = text ≡ conflict_text key
-IsFaultText (tool.Refused refusal) text = text ≡ refusal_text refusal
-IsFaultText (tool.Lost loss) text = text ≡ loss_text loss
-IsFaultText (tool.Write fault) text = text ≡ codes "write failed"
-IsFaultText tool.OutOfMemory text = text ≡ codes "out of memory"
+IsFaultText other text = known_text other ≡ Some text

@@ -1,10 +1,7 @@
 //! Reasons why objects are lost that were read once.
 
-ghost use Rattle.std.specs.Prelude.{◌≡◌, IfOk, string_bytes};
-ghost use Rattle.hprof_engine.specs.FaultText.{loss_text};
-
-use crate::tool_fault::text_with;
-use std::alloc::{AllocError, Global};
+use std::error::Error;
+use std::fmt;
 
 /// The reason why objects are lost that were read once. They stayed in their parts, or went to scratch.
 #[derive(Clone, Copy, Debug, PartialEq, Eq)]
@@ -19,16 +16,21 @@ pub enum Loss {
     Scratch,
 }
 
-impl Loss {
-    /// Returns its text, in one line. If memory runs out, the answer is `AllocError`.
-    pub(crate) fn text(self, alloc: Global) -> Result<String, AllocError>
-        ensures { IfOk result (λ text. string_bytes text ≡ loss_text self) }
-    {
-        match self {
-            Loss::Changed(index) => text_with(alloc, index, "changed"),
-            Loss::Read(index) => text_with(alloc, index, "read failed"),
-            Loss::Objects => String::from_str(alloc, "objects changed"),
-            Loss::Scratch => String::from_str(alloc, "scratch failed"),
+/// Prints it as the program does, in one line.
+impl fmt::Display for Loss {
+    ghost use Rattle.std.specs.Prelude.{Some};
+    ghost use Rattle.hprof_engine.specs.FaultText.{loss_text};
+
+    ghost output = { λ loss. Some (loss_text loss) };
+
+    fn fmt<W: fmt::Write>(&self, f: &mut fmt::Formatter<W>) -> fmt::Result {
+        match *self {
+            Loss::Changed(index) => write!(f, "part {index}: changed"),
+            Loss::Read(index) => write!(f, "part {index}: read failed"),
+            Loss::Objects => f.write_str("objects changed"),
+            Loss::Scratch => f.write_str("scratch failed"),
         }
     }
 }
+
+impl Error for Loss {}

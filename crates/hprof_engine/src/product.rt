@@ -7,15 +7,19 @@ use crate::summaries::Summaries;
 use hprof_devices::{Target, WriteFault};
 use hprof_heap::Heap;
 use std::alloc::{AllocError, Global};
+use thiserror::Error;
 
 /// The reason why the writing of a product stopped.
-#[derive(Clone, Copy, Debug, PartialEq, Eq)]
+#[derive(Clone, Copy, Debug, PartialEq, Eq, Error)]
 pub enum WriteStop {
     /// The writer failed or stuck.
+    #[error("{0}")]
     Write(WriteFault),
     /// The heap was refused. Nothing was written.
+    #[error("{0}")]
     Refused(ProductRefusal),
     /// Memory ran out.
+    #[error("out of memory")]
     OutOfMemory,
 }
 
@@ -26,6 +30,26 @@ impl From<AllocError> for WriteStop {
 
     fn from(_error: AllocError) -> WriteStop {
         WriteStop::OutOfMemory
+    }
+}
+
+impl From<WriteFault> for WriteStop {
+    ghost use Rattle.hprof_engine.specs.declared.product.WriteStop.TheVariants.{Write};
+
+    ghost from_gives = { λ fault given. given ≡ Write fault };
+
+    fn from(fault: WriteFault) -> WriteStop {
+        WriteStop::Write(fault)
+    }
+}
+
+impl From<ProductRefusal> for WriteStop {
+    ghost use Rattle.hprof_engine.specs.declared.product.WriteStop.TheVariants.{Refused};
+
+    ghost from_gives = { λ refusal given. given ≡ Refused refusal };
+
+    fn from(refusal: ProductRefusal) -> WriteStop {
+        WriteStop::Refused(refusal)
     }
 }
 

@@ -3,6 +3,9 @@
 ghost use Rattle.std.specs.Prelude.{◌≡◌};
 ghost use Rattle.hprof_engine.specs.FaultText.{refusal_text};
 
+use std::error::Error;
+use std::fmt;
+
 /// The reason why a product is not made of a heap. It is found before the first byte is written.
 #[derive(Clone, Copy, Debug, PartialEq, Eq)]
 pub enum ProductRefusal {
@@ -23,3 +26,16 @@ impl ProductRefusal {
         }
     }
 }
+
+/// Prints its text.
+impl fmt::Display for ProductRefusal {
+    ghost use Rattle.std.specs.Prelude.{Some};
+
+    ghost output = { λ refusal. Some (refusal_text refusal) };
+
+    fn fmt<W: fmt::Write>(&self, f: &mut fmt::Formatter<W>) -> fmt::Result {
+        f.write_str(self.text())
+    }
+}
+
+impl Error for ProductRefusal {}

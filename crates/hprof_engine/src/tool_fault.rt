@@ -1,16 +1,16 @@
 //! Reasons why parts are refused.
 
 ghost use Rattle.std.specs.Prelude.{◌≡◌, ◌++◌, IfOk, codes, decimal, string_bytes};
-ghost use Rattle.hprof_text.specs.Identifier.{id_digits};
-ghost use Rattle.hprof_engine.specs.FaultText.{IsFaultText, IsPartText, conflict_text};
+ghost use Rattle.hprof_engine.specs.FaultText.{IsFaultText, IsPartText};
 
 use crate::loss::Loss;
 use crate::product_refusal::ProductRefusal;
 use hprof_devices::WriteFault;
 use hprof_heap::Key;
 use hprof_stream::PartFault;
-use hprof_text::push_id;
 use std::alloc::{AllocError, Global};
+use std::error::Error;
+use std::fmt;
 
 /// The reason why no product was made of parts. The first part with a fault comes first, then no parts, two sizes of identifiers, a
 /// conflict, a heap that is refused, and the writer last.
@@ -39,6 +39,28 @@ pub enum ToolFault {
     OutOfMemory,
 }
 
+/// Prints it as the program does, in one line.
+impl fmt::Display for ToolFault {
+    ghost use Rattle.hprof_engine.specs.FaultText.{known_text};
+
+    ghost output = { known_text };
+
+    fn fmt<W: fmt::Write>(&self, f: &mut fmt::Formatter<W>) -> fmt::Result {
+        match self {
+            ToolFault::Part { index, fault } => write!(f, "part {index}: {fault}"),
+            ToolFault::NoParts => f.write_str("no parts"),
+            ToolFault::IdSizes => f.write_str("identifier sizes differ"),
+            ToolFault::Conflict(key) => write!(f, "conflict at {key}"),
+            ToolFault::Refused(refusal) => f.write_str(refusal.text()),
+            ToolFault::Lost(loss) => write!(f, "{loss}"),
+            ToolFault::Write(_) => f.write_str("write failed"),
+            ToolFault::OutOfMemory => f.write_str("out of memory"),
+        }
+    }
+}
+
+impl Error for ToolFault {}
+
 impl ToolFault {
     /// Returns its text, in one line. If memory runs out, the answer is `AllocError`.
     pub fn text(&self, alloc: Global) -> Result<String, AllocError>
@@ -46,13 +68,13 @@ impl ToolFault {
     {
         match *self {
             ToolFault::Part { index, fault } => text_of_part(alloc, index, fault),
-            ToolFault::NoParts => String::from_str(alloc, "no parts"),
-            ToolFault::IdSizes => String::from_str(alloc, "identifier sizes differ"),
-            ToolFault::Conflict(key) => text_of_conflict(alloc, key),
-            ToolFault::Refused(refusal) => String::from_str(alloc, refusal.text()),
-            ToolFault::Lost(loss) => loss.text(alloc),
-            ToolFault::Write(_) => String::from_str(alloc, "write failed"),
-            ToolFault::OutOfMemory => String::from_str(alloc, "out of memory"),
+            ToolFault::NoParts
+            | ToolFault::IdSizes
+            | ToolFault::Conflict(_)
+            | ToolFault::Refused(_)
+            | ToolFault::Lost(_)
+            | ToolFault::Write(_)
+            | ToolFault::OutOfMemory => self.to_string(alloc),
         }
     }
 }
@@ -65,33 +87,9 @@ fn text_of_part(alloc: Global, index: usize, fault: PartFault) -> Result<String,
     text_with(alloc, index, &why)
 }
 
-/// Returns the text of a part: its number, and why it was refused or lost.
-pub(crate) fn text_with(alloc: Global, index: usize, why: &str) -> Result<String, AllocError>
+/// Returns the text of a part: its number, and why it was refused.
+fn text_with(alloc: Global, index: usize, why: &str) -> Result<String, AllocError>
     ensures { IfOk result (λ text. string_bytes text ≡ codes "part " ++ (decimal index ++ (codes ": " ++ why.now))) }
 {
     format!(in alloc; "part {index}: {why}")
-}
-
-/// Returns the text of a conflict: identifiers in hexadecimal, serials in decimal.
-fn text_of_conflict(alloc: Global, key: Key) -> Result<String, AllocError>
-    ensures { IfOk result (λ text. string_bytes text ≡ conflict_text key) }
-{
-    match key {
-        Key::Name(id) => text_of_id(alloc, "name", id),
-        Key::Load(serial) => format!(in alloc; "conflict at load {serial}"),
-        Key::Frame(id) => text_of_id(alloc, "frame", id),
-        Key::Trace(serial) => format!(in alloc; "conflict at trace {serial}"),
-        Key::Thread(serial) => format!(in alloc; "conflict at thread {serial}"),
-        Key::Class(id) => text_of_id(alloc, "class", id),
-        Key::Object(id) => text_of_id(alloc, "object", id),
-    }
-}
-
-/// Returns the text of a conflict at an identifier.
-fn text_of_id(alloc: Global, word: &str, id: u64) -> Result<String, AllocError>
-    ensures { IfOk result (λ text. string_bytes text ≡ codes "conflict at " ++ word.now ++ codes " " ++ id_digits id) }
-{
-    let mut text = format!(in alloc; "conflict at {word} ")?;
-    push_id(&mut text, id)?;
-    Ok(text)
 }

@@ -20,6 +20,7 @@ use std::alloc::Global;
 
 mod differing;
 mod joining;
+mod listing;
 mod stating;
 
 /// An identifier size, a time, and a set of facts in which each key has one content.

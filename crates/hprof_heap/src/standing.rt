@@ -1,6 +1,7 @@
 //! The standing of a gatherer, and the reasons why it has no heap.
 
 use hprof_rows::Key;
+use thiserror::Error;
 
 /// Whether the parts so far make a heap.
 #[derive(Clone, Copy, Debug, PartialEq, Eq)]
@@ -16,14 +17,18 @@ pub enum Standing {
 }
 
 /// The reason why a gatherer has no heap.
-#[derive(Clone, Copy, Debug, PartialEq, Eq)]
+#[derive(Clone, Copy, Debug, PartialEq, Eq, Error)]
 pub enum Refusal {
     /// No part was begun.
+    #[error("no parts")]
     NoParts,
     /// Parts have two identifier sizes.
+    #[error("identifier sizes differ")]
     IdSizes,
     /// The least key that came with two contents.
+    #[error("conflict at {0}")]
     Conflict(Key),
     /// A call returned a fault.
+    #[error("gatherer failed")]
     Failed,
 }

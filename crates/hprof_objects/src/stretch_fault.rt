@@ -3,15 +3,19 @@
 ghost use Rattle.std.specs.Prelude.{◌≡◌};
 
 use hprof_stream::PartFault;
+use thiserror::Error;
 
 /// The reason why the objects of a stretch cannot be read again.
-#[derive(Clone, Copy, Debug, PartialEq, Eq)]
+#[derive(Clone, Copy, Debug, PartialEq, Eq, Error)]
 pub enum StretchFault {
     /// Memory ran out.
+    #[error("out of memory")]
     OutOfMemory,
     /// The source of the part failed, or more reads are needed than the limit.
+    #[error("read failed")]
     Read,
     /// The part has changed: it ended or was refused before all objects came, or an object is not above the one before.
+    #[error("changed")]
     Changed,
 }
 

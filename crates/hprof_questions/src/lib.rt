@@ -15,6 +15,6 @@ pub use asker::Asker;
 pub use dialogue::{Answers, converse};
 pub use question::{Question, question_of};
 pub use report::{HeapReport, KindReport, Kinds, Node, NodeReport, Report};
-pub use report_word::{ALL, Follows, ReportRow, ReportWord};
+pub use report_word::{Follows, ReportRow, ReportWord};
 pub use stop::DialogueStop;
 pub use subject::Misnamed;

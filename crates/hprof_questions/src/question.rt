@@ -6,7 +6,7 @@ ghost use Rattle.hprof_questions.specs.Asked.{Asks, IsLineOf, IsNamed, IsQuestio
 ghost use Rattle.hprof_questions.specs.Lines.{IsBeforeFeed};
 
 use crate::report::Report;
-use crate::report_word::{ALL, Follows, ReportWord};
+use crate::report_word::{Follows, ReportWord};
 use crate::subject::Misnamed;
 
 /// The length of the longest line that is understood, in bytes.
@@ -71,7 +71,7 @@ fn words_of(line: &[u8]) -> Option<(ReportWord, &[u8])>
     ensures { MatchOption result ((word : ReportWord) (text : List ℕ) → IsLineOf line.now word text → ⊥)
         (λ it. IsLineOf line.now it.0 it.1.now) }
 {
-    for word in &ALL {
+    for word in &ReportWord::ALL {
         if let Some(text) = text_behind(line, *word) {
             return Some((*word, text));
         }

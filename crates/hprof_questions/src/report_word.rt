@@ -45,26 +45,6 @@ pub struct ReportRow {
     pub help: &'static str,
 }
 
-/// All reports, in the order in which the dialogue's help lists them.
-pub const ALL: [ReportWord; 16] = [
-    ReportWord::Heap(HeapReport::Check),
-    ReportWord::Heap(HeapReport::Histogram),
-    ReportWord::Heap(HeapReport::Classes),
-    ReportWord::Heap(HeapReport::Threads),
-    ReportWord::Heap(HeapReport::Suspects),
-    ReportWord::Heap(HeapReport::Retained),
-    ReportWord::Kind(KindReport::Biggest),
-    ReportWord::Kind(KindReport::Objects),
-    ReportWord::Node(NodeReport::Show),
-    ReportWord::Node(NodeReport::Why),
-    ReportWord::Node(NodeReport::Who),
-    ReportWord::Node(NodeReport::Keeps),
-    ReportWord::Node(NodeReport::Text),
-    ReportWord::Node(NodeReport::Object),
-    ReportWord::Node(NodeReport::Refs),
-    ReportWord::Node(NodeReport::Path),
-];
-
 /// Returns the row of a report on the parts, or on the whole heap.
 fn heap_row(report: HeapReport) -> ReportRow
     ensures word { result.word.now ≡ heap_word report }
@@ -189,6 +169,26 @@ fn node_row(report: NodeReport) -> ReportRow
 }
 
 impl ReportWord {
+    /// All reports, in the order in which the dialogue's help lists them.
+    pub const ALL: [ReportWord; 16] = [
+        ReportWord::Heap(HeapReport::Check),
+        ReportWord::Heap(HeapReport::Histogram),
+        ReportWord::Heap(HeapReport::Classes),
+        ReportWord::Heap(HeapReport::Threads),
+        ReportWord::Heap(HeapReport::Suspects),
+        ReportWord::Heap(HeapReport::Retained),
+        ReportWord::Kind(KindReport::Biggest),
+        ReportWord::Kind(KindReport::Objects),
+        ReportWord::Node(NodeReport::Show),
+        ReportWord::Node(NodeReport::Why),
+        ReportWord::Node(NodeReport::Who),
+        ReportWord::Node(NodeReport::Keeps),
+        ReportWord::Node(NodeReport::Text),
+        ReportWord::Node(NodeReport::Object),
+        ReportWord::Node(NodeReport::Refs),
+        ReportWord::Node(NodeReport::Path),
+    ];
+
     /// Returns the row of the report.
     pub fn row(self) -> ReportRow
         ensures word { result.word.now ≡ word_of self }
@@ -205,7 +205,7 @@ impl ReportWord {
     pub fn of(word: &[u8]) -> Option<ReportWord>
         ensures { MatchOption result ((report : ReportWord) → word.now ≢ word_of report) (λ report. word.now ≡ word_of report) }
     {
-        for report in &ALL {
+        for report in &ReportWord::ALL {
             if report.row().word.as_bytes() == word {
                 return Some(*report);
             }

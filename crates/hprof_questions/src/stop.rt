@@ -4,15 +4,19 @@ ghost use Rattle.std.specs.Prelude.{◌≡◌};
 
 use hprof_devices::{ReadFault, WriteFault};
 use std::alloc::AllocError;
+use thiserror::Error;
 
 /// The reason why a dialogue stopped before the end of the questions, and before a line that ends it.
-#[derive(Clone, Copy, Debug, PartialEq, Eq)]
+#[derive(Clone, Copy, Debug, PartialEq, Eq, Error)]
 pub enum DialogueStop {
     /// The questions could not be read on.
+    #[error("{0}")]
     Questions(ReadFault),
     /// The writer failed or stuck.
+    #[error("{0}")]
     Write(WriteFault),
     /// Memory was refused.
+    #[error("out of memory")]
     OutOfMemory,
 }
 
@@ -23,5 +27,25 @@ impl From<AllocError> for DialogueStop {
 
     fn from(_error: AllocError) -> DialogueStop {
         DialogueStop::OutOfMemory
+    }
+}
+
+impl From<ReadFault> for DialogueStop {
+    ghost use Rattle.hprof_questions.specs.declared.stop.DialogueStop.TheVariants.{Questions};
+
+    ghost from_gives = { λ fault given. given ≡ Questions fault };
+
+    fn from(fault: ReadFault) -> DialogueStop {
+        DialogueStop::Questions(fault)
+    }
+}
+
+impl From<WriteFault> for DialogueStop {
+    ghost use Rattle.hprof_questions.specs.declared.stop.DialogueStop.TheVariants.{Write};
+
+    ghost from_gives = { λ fault given. given ≡ Write fault };
+
+    fn from(fault: WriteFault) -> DialogueStop {
+        DialogueStop::Write(fault)
     }
 }

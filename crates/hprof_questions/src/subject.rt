@@ -12,11 +12,13 @@ use crate::report_word::ReportWord;
 use hprof_histogram::Kind;
 use hprof_naming::arrays_named;
 use hprof_text::parse_id;
+use thiserror::Error;
 
 /// The reason why a text behind the word of a report asks for nothing.
-#[derive(Clone, Copy, Debug, PartialEq, Eq)]
+#[derive(Clone, Copy, Debug, PartialEq, Eq, Error)]
 pub enum Misnamed {
     /// The text is no identifier, and the report takes nothing else.
+    #[error("not an identifier")]
     NoIdentifier,
 }
 

@@ -19,3 +19,4 @@ pub mod FactsLeft
 pub mod SubRow
 pub mod SubRows
 pub mod SubFacts
+pub mod KeyText

@@ -3,7 +3,5 @@ pub mod Held
 pub mod Takes
 pub mod Mapped
 pub mod Viewed
-pub mod OverSame
-pub mod IntoWriter
 pub mod RowRuns
 pub mod FactSubs

@@ -4,17 +4,22 @@ use hprof_engine::{Loss, ToolFault};
 use hprof_heap::Key;
 use hprof_objects::StretchFault;
 use hprof_runs::RunFault;
+use thiserror::Error;
 
 /// The reason why the objects of parts cannot be gone through.
-#[derive(Clone, Copy, Debug, PartialEq, Eq)]
+#[derive(Clone, Copy, Debug, PartialEq, Eq, Error)]
 pub enum PassFault {
     /// Memory ran out.
+    #[error("out of memory")]
     OutOfMemory,
     /// Two objects have this identifier and different contents. No lower identifier has two contents.
+    #[error("conflict at object {0:x}")]
     TwoContents(u64),
     /// Objects that went to scratch cannot be read back.
+    #[error("{0}")]
     Scratch(RunFault),
     /// Objects that stayed in a part cannot be read again.
+    #[error("part {part}: {fault}")]
     Part {
         /// The number of the part, from 0.
         part: usize,
@@ -22,8 +27,10 @@ pub enum PassFault {
         fault: StretchFault,
     },
     /// What came is no object. It never is, if the parts are as they were read and the scratch tells its bytes.
+    #[error("objects changed")]
     NoObject,
     /// There are more objects than a `u64` can count: 2^64. Only `count` answers it.
+    #[error("too many objects")]
     TooMany,
 }
 

@@ -27,3 +27,13 @@ impl Limits {
         }
     }
 }
+
+/// Those of the program.
+impl Default for Limits {
+    ghost is_default = { λ limits. (limits.max_item ≡ 4294967295) × (limits.max_reads ≡ 1099511627776)
+        × (limits.max_bytes ≡ 18446744073709551615) };
+
+    fn default() -> Limits {
+        Limits::usual()
+    }
+}

@@ -38,8 +38,9 @@ impl ReadAt for ReadOnce {
     }
 }
 
-/// Returns what is needed to go through the objects of a part that is read once. `None` is for want of memory.
+/// Returns what is needed to go through the objects of a part that is read once. No stretch stays in it. `None` is for want of memory.
 fn again_once<F: Folder>(alloc: Global, files: &F) -> Option<Again<ReadOnce, F::Scratch>>
+    ensures none { IfSome result (λ again. again.keeping.stretches ≡ 0) }
     ensures nothing { IfSome result (λ again. HoldsNothing (F.Scratch.written again.scratch)) }
     ensures well { IfSome result (λ again. F.Scratch.health again.scratch ≡ Well) }
 {
@@ -61,6 +62,7 @@ pub(crate) fn with_again<F: Folder, R: Source>(
 ) -> (R, Option<Again<ReadOnce, F::Scratch>>)
     requires untold { R.left part ≡ None }
     requires well { R.health part ≡ Well }
+    ensures none { IfSome result.1 (λ again. again.keeping.stretches ≡ 0) }
     ensures same { result.0 ≡ part }
     ensures well { R.health result.0 ≡ Well }
     ensures ready { IfSome result.1 (IsReadyFor R.left (λ _. None) F.Scratch.written F.Scratch.health (result.0 ∷ [])) }

@@ -52,8 +52,9 @@ pub(crate) trait Folder {
     /// Returns how the objects of the parts are kept: none stays in a part that is read once.
     fn keeping(&self, parts: &[Self::Part]) -> Keeping;
 
-    /// Returns the same of a part that is read once.
-    fn keeping_once(&self) -> Keeping;
+    /// Returns the same of a part that is read once: no stretch stays in it.
+    fn keeping_once(&self) -> Keeping
+        ensures { result.stretches ≡ 0 };
 
     /// Returns scratch without bytes. It is beside the new file, if one is written.
     fn scratch(&self, alloc: Global, out: Option<&str>) -> Result<Self::Scratch, AllocError>
