@@ -1,9 +1,7 @@
 //! Reads a part into a heap that keeps its references, and prints the referrers of an object.
 #![tactic(auto)]
 
-use hprof_devices::Device;
-use hprof_graph::{Live, LiveHeap};
-use hprof_stream::{Limits, read_part};
+use hprof_tool::{Device, Limits, Live, LiveHeap, read_part};
 use std::io;
 
 /// A part with an array 17 of the class 100, whose one element is 16.
