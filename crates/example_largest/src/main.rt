@@ -1,15 +1,12 @@
 //! Prints the ten classes and types of the dump on standard input that take the most bytes: the bytes, the number of objects, the name.
 #![tactic(auto)]
 
+use anyhow::Result;
 use hprof_tool::{Device, Kind, Limits, class_label, histogram, read_heap, type_word};
-use std::io;
 
-fn main(rt: HostRuntime) -> io::Result<()> {
+fn main(rt: HostRuntime) -> Result<()> {
     let alloc = rt.alloc();
-    let heap = match read_heap(alloc, &mut [Device::new(rt.stdin())], Limits::usual()) {
-        Ok(heap) => heap,
-        Err(fault) => return println!(rt; "{fault}"),
-    };
+    let heap = read_heap(alloc, &mut [Device::new(rt.stdin())], Limits::usual())?;
     for row in histogram(alloc, &heap)?.iter().take(10) {
         match row.kind {
             Kind::Class(class) => {

@@ -1,19 +1,17 @@
 //! Prints the names of all classes that the dump on standard input loads.
 #![tactic(auto)]
 
+use anyhow::Result;
 use hprof_tool::{Device, Fact, FactReader, Limits, printed};
 use std::collections::BTreeMap;
-use std::io;
 
-fn main(rt: HostRuntime) -> io::Result<()> {
+fn main(rt: HostRuntime) -> Result<()> {
     let alloc = rt.alloc();
     let mut names = BTreeMap::new(alloc);
     let mut reader = FactReader::new(alloc, Device::new(rt.stdin()), Limits::usual())?;
     for _ in 0..u64::MAX {
-        match reader.advance() {
-            Ok(true) => {}
-            Ok(false) => break,
-            Err(fault) => return println!(rt; "{fault}"),
+        if !reader.advance()? {
+            break;
         }
         match reader.current() {
             Some(Fact::Name { id, text }) => {
