@@ -1,4 +1,6 @@
 //! Reports on parts and their heap: one of them, or many, which come as lines of questions.
+//!
+//! Begin with [`report_to`] and [`ask_to`].
 #![tactic(auto)]
 
 mod answerer;

@@ -1,4 +1,6 @@
 //! What the classes and objects of a heap retain, added up by label.
+//!
+//! Begin with [`write_retained`].
 #![tactic(auto)]
 
 mod kind_numbers;

@@ -1,4 +1,6 @@
 //! Tables of bytes by key: the bytes of all rows lie in one vector, each row after its length.
+//!
+//! Begin with [`BytesTable`].
 #![tactic(auto)]
 
 mod bytes_table;

@@ -1,4 +1,6 @@
 //! The command line: which words ask for which task.
+//!
+//! Begin with [`asked_of`].
 #![tactic(auto)]
 
 mod command;

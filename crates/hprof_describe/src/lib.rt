@@ -1,4 +1,6 @@
 //! Classes, objects and values, each in a line as people read it.
+//!
+//! Begin with [`node_text`] and [`value_text`].
 #![tactic(auto)]
 
 pub mod laws;

@@ -1,6 +1,8 @@
 //! Sources and targets of bytes, and the devices that make them of readers and writers of std.
 //!
 //! No call of this crate allocates.
+//!
+//! Begin with [`Device::new`], which makes a [`Source`] of any reader and a [`Target`] of any writer, as in example_join.
 #![tactic(auto)]
 
 mod buffered;

@@ -1,5 +1,7 @@
 //! The report `diff`: the classes and types whose objects grew from one heap to another, in number and in bytes. Objects are counted by
 //! label.
+//!
+//! Begin with [`diff_to`].
 #![tactic(auto)]
 
 mod change;

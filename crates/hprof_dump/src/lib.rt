@@ -2,6 +2,8 @@
 //! dump, with all sub-records in one HEAP_DUMP record, for tools that read no other.
 //!
 //! No call of this crate allocates.
+//!
+//! Begin with [`write_canonical`] and [`write_v101`]. example_join writes a canonical dump.
 #![tactic(auto)]
 
 mod batch;

@@ -1,4 +1,6 @@
 //! References between classes and objects, as edges: those in a class dump or an object dump, those from an identifier, and those to it.
+//!
+//! Begin with [`edges_of`] and [`referrers`], as in example_referrers.
 #![tactic(auto)]
 
 mod collect;

@@ -1,4 +1,6 @@
 //! Reads parts into one heap, and writes a dump or a report of it. Of damaged parts it joins the facts before each part's first fault.
+//!
+//! Begin with [`join_to`], as in example_join, [`join101_to`] and [`salvage_to`]. [`read_heap`] reads parts into any gatherer.
 #![tactic(auto)]
 
 mod counter;

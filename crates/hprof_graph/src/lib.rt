@@ -1,5 +1,7 @@
 //! The library interface: layouts of classes, fields of objects, references, the class histogram and paths from GC roots, for a heap that
 //! is complete, and [`LiveHeap`], which answers after every fact while a dump is still being read.
+//!
+//! Begin with [`histogram`], [`referrers`] and [`reach`], or with [`LiveHeap::new`], as in example_live.
 #![tactic(auto)]
 
 mod behind;

@@ -1,4 +1,6 @@
 //! Files that are read at offsets, as often as is wanted, and parts that are opened again in them.
+//!
+//! Begin with [`Handles`].
 #![tactic(auto)]
 
 mod handle_at;

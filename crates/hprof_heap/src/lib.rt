@@ -2,6 +2,8 @@
 //! names, and the facts of a table.
 //!
 //! The contracts of look-ups are stated in terms of the heap's facts.
+//!
+//! Begin with [`Gatherer`], into which parts are read, and the methods of [`Heap`]. example_largest reads a heap.
 #![tactic(auto)]
 
 mod class_dump;

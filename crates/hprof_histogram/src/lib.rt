@@ -1,4 +1,6 @@
 //! The class histogram of a heap: the number of objects of each kind, and the number of their bytes; and the list of a kind's objects.
+//!
+//! Begin with [`histogram`], as in example_largest, and [`objects_of`].
 #![tactic(auto)]
 
 mod chosen;

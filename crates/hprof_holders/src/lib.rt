@@ -1,4 +1,6 @@
 //! What holds objects: the reports `threads` and `who`, the lines of GC roots with their threads, and references in words.
+//!
+//! Begin with [`write_threads`] and [`write_who`].
 #![tactic(auto)]
 
 mod held_lines;

@@ -1,6 +1,8 @@
 //! The header, the record heads and the facts of an HPROF heap dump: reading each from bytes, and what its bytes are.
 //!
 //! The format is that of the comment "HPROF binary format" in OpenJDK's heapDumper.cpp. No call of this crate allocates.
+//!
+//! Begin with [`Fact`], which each record or sub-record states. [`read_head`] and [`read_body`] read a record, [`read_sub`] a sub-record.
 #![tactic(auto)]
 
 mod class_reading;

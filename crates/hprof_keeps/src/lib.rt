@@ -1,4 +1,6 @@
 //! Reports on retained memory: what keeps an object alive, what it keeps alive itself, and which objects of a class keep most alive.
+//!
+//! Begin with [`write_biggest`] and [`write_keeps`].
 #![tactic(auto)]
 
 mod biggest;

@@ -1,4 +1,6 @@
 //! The reports on parts that are larger than the memory: those that are made of passes over objects.
+//!
+//! Begin with [`PassedReport`].
 #![tactic(auto)]
 
 mod checked;

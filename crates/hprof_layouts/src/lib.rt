@@ -1,5 +1,7 @@
 //! Layouts of classes, and the fields of objects: for one class or object of a heap, or for many instances, with layouts that are updated
 //! as class dumps come. With these, finding the references of an instance costs time for its references, not for its fields.
+//!
+//! Begin with [`layout`] and [`fields`].
 #![tactic(auto)]
 
 mod chain;

@@ -1,4 +1,6 @@
 //! Lines of reports: how they are written, and how a report ends that a pass over objects is for.
+//!
+//! Begin with [`write_line`].
 #![tactic(auto)]
 
 mod lines;

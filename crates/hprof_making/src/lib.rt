@@ -1,4 +1,6 @@
 //! Making reports of parts that are larger than the memory, of passes over their objects.
+//!
+//! Begin with [`PassProduct`] and [`make_stored`].
 #![tactic(auto)]
 
 mod making;

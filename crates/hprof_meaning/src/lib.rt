@@ -1,4 +1,6 @@
 //! The classes that a word means, and what is printed of them: their objects, or the classes themselves.
+//!
+//! Begin with [`classes_meant`].
 #![tactic(auto)]
 
 mod gathering;

@@ -2,6 +2,8 @@
 //! once, in ascending order, or the merge tells the least key with two contents.
 //!
 //! Only `merge_rows` allocates: two entries for each cursor, before the first row.
+//!
+//! Begin with [`merge_rows`].
 #![tactic(auto)]
 
 mod contest;

@@ -1,4 +1,6 @@
 //! Names, classes and types as reports print them, and the text of strings and arrays.
+//!
+//! Begin with [`class_label`], as in example_largest, and [`name_text`].
 #![tactic(auto)]
 
 mod called;

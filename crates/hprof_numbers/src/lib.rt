@@ -1,5 +1,7 @@
 //! Graphs by numbers: sorted nodes whose numbers are their places, lists of numbers that take few bytes, for each node of a graph the nodes
 //! that it leads to and the nodes with an edge to it, and a depth-first search.
+//!
+//! Begin with [`Graph`] and [`depth_first`].
 #![tactic(auto)]
 
 mod building;

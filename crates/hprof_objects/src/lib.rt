@@ -1,5 +1,7 @@
 //! The objects of parts that are larger than the memory: those that ascend in their part stay there, and the others are kept in memory
 //! or in scratch, in sorted runs.
+//!
+//! Begin with [`ObjectLog`], which takes objects, and [`StoredObjects::merge`].
 #![tactic(auto)]
 
 mod growing;

@@ -1,4 +1,6 @@
 //! Parts that can be opened again: slices in memory, and files that were opened once.
+//!
+//! Begin with [`Parts`] and [`Slices`].
 #![tactic(auto)]
 
 mod files;

@@ -1,4 +1,6 @@
 //! Reads a part of a heap dump into a sink that is told places of the part while it is read, so that some of it can be read again later.
+//!
+//! Begin with [`read_placed`].
 #![tactic(auto)]
 
 pub mod laws;

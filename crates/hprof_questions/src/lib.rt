@@ -1,4 +1,6 @@
 //! Reports by their words, questions that come as lines, and the dialogue that answers them.
+//!
+//! Begin with [`Report`], [`ReportWord`] and [`converse`].
 #![tactic(auto)]
 
 mod asker;

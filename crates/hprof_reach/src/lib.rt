@@ -1,5 +1,7 @@
 //! The objects that GC roots reach, each with its distance and a shortest path to it; and the referrers of an identifier, from an index of
 //! the whole heap.
+//!
+//! Begin with [`reach_of`], [`index_referrers`] and [`graph_by_numbers`].
 #![tactic(auto)]
 
 mod chosen_edges;

@@ -1,4 +1,6 @@
 //! The texts of the reports on a heap, written line by line.
+//!
+//! Begin with [`write_check`], [`write_histogram`] or [`write_object`].
 #![tactic(auto)]
 
 mod check;

@@ -1,5 +1,7 @@
 //! What the classes and objects of a heap keep alive: the tree of dominators, and the bytes and the number of the objects that each of
 //! them retains.
+//!
+//! Begin with [`retained_of`].
 #![tactic(auto)]
 
 mod beyond;

@@ -1,4 +1,6 @@
 //! The rows of a heap's tables: the key and the content of each fact, the rows that store facts, and the facts that are read from rows.
+//!
+//! Begin with [`Key`], [`Table`] and [`Facts`].
 #![tactic(auto)]
 
 mod facts;

@@ -1,5 +1,7 @@
 //! Rows that come in no order. A row is a key and bytes. They are kept in memory, and written to scratch as sorted runs if the caller
 //! says so. The cursors over both are merged by `hprof_merge`.
+//!
+//! Begin with [`Rows`], which takes rows in any order, and [`Runs`].
 #![tactic(auto)]
 
 mod file_scratch;

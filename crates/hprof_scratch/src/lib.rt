@@ -1,4 +1,6 @@
 //! Sizes that a person types, the memory that objects may take, and scratch in a file that is created late.
+//!
+//! Begin with [`LateScratch`] and [`memory_for_objects`].
 #![tactic(auto)]
 
 mod late_file;

@@ -1,4 +1,6 @@
 //! A breadth-first search over any graph, with the distance of each node from the starts and a shortest path to it.
+//!
+//! Begin with [`search`].
 #![tactic(auto)]
 
 mod following;

@@ -2,6 +2,8 @@
 //! dump can be written of objects that are not in memory.
 //!
 //! `SegmentWriter::new` allocates 1 MiB. No other call allocates.
+//!
+//! Begin with [`SegmentWriter`].
 #![tactic(auto)]
 
 pub mod laws;

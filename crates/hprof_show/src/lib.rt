@@ -1,4 +1,6 @@
 //! The report `show`: the contents of a class, an instance or an array, decoded.
+//!
+//! Begin with [`write_show`].
 #![tactic(auto)]
 
 mod class_lines;

@@ -1,5 +1,7 @@
 //! Parts that are larger than the memory. At the first reading all facts but objects go into a heap, and the objects into a log. The
 //! canonical dump of the parts is written of both.
+//!
+//! Begin with [`join_stored`], or with [`read_stored`] and [`InParts`].
 #![tactic(auto)]
 
 mod dumping;

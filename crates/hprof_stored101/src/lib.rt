@@ -2,6 +2,8 @@
 //!
 //! All sub-records stand in one HEAP_DUMP record, whose length comes before its body. So the stored objects are merged twice: to add up
 //! their bytes, and to write them.
+//!
+//! Begin with [`join101_stored`].
 #![tactic(auto)]
 
 mod body_len;

@@ -1,4 +1,6 @@
 //! Reads one part of a heap dump from pieces, and hands its header and its facts to a sink as they are complete.
+//!
+//! Begin with [`read_part`], as in example_live. [`PartReader`] takes pieces that the caller has.
 #![tactic(auto)]
 
 mod held;

@@ -1,4 +1,6 @@
 //! The report on where most of the memory of a heap is held, and what it falls apart into.
+//!
+//! Begin with [`write_suspects`].
 #![tactic(auto)]
 
 mod chain;

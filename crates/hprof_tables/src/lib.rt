@@ -1,5 +1,7 @@
 //! Tables of rows by key, independent of what the rows mean: rows of any content, in pages that are sorted by key, and a map that finds
 //! most keys without a search.
+//!
+//! Begin with [`Relation`], [`SortedTable`] or [`HintedMap`].
 #![tactic(auto)]
 
 mod content;

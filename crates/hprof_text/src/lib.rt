@@ -1,4 +1,6 @@
 //! Names in modified UTF-8: decoding, encoding and printing; and identifiers and floats as text.
+//!
+//! Begin with [`printed`], which prints bytes of modified UTF-8, and [`parse_id`]. example_names prints names so.
 #![tactic(auto)]
 
 mod decoding;

@@ -1,4 +1,6 @@
 //! Threads of a heap: the root of each thread, its object, its stack and its name, and the lines of stack frames.
+//!
+//! Begin with [`ThreadRoots`] and [`thread_name`].
 #![tactic(auto)]
 
 mod frame_lines;

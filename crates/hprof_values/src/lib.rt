@@ -3,6 +3,8 @@
 //! read in place.
 //!
 //! The format is that of the comment "HPROF binary format" in OpenJDK's heapDumper.cpp. No call of this crate allocates.
+//!
+//! Begin with [`IdSize`], [`Basic`] and [`Value`].
 #![tactic(auto)]
 
 mod basic;

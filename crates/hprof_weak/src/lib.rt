@@ -1,4 +1,6 @@
 //! Weak references: which fields of instances do not keep alive what they refer to, and the table of them, which searches leave out.
+//!
+//! Begin with [`weak_fields`].
 #![tactic(auto)]
 
 mod called;

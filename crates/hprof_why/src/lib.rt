@@ -1,4 +1,6 @@
 //! The report `why`: a shortest path of strong references, told with names, threads and frames, and folded where it is monotonous.
+//!
+//! Begin with [`write_why`].
 #![tactic(auto)]
 
 mod alike;

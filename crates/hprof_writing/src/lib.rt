@@ -1,6 +1,8 @@
 //! Writes headers, record heads and facts to a target, and tells whether they can be encoded and how long they are.
 //!
 //! No call of this crate allocates.
+//!
+//! Begin with [`write_header`] and [`write_fact`].
 #![tactic(auto)]
 
 mod class_front;
