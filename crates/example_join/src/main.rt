@@ -17,6 +17,9 @@ fn main(rt: HostRuntime) -> Result<()> {
     let mut dump = Device::new(Vec::new(rt.alloc()));
     let joined = join_to(rt.alloc(), &mut parts, &mut dump, Limits::usual())?;
     let bytes = dump.into_inner().len();
-    println!(rt; "{} parts, {} facts, {bytes} bytes", joined.parts, joined.facts)?;
+    println!(rt;
+        "{} parts, {} facts, {bytes} bytes",
+        joined.parts, joined.facts
+    )?;
     Ok(())
 }

@@ -16,7 +16,10 @@ fn main(rt: HostRuntime) -> Result<()> {
         bail!("the facts do not agree");
     };
     for edge in edges {
-        println!(rt; "{} refers to 16, by {:?}, at {}", edge.from, edge.via, edge.position)?;
+        println!(rt;
+            "{} refers to 16, by {:?}, at {}",
+            edge.from, edge.via, edge.position
+        )?;
     }
     Ok(())
 }

@@ -14,9 +14,7 @@ use crate::kept::Kept;
 use hprof_devices::Target;
 use hprof_engine::WriteStop;
 use hprof_lines::write_str;
-use hprof_questions::{
-    Answers, DialogueStop, Follows, Misnamed, Question, Report, ReportWord,
-};
+use hprof_questions::{Answers, DialogueStop, Follows, Misnamed, Question, Report, ReportWord};
 use std::alloc::Global;
 
 /// Returns what stands in help for that which follows a word.

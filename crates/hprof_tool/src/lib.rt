@@ -19,9 +19,7 @@ pub use hprof_items::{
     Basic, Constant, ConstantList, Fact, Field, FieldList, Header, IdList, IdSize, Root, Static,
     StaticList, Value, Version,
 };
-pub use hprof_stream::{
-    Limits, PartFault, PartPlace, PartSummary, Sink, SinkFault, read_part,
-};
+pub use hprof_stream::{Limits, PartFault, PartPlace, PartSummary, Sink, SinkFault, read_part};
 pub use hprof_text::{parse_id, printed};
 pub use reading::read_heap;
 
