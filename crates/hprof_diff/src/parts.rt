@@ -17,6 +17,7 @@ use crate::report::{write_growth, write_growth_over};
 use hprof_devices::{Source, Target};
 use hprof_engine::{HeapProduct, NoSummaries, ToolFault, WriteStop, read_heap, write_to};
 use hprof_heap::{Gatherer, Heap};
+use hprof_histogram::CountedKinds;
 use hprof_making::PassProduct;
 use hprof_objects::Keeping;
 use hprof_parts::Parts;
@@ -66,15 +67,20 @@ impl<'a> PassProduct for GrowthReport<'a> {
 
     ghost refuses = { λ report refusal heap. ⊥ };
 
+    fn wants_counts(&self) -> bool {
+        true
+    }
+
     fn write_over<O: Objects, W: Target>(
         &self,
         alloc: Global,
         _kept: &(),
         heap: &Heap,
         objects: &O,
+        known: Option<CountedKinds>,
         target: &mut W,
     ) -> Result<(), PassStop<WriteStop, O::Fault>> {
-        write_growth_over(alloc, self.old, heap, objects, target)
+        write_growth_over(alloc, self.old, heap, objects, known, target)
     }
 }
 
