@@ -1,0 +1,42 @@
+//! Counts of the objects by kind that are known once a part was read.
+
+ghost use Rattle.std.specs.Prelude.{◌≡◌, ◌↔◌, List, IfSome, IsSome, IsTrue};
+ghost use Rattle.hprof_values.specs.declared.ids.IdSize.{IdSize};
+ghost use Rattle.hprof_items.specs.FactValue.{FactValue};
+ghost use Rattle.hprof_passes.specs.Passing.{TakesObjects, objects_among};
+ghost use Rattle.hprof_histogram.specs.declared.counted_kinds.CountedKinds.{CountedKinds};
+ghost use Rattle.hprof_histogram.specs.CountedKinds.{CountsObject, IsTally};
+ghost use Rattle.hprof_objects.specs.StoredObjects.{IsOneStretch};
+
+use hprof_histogram::CountedKinds;
+use hprof_histogram::laws::what_took_all_objects_is_a_tally;
+use hprof_objects::StoredObjects;
+use hprof_runs::Scratch;
+use std::alloc::Global;
+
+/// Returns counts of no objects, which are to take each object while one part is read for the first time. There are none if counts are not
+/// wanted, or if the number of readers is not one.
+pub fn counts_to_watch(alloc: Global, wanted: bool, readers: usize) -> Option<CountedKinds>
+    ensures some { IsSome result ↔ IsTrue wanted × (readers ≡ 1) }
+    ensures tally { IfSome result (λ start. (ids : IdSize) (all : List FactValue) (counts : CountedKinds)
+        → TakesObjects CountsObject ids start (objects_among all) counts → IsTally ids all counts) }
+{
+    what_took_all_objects_is_a_tally();
+    if wanted && readers == 1 {
+        Some(CountedKinds::new(alloc))
+    } else {
+        None
+    }
+}
+
+/// Returns the counts that took each object while one part was read, if the objects are one stretch of the part, and else `None`. A pass
+/// over one stretch gives the objects in the same order.
+pub fn counts_known<S: Scratch + Drop>(
+    objects: &StoredObjects<S>,
+    watched: Option<CountedKinds>,
+) -> Option<CountedKinds>
+    ensures one { IsSome result → IsOneStretch objects.now }
+    ensures same { IsOneStretch objects.now → result ≡ watched }
+{
+    if objects.is_one_stretch() { watched } else { None }
+}
