@@ -15,11 +15,14 @@ returns-in-Err-clause-bytes g c =
     let ids = size_of c.args.heap.now in
     let facts = facts_of c.args.heap.now in
     in_memory (MadeUpWith (IsItself ids facts) ids None) ⊤ (λ fault. ⊥) (IsHistogramText ids) g.W.Target.written g.W.Target.health
-    c.args.target.now c.write_histogram_over.new.target facts (record {
-      same = refl;
-      fit = c.holds_of_heap.ensures.fit;
-      ordered = c.holds_of_heap.ensures.ordered;
-    }, tt) (let naming = naming_exists facts in
+    c.args.target.now c.write_histogram_over.new.target facts (
+      record {
+        same = refl;
+        fit = c.holds_of_heap.ensures.fit;
+        ordered = c.holds_of_heap.ensures.ordered;
+      },
+      tt,
+    ) (let naming = naming_exists facts in
     let rows = at_least_one ids facts in (
       rows_text naming.0 rows.0,
       record {
