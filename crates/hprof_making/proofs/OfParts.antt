@@ -20,17 +20,13 @@ use Rattle.hprof_stored.specs.declared.stored_heap.StoredHeap.{StoredHeap}
 use Rattle.hprof_stored.specs.InParts.{AreStoredOf, HaveUnion, IsOfSame, MakeUp, TellsPass, objects_under}
 use Rattle.hprof_stored.specs.Parts.{PartStored}
 use Rattle.hprof_stored.specs.Watching.{Watched}
+use Rattle.hprof_making.specs.Watching.{StartsTally}
 use Rattle.hprof_making.proofs.Made.{AreOfParts}
 use Rattle.hprof_making.proofs.StoredOf.{AreWatchedOf}
 
--- counts take all objects of some facts, and so are their tally
-abbrev pub IsTallied : CountedKinds → Type 0
-IsTallied first = (ids : IdSize) (all : List FactValue) (counts : CountedKinds) → TakesObjects CountsObject ids first (objects_among all) counts
-    → IsTally ids all counts
-
 -- what is known is what watched, which took all objects
 tally_of_known : (One : Type 0) (parts : List PartStored) (ids : IdSize) (all : List FactValue) (start now known : Option CountedKinds)
-    → (IsSome start → One) → IfSome start IsTallied → (IsSome known → known ≡ now) → Watched CountsObject start parts now
+    → (IsSome start → One) → IfSome start StartsTally → (IsSome known → known ≡ now) → Watched CountsObject start parts now
     → ((first last : CountedKinds) → One → Watched CountsObject (Some first) parts (Some last)
     → TakesObjects CountsObject ids first (objects_among all) last) → IfSome known (λ counts. IsTally ids all counts)
 tally_of_known One parts ids all start now None watches tally same watched took = tt
@@ -83,7 +79,7 @@ module _ {R S P : Type 0} (left : R → Option (List ℕ)) (written : S → Opti
       -- counts watched one reader, and are known if the objects are one stretch
       pub record AreKnown : Type 0 where
         pub watches : IsSome start → length readers ≡ 1
-        pub tally : IfSome start IsTallied
+        pub tally : IfSome start StartsTally
         pub one : IsSome known → IsOneStretch (objects_under it)
         pub same : IsOneStretch (objects_under it) → known ≡ now
 

@@ -1,12 +1,8 @@
 //! Counts of the objects by kind that are known once a part was read.
 
-ghost use Rattle.std.specs.Prelude.{◌≡◌, ◌↔◌, List, IfSome, IsSome, IsTrue};
-ghost use Rattle.hprof_values.specs.declared.ids.IdSize.{IdSize};
-ghost use Rattle.hprof_items.specs.FactValue.{FactValue};
-ghost use Rattle.hprof_passes.specs.Passing.{TakesObjects, objects_among};
-ghost use Rattle.hprof_histogram.specs.declared.counted_kinds.CountedKinds.{CountedKinds};
-ghost use Rattle.hprof_histogram.specs.CountedKinds.{CountsObject, IsTally};
+ghost use Rattle.std.specs.Prelude.{◌≡◌, ◌↔◌, IfSome, IsSome, IsTrue};
 ghost use Rattle.hprof_objects.specs.StoredObjects.{IsOneStretch};
+ghost use Rattle.hprof_making.specs.Watching.{StartsTally};
 
 use hprof_histogram::CountedKinds;
 use hprof_histogram::laws::what_took_all_objects_is_a_tally;
@@ -18,8 +14,7 @@ use std::alloc::Global;
 /// wanted, or if the number of readers is not one.
 pub fn counts_to_watch(alloc: Global, wanted: bool, readers: usize) -> Option<CountedKinds>
     ensures some { IsSome result ↔ IsTrue wanted × (readers ≡ 1) }
-    ensures tally { IfSome result (λ start. (ids : IdSize) (all : List FactValue) (counts : CountedKinds)
-        → TakesObjects CountsObject ids start (objects_among all) counts → IsTally ids all counts) }
+    ensures tally { IfSome result StartsTally }
 {
     what_took_all_objects_is_a_tally();
     if wanted && readers == 1 {
