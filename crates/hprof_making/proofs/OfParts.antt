@@ -1,5 +1,5 @@
 -- What the laws of stored objects say of the parts that were read, and of counts that watched them.
-use Rattle.std.proofs.Common.{◌≡◌, ℕ, List, length, Option, Some, None, refl, subst}
+use Rattle.std.proofs.Common.{◌≡◌, ℕ, List, length, Option, Some, None, refl, sym, subst}
 use Rattle.std.specs.Prelude.{IfSome, IsSome}
 use Rattle.hprof_devices.specs.declared.health.Health.{Health}
 use Rattle.hprof_values.specs.declared.ids.IdSize.{IdSize}
@@ -11,6 +11,7 @@ use Rattle.hprof_passes.specs.Passing.{TakesObjects, objects_among}
 use Rattle.hprof_histogram.specs.declared.counted_kinds.CountedKinds.{CountedKinds}
 use Rattle.hprof_histogram.specs.CountedKinds.{CountsObject, IsTally}
 use Rattle.hprof_histogram.specs.Known.{MadeUpWith}
+use Rattle.hprof_objects.specs.declared.stored_objects.StoredObjects.{StoredObjects}
 use Rattle.hprof_objects.specs.StoredObjects.{IsOneStretch}
 use Rattle.hprof_engine.specs.Joining.{Agree, Disagree}
 use Rattle.hprof_stored.specs.declared.in_parts.InParts.{InParts}
@@ -66,6 +67,10 @@ module _ {R S P : Type 0} (left : R → Option (List ℕ)) (written : S → Opti
       (fault : PassFault) → AreStoredOf left written health bytes readers scratch stored it told
       → TellsPass written health bytes unreadable it (size_of stored.heap) (facts_of stored.heap) fault → IsOfSame fault
 
+  -- if the objects are one stretch, they have a union
+  abbrev pub HaveOne : Type 0
+  HaveOne = (it : InParts S P) → IsOneStretch (objects_under it) → HaveUnion written health bytes it
+
   -- what watched one part took what a pass gives
   abbrev pub TakesAll : Type 0
   TakesAll = (readers : List R) (scratch : Option (List ℕ)) (stored : StoredHeap S) (it : InParts S P) (told : List (List ℕ)) (ids : IdSize)
@@ -80,8 +85,14 @@ module _ {R S P : Type 0} (left : R → Option (List ℕ)) (written : S → Opti
       pub record AreKnown : Type 0 where
         pub watches : IsSome start → length readers ≡ 1
         pub tally : IfSome start StartsTally
-        pub one : IsSome known → IsOneStretch (objects_under it)
-        pub same : IsOneStretch (objects_under it) → known ≡ now
+        pub objects : StoredObjects S
+        pub under : objects_under it ≡ objects
+        pub one : IsSome known → IsOneStretch objects
+        pub same : IsOneStretch objects → known ≡ now
+
+      -- if counts are known, no identifier has two contents
+      pub known_agree : HaveOne → AreKnown → IsSome known → HaveUnion written health bytes it
+      known_agree have are_known some = have it (subst (λ (o : StoredObjects S). IsOneStretch o) (sym are_known.under) (are_known.one some))
 
       module _ (takes_all : TakesAll) (are_known : AreKnown) (told : List (List ℕ))
           (watched : AreWatchedOf left written health bytes CountsObject readers scratch stored it start now told) where

@@ -33,5 +33,9 @@ pub fn counts_known<S: Scratch + Drop>(
     ensures one { IsSome result → IsOneStretch objects.now }
     ensures same { IsOneStretch objects.now → result ≡ watched }
 {
-    if objects.is_one_stretch() { watched } else { None }
+    if objects.is_one_stretch() {
+        watched
+    } else {
+        None
+    }
 }

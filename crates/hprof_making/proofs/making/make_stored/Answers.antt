@@ -1,4 +1,4 @@
-use Rattle.std.proofs.Common.{◌≡◌, ℕ, Some, refl, sym, subst}
+use Rattle.std.proofs.Common.{ℕ, Some, refl, sym, subst}
 use Rattle.hprof_heap.specs.Heap.{heap_of}
 use Rattle.hprof_heap.specs.HeapFacts.{facts_of, size_of}
 use Rattle.hprof_histogram.specs.CountedKinds.{CountsObject}
@@ -13,7 +13,7 @@ use Rattle.hprof_stored.specs.StoredMaking.{stored_making}
 use Rattle.hprof_stored.proofs.StoredMakes.{reading_makes}
 use Rattle.hprof_stored.proofs.StoredReads.{some_readers}
 use Rattle.hprof_making.proofs.Made.{makes_lost, makes_stopped, makes_whole}
-use Rattle.hprof_making.proofs.OfParts.{of_parts}
+use Rattle.hprof_making.proofs.OfParts.{known_agree, of_parts}
 use Rattle.hprof_making.proofs.StoredOf.{are_watched_of}
 use Rattle.hprof_making.proofs.making.make_stored.Goals as goal
 
@@ -29,6 +29,20 @@ returns-in-Err g c =
     (reading_makes g.R.Source.left g.R.Source.health g.R.Source.pulls c.args.limits c.args.readers.now c.read_watched.new.readers
     g.W.Target.written g.W.Target.health (g.M.PassProduct.is_text c.args.product.now) (g.M.PassProduct.refuses c.args.product.now)
     c.args.target.now c.args.target.now some refl c.in-Err.fault e.reads e.first.count e.first.so_many e.first.read_out e.no_other)
+
+-- where counts are known, the objects are one stretch
+pub write_over-requires-clause-agree : goal.write_over-requires-clause-agree
+write_over-requires-clause-agree g c =
+    known_agree g.R.Source.left g.S.Target.written g.S.Target.health g.S.Scratch.unreadable g.P.Parts.bytes c.args.readers.now
+    (g.S.Target.written c.args.scratch) c.in-Ok-read_watched.read.0 c.new-objects.result c.counts_to_watch-watch.result
+    c.in-Ok-read_watched.read.1 c.counts_known-known.result c.what_was_watched_is_a_pass.ensures.agree (record {
+      watches = λ some. (c.counts_to_watch-watch.ensures.some.0 some).1;
+      tally = c.counts_to_watch-watch.ensures.tally;
+      objects = c.finish-objects.result;
+      under = c.new-objects.ensures.objects;
+      one = c.counts_known-known.ensures.one;
+      same = c.counts_known-known.ensures.same;
+    })
 
 -- all of it was written
 pub returns-in-Ok-write_over : goal.returns-in-Ok-write_over
@@ -63,6 +77,8 @@ returns-in-Ok-write_over g c =
     c.what_was_watched_is_a_pass.ensures.took (record {
       watches = λ some. (c.counts_to_watch-watch.ensures.some.0 some).1;
       tally = c.counts_to_watch-watch.ensures.tally;
+      objects = c.finish-objects.result;
+      under = c.new-objects.ensures.objects;
       one = c.counts_known-known.ensures.one;
       same = c.counts_known-known.ensures.same;
     }) told
@@ -109,6 +125,8 @@ returns-in-Err-Sink g c =
     c.what_was_watched_is_a_pass.ensures.took (record {
       watches = λ some. (c.counts_to_watch-watch.ensures.some.0 some).1;
       tally = c.counts_to_watch-watch.ensures.tally;
+      objects = c.finish-objects.result;
+      under = c.new-objects.ensures.objects;
       one = c.counts_known-known.ensures.one;
       same = c.counts_known-known.ensures.same;
     }) told
@@ -155,6 +173,8 @@ returns g c =
     c.what_was_watched_is_a_pass.ensures.took (record {
       watches = λ some. (c.counts_to_watch-watch.ensures.some.0 some).1;
       tally = c.counts_to_watch-watch.ensures.tally;
+      objects = c.finish-objects.result;
+      under = c.new-objects.ensures.objects;
       one = c.counts_known-known.ensures.one;
       same = c.counts_known-known.ensures.same;
     }) told
