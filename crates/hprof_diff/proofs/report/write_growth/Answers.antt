@@ -18,11 +18,14 @@ returns-in-Err-clause-bytes g c =
     let new = totals_exist ids facts in
     let changes = growth_exists c.args.old.now ids facts new.0 new.1 in
     in_memory (MadeUpWith (IsItself ids facts) ids None) ⊤ (λ fault. ⊥) (IsGrowthText (totals_in c.args.old.now) ids) g.W.Target.written
-    g.W.Target.health c.args.target.now c.write_growth_over.new.target facts (record {
-      same = refl;
-      fit = c.holds_of_heap.ensures.fit;
-      ordered = c.holds_of_heap.ensures.ordered;
-    }, tt) (
+    g.W.Target.health c.args.target.now c.write_growth_over.new.target facts (
+      record {
+        same = refl;
+        fit = c.holds_of_heap.ensures.fit;
+        ordered = c.holds_of_heap.ensures.ordered;
+      },
+      tt,
+    ) (
       changes_text changes.0,
       record {
         agree = c.holds_of_heap.ensures.agree;
