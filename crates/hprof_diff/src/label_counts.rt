@@ -5,7 +5,7 @@ use crate::gathering::parts_of;
 use crate::labels::source_label;
 use crate::part::{Part, first_run, sort_parts};
 use hprof_heap::{Heap, holds_of_heap};
-use hprof_histogram::{Row, histogram_over};
+use hprof_histogram::{CountedKinds, Row, histogram_over};
 use hprof_naming::ClassNames;
 use hprof_passes::{InHeap, Objects, PassStop};
 use std::alloc::{AllocError, Global};
@@ -19,12 +19,13 @@ pub struct LabelCounts {
 }
 
 impl LabelCounts {
-    ghost use Rattle.std.specs.Prelude.{◌≡◌, ℕ, List, IfOk, OnOk, cond, bytes_eq, string_bytes};
+    ghost use Rattle.std.specs.Prelude.{◌≡◌, ℕ, List, IfOk, IsSome, OnOk, cond, bytes_eq, string_bytes};
     ghost use Rattle.hprof_items.specs.FactValue.{FactValue};
     ghost use Rattle.hprof_heap.specs.HeapFacts.{facts_of, size_of};
     ghost use Rattle.hprof_passes.specs.Finding.{Finds};
     ghost use Rattle.hprof_passes.specs.Passing.{IsWhole};
     ghost use Rattle.hprof_histogram.specs.Histogram.{IsHistogram};
+    ghost use Rattle.hprof_histogram.specs.Known.{MadeUpWith};
     ghost use Rattle.hprof_diff.specs.Counts.{AreTotals};
     ghost use Rattle.hprof_diff.specs.Sources.{both, nothing};
     ghost use Rattle.hprof_diff.specs.Kept.{AreKept, has_label, kept_in, totals_in};
@@ -97,7 +98,8 @@ impl LabelCounts {
     /// Returns the counts of objects, by the labels of their kinds. The heap has all other facts.
     ///
     /// The label of a class is the printed form of its name, or `\?` if it has no load or the heap does not have its name. Classes with the
-    /// same label are counted together, and so are arrays of a type and a class whose label reads the same.
+    /// same label are counted together, and so are arrays of a type and a class whose label reads the same. The objects are not gone through
+    /// if their counts by kind are known.
     ///
     /// # Errors
     ///
@@ -107,12 +109,14 @@ impl LabelCounts {
         alloc: Global,
         heap: &Heap,
         objects: &O,
+        known: Option<CountedKinds>,
     ) -> Result<LabelCounts, PassStop<AllocError, O::Fault>>
-        ensures { Finds (O.make_up objects.now (size_of heap.now) (facts_of heap.now))
+        requires { IsSome known → O.agree objects.now (size_of heap.now) (facts_of heap.now) }
+        ensures { Finds (MadeUpWith (O.make_up objects.now (size_of heap.now) (facts_of heap.now)) (size_of heap.now) known)
             (O.agree objects.now (size_of heap.now) (facts_of heap.now)) (O.tells objects.now (size_of heap.now) (facts_of heap.now))
             (λ all counts. AreTotals (size_of heap.now) all (totals_in counts)) result }
     {
-        let rows = match histogram_over(alloc, heap, objects) {
+        let rows = match histogram_over(alloc, heap, objects, known) {
             Ok(rows) => rows,
             Err(stop) => return Err(stop),
         };
@@ -127,7 +131,7 @@ impl LabelCounts {
         ensures { IfOk result (λ counts. AreTotals (size_of heap.now) (facts_of heap.now) (totals_in counts)) }
     {
         holds_of_heap(heap);
-        match LabelCounts::over(alloc, heap, &InHeap) {
+        match LabelCounts::over(alloc, heap, &InHeap, None) {
             Ok(counts) => Ok(counts),
             Err(stop) => Err(stop.of_sink()),
         }

@@ -17,13 +17,14 @@ use crate::report::{write_growth, write_growth_over};
 use hprof_devices::{Source, Target};
 use hprof_engine::{HeapProduct, NoSummaries, ToolFault, WriteStop, read_heap, write_to};
 use hprof_heap::{Gatherer, Heap};
-use hprof_making::PassProduct;
+use hprof_histogram::CountedKinds;
+use hprof_making::{PassProduct, counts_known, counts_to_watch};
 use hprof_objects::Keeping;
 use hprof_parts::Parts;
 use hprof_passes::{Objects, PassStop};
 use hprof_runs::Scratch;
-use hprof_stored::laws::stored_objects_are_those_of_the_parts;
-use hprof_stored::{InParts, StoredHeap, read_stored};
+use hprof_stored::laws::{stored_objects_are_those_of_the_parts, what_was_watched_is_a_pass};
+use hprof_stored::{InParts, StoredHeap, read_watched};
 use hprof_stream::Limits;
 use std::alloc::Global;
 
@@ -66,15 +67,20 @@ impl<'a> PassProduct for GrowthReport<'a> {
 
     ghost refuses = { λ report refusal heap. ⊥ };
 
+    fn wants_counts(&self) -> bool {
+        true
+    }
+
     fn write_over<O: Objects, W: Target>(
         &self,
         alloc: Global,
         _kept: &(),
         heap: &Heap,
         objects: &O,
+        known: Option<CountedKinds>,
         target: &mut W,
     ) -> Result<(), PassStop<WriteStop, O::Fault>> {
-        write_growth_over(alloc, self.old, heap, objects, target)
+        write_growth_over(alloc, self.old, heap, objects, known, target)
     }
 }
 
@@ -103,7 +109,8 @@ pub fn count_parts<R: Source>(
 }
 
 /// Reads all parts, and counts the objects of their heap by label. Objects stay in the parts or go to scratch, as `keeping` says, and are
-/// read again to be counted: `parts` opens the same parts as the readers.
+/// read again to be counted: `parts` opens the same parts as the readers. If there is one reader, and its objects are in one stretch, they
+/// are counted as they are read, and not read again.
 ///
 /// # Errors
 ///
@@ -133,7 +140,9 @@ pub fn count_stored<R: Source, S: Scratch + Drop, P: Parts>(
         return Err(ToolFault::NoParts);
     }
     stored_objects_are_those_of_the_parts::<R, S, P>();
-    let stored = match read_stored(
+    what_was_watched_is_a_pass::<R, S, P, CountedKinds>();
+    let watch = counts_to_watch(alloc, true, readers.len());
+    let read = match read_watched(
         alloc,
         readers,
         limits,
@@ -141,14 +150,16 @@ pub fn count_stored<R: Source, S: Scratch + Drop, P: Parts>(
         scratch,
         &NoSummaries,
         &mut (),
+        watch,
     ) {
-        Ok(stored) => stored,
+        Ok(read) => read,
         Err(fault) => return Err(ToolFault::from(fault)),
     };
-    let StoredHeap { heap, objects } = stored;
+    let (StoredHeap { heap, objects }, watched) = read;
     let objects = objects.finish();
+    let known = counts_known(&objects, watched);
     let objects = InParts::new(&objects, parts, limits);
-    match LabelCounts::over(alloc, &heap, &objects) {
+    match LabelCounts::over(alloc, &heap, &objects, known) {
         Ok(counts) => Ok(counts),
         Err(PassStop::Sink(_)) => Err(ToolFault::OutOfMemory),
         Err(PassStop::Lost(fault)) => Err(ToolFault::from(fault)),

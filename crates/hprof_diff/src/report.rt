@@ -1,8 +1,9 @@
 //! The report `diff` on two heaps whose objects are counted by label.
 
-ghost use Rattle.std.specs.Prelude.{◌≡◌, ◌++◌, ℕ, List, map, OnOk, string_bytes};
+ghost use Rattle.std.specs.Prelude.{◌≡◌, ◌++◌, ℕ, List, map, IsSome, OnOk, string_bytes};
 ghost use Rattle.hprof_devices.specs.declared.health.Health.TheVariants.{Well};
 ghost use Rattle.hprof_heap.specs.HeapFacts.{facts_of, size_of};
+ghost use Rattle.hprof_histogram.specs.Known.{MadeUpWith};
 ghost use Rattle.hprof_diff.specs.Changes.{change_value, step_value};
 ghost use Rattle.hprof_diff.specs.Kept.{totals_in};
 ghost use Rattle.hprof_lines.specs.Passed.{EndsPassed};
@@ -15,6 +16,7 @@ use crate::label_counts::LabelCounts;
 use hprof_devices::Target;
 use hprof_engine::WriteStop;
 use hprof_heap::{Heap, holds_of_heap};
+use hprof_histogram::CountedKinds;
 use hprof_lines::{stop_of_pass, write_str};
 use hprof_passes::{InHeap, Objects, PassStop};
 use itoa::Buffer;
@@ -85,7 +87,8 @@ pub fn write_difference<W: Target>(
     write_all(alloc, &changes, target)
 }
 
-/// Writes the report `diff` on a heap, compared with an older one whose objects are counted. The heap has all facts but the objects.
+/// Writes the report `diff` on a heap, compared with an older one whose objects are counted. The heap has all facts but the objects. They
+/// are not gone through if their counts by kind are known.
 ///
 /// # Errors
 ///
@@ -96,14 +99,16 @@ pub fn write_growth_over<O: Objects, W: Target>(
     old: &LabelCounts,
     heap: &Heap,
     objects: &O,
+    known: Option<CountedKinds>,
     target: &mut W,
 ) -> Result<(), PassStop<WriteStop, O::Fault>>
-    requires { W.health target.old ≡ Well }
-    ensures { EndsPassed (O.make_up objects.now (size_of heap.now) (facts_of heap.now))
+    requires well { W.health target.old ≡ Well }
+    requires agree { IsSome known → O.agree objects.now (size_of heap.now) (facts_of heap.now) }
+    ensures { EndsPassed (MadeUpWith (O.make_up objects.now (size_of heap.now) (facts_of heap.now)) (size_of heap.now) known)
         (O.agree objects.now (size_of heap.now) (facts_of heap.now)) (O.tells objects.now (size_of heap.now) (facts_of heap.now))
         (IsGrowthText (totals_in old.now) (size_of heap.now)) W.written W.health target.old target.new result }
 {
-    let new = match LabelCounts::over(alloc, heap, objects) {
+    let new = match LabelCounts::over(alloc, heap, objects, known) {
         Ok(new) => new,
         Err(stop) => return Err(stop_of_pass(stop)),
     };
@@ -127,7 +132,7 @@ pub(crate) fn write_growth<W: Target>(
     ensures health { LeavesTarget result (W.health target.new) }
 {
     holds_of_heap(heap);
-    match write_growth_over(alloc, old, heap, &InHeap, target) {
+    match write_growth_over(alloc, old, heap, &InHeap, None, target) {
         Ok(()) => Ok(()),
         Err(stop) => Err(stop.of_sink()),
     }

@@ -1,6 +1,7 @@
 pub mod Gathered
 pub mod RowOrder
 pub mod Tallies
+pub mod Known
 pub mod Members
 pub mod Joining
 pub mod OneHistogram

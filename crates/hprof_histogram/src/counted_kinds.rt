@@ -29,7 +29,7 @@ impl CountedKinds {
     ghost use Rattle.hprof_histogram.specs.CountedKinds.{both, counted_in, nothing, one_of};
 
     /// Returns the counts of no objects.
-    pub(crate) fn new(alloc: Global) -> CountedKinds
+    pub fn new(alloc: Global) -> CountedKinds
         ensures { (kind : Kind) → counted_in result kind ≡ nothing }
     {
         CountedKinds {

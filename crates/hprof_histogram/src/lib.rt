@@ -18,7 +18,7 @@ mod sorting;
 pub use chosen::{Chosen, chosen_objects};
 pub use counted::Counted;
 pub use counted_kinds::CountedKinds;
-pub use counting::count_objects;
+pub use counting::{count_known, count_objects};
 pub use making::{histogram, histogram_over};
 pub use objects::{SizedObject, objects_of};
 pub use row::{Kind, Row};

@@ -1,6 +1,6 @@
 //! Making the class histogram of a heap.
 
-ghost use Rattle.std.specs.Prelude.{IfOk, List};
+ghost use Rattle.std.specs.Prelude.{IfOk, IsSome, List};
 ghost use Rattle.hprof_values.specs.declared.ids.IdSize.{IdSize};
 ghost use Rattle.hprof_items.specs.FactValue.{FactValue};
 ghost use Rattle.hprof_rows.specs.Facts.{AllFit};
@@ -8,9 +8,10 @@ ghost use Rattle.hprof_heap.specs.HeapFacts.{facts_of, size_of};
 ghost use Rattle.hprof_passes.specs.Finding.{Finds};
 ghost use Rattle.hprof_histogram.specs.CountedKinds.{IsTally};
 ghost use Rattle.hprof_histogram.specs.Histogram.{IsHistogram};
+ghost use Rattle.hprof_histogram.specs.Known.{MadeUpWith};
 
 use crate::counted_kinds::CountedKinds;
-use crate::counting::count_objects;
+use crate::counting::count_known;
 use crate::gathering::rows_of;
 use crate::row::Row;
 use crate::sorting::sort_rows;
@@ -31,7 +32,7 @@ fn rows_in_order(alloc: Global, tally: &CountedKinds) -> Result<Vec<Row>, AllocE
 /// Returns the class histogram of objects: the number of objects of each kind, and the number of their bytes. The heap has all other facts.
 ///
 /// Instances and object arrays are counted by class, primitive arrays by type. Class dumps are not counted. The bytes are those of the
-/// fields of an instance, and of the elements of an array.
+/// fields of an instance, and of the elements of an array. If the counts are known, the objects are not gone through.
 ///
 /// Rows are ordered by bytes, then by number of objects, both from the most down; then classes by identifier; then types by code.
 ///
@@ -43,12 +44,14 @@ pub fn histogram_over<O: Objects>(
     alloc: Global,
     heap: &Heap,
     objects: &O,
+    known: Option<CountedKinds>,
 ) -> Result<Vec<Row>, PassStop<AllocError, O::Fault>>
-    ensures { Finds (O.make_up objects.now (size_of heap.now) (facts_of heap.now))
+    requires { IsSome known → O.agree objects.now (size_of heap.now) (facts_of heap.now) }
+    ensures { Finds (MadeUpWith (O.make_up objects.now (size_of heap.now) (facts_of heap.now)) (size_of heap.now) known)
         (O.agree objects.now (size_of heap.now) (facts_of heap.now))
         (O.tells objects.now (size_of heap.now) (facts_of heap.now)) (λ all rows. IsHistogram (size_of heap.now) all rows.items) result }
 {
-    let tally = match count_objects(alloc, heap, objects) {
+    let tally = match count_known(alloc, heap, objects, known) {
         Ok(tally) => tally,
         Err(stop) => return Err(stop),
     };
@@ -64,7 +67,7 @@ pub fn histogram(alloc: Global, heap: &Heap) -> Result<Vec<Row>, AllocError>
     ensures { IfOk result (λ rows. IsHistogram (size_of heap.now) (facts_of heap.now) rows.items) }
 {
     holds_of_heap(heap);
-    match histogram_over(alloc, heap, &InHeap) {
+    match histogram_over(alloc, heap, &InHeap, None) {
         Ok(rows) => Ok(rows),
         Err(stop) => Err(stop.of_sink()),
     }

@@ -8,6 +8,7 @@ use hprof_ask::Reporting;
 use hprof_devices::Target;
 use hprof_engine::{Summaries, WriteStop};
 use hprof_heap::Heap;
+use hprof_histogram::CountedKinds;
 use hprof_making::PassProduct;
 use hprof_passes::{Objects, PassStop};
 use hprof_questions::{HeapReport, KindReport, Kinds, Report};
@@ -104,18 +105,23 @@ impl PassProduct for PassedReport<'_> {
 
     ghost refuses = { λ passed refusal heap. RefusesReport heap.facts (report_of passed) refusal };
 
+    fn wants_counts(&self) -> bool {
+        matches!(self, PassedReport::Histogram | PassedReport::Classes)
+    }
+
     fn write_over<O: Objects, W: Target>(
         &self,
         alloc: Global,
         kept: &Vec<PartSummary>,
         heap: &Heap,
         objects: &O,
+        known: Option<CountedKinds>,
         target: &mut W,
     ) -> Result<(), PassStop<WriteStop, O::Fault>> {
         match *self {
             PassedReport::Check => write_check(alloc, kept, heap, objects, target),
-            PassedReport::Histogram => write_histogram_over(alloc, heap, objects, target),
-            PassedReport::Classes => write_classes_over(alloc, heap, objects, target),
+            PassedReport::Histogram => write_histogram_over(alloc, heap, objects, known, target),
+            PassedReport::Classes => write_classes_over(alloc, heap, objects, known, target),
             PassedReport::Objects(kinds) => write_objects(alloc, heap, objects, kinds, target),
         }
     }

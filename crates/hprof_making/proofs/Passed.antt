@@ -31,3 +31,18 @@ module _ {W F : Type 0} (MakeUp : List FactValue → Type 0) (agree : Type 0) (t
   ends_over Refuses (Err (Sink (stops.Write fault))) ends =
       (ends.0, λ all make. let it = ends.1 all make in (it.0, it.1, it.2, same all it.0 make it.3, it.4), ends.2)
   ends_over Refuses (Err (Sink (stops.Refused refusal))) ends = absurd ends
+
+-- a product that was written of whatever was made up was written of fewer of these
+module _ {W F : Type 0} (MakeUp Fewer : List FactValue → Type 0) (agree : Type 0) (tells : F → Type 0)
+    (IsText : List FactValue → List ℕ → Type 0) (Refuses : ProductRefusal → List FactValue → Type 0) (written : W → Option (List ℕ))
+    (well : W → Health) (old new : W) (fewer : (all : List FactValue) → Fewer all → MakeUp all) where
+  pub ends_fewer : (r : Result (Unit {0}) (PassStop WriteStop F)) → EndsOver MakeUp agree tells IsText Refuses written well old new r
+      → EndsOver Fewer agree tells IsText Refuses written well old new r
+  ends_fewer (Ok done) ends = (ends.0, λ all make. ends.1 all (fewer all make), ends.2)
+  ends_fewer (Err (Lost fault)) ends = ends
+  ends_fewer (Err (Sink stops.OutOfMemory)) ends = elim ends [
+    | inl unchanged ↦ inl unchanged
+    | inr wrote ↦ inr (wrote.0, λ all make. wrote.1 all (fewer all make), wrote.2)
+  ]
+  ends_fewer (Err (Sink (stops.Write fault))) ends = (ends.0, λ all make. ends.1 all (fewer all make), ends.2)
+  ends_fewer (Err (Sink (stops.Refused refusal))) ends = (ends.0, λ all make. ends.1 all (fewer all make), ends.2)

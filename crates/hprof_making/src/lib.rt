@@ -5,6 +5,8 @@
 
 mod making;
 mod pass_product;
+mod watching;
 
 pub use making::make_stored;
 pub use pass_product::PassProduct;
+pub use watching::{counts_known, counts_to_watch};

@@ -8,19 +8,22 @@ ghost use Rattle.hprof_runs.specs.ReadBack.{HoldsNothing};
 ghost use Rattle.hprof_stored.specs.StoredMaking.{CanBeReadAgain, stored_making};
 
 use crate::pass_product::PassProduct;
+use crate::watching::{counts_known, counts_to_watch};
 use hprof_devices::{Source, Target};
 use hprof_engine::ToolFault;
+use hprof_histogram::CountedKinds;
 use hprof_objects::Keeping;
 use hprof_parts::Parts;
 use hprof_passes::PassStop;
 use hprof_runs::Scratch;
-use hprof_stored::laws::stored_objects_are_those_of_the_parts;
-use hprof_stored::{InParts, StoredHeap, read_stored};
+use hprof_stored::laws::{stored_objects_are_those_of_the_parts, what_was_watched_is_a_pass};
+use hprof_stored::{InParts, StoredHeap, read_watched};
 use hprof_stream::Limits;
 use std::alloc::Global;
 
 /// Reads all parts, and writes the product of them. Objects stay in the parts or go to scratch, as `keeping` says, and are gone through as
-/// often as the product wants: `parts` opens the same parts as the readers.
+/// often as the product wants: `parts` opens the same parts as the readers. If the product wants counts of the objects by kind, and there is
+/// one reader whose objects are in one stretch, they are counted as they are read, and not gone through again for that.
 ///
 /// # Errors
 ///
@@ -54,17 +57,22 @@ pub fn make_stored<M: PassProduct, R: Source, S: Scratch + Drop, P: Parts, W: Ta
         return Err(ToolFault::NoParts);
     }
     stored_objects_are_those_of_the_parts::<R, S, P>();
+    what_was_watched_is_a_pass::<R, S, P, CountedKinds>();
     let Ok(mut kept) = product.with_room(alloc, readers.len()) else {
         return Err(ToolFault::OutOfMemory);
     };
-    let stored = match read_stored(alloc, readers, limits, keeping, scratch, product, &mut kept) {
-        Ok(stored) => stored,
+    let watch = counts_to_watch(alloc, product.wants_counts(), readers.len());
+    let read = match read_watched(
+        alloc, readers, limits, keeping, scratch, product, &mut kept, watch,
+    ) {
+        Ok(read) => read,
         Err(fault) => return Err(ToolFault::from(fault)),
     };
-    let StoredHeap { heap, objects } = stored;
+    let (StoredHeap { heap, objects }, watched) = read;
     let objects = objects.finish();
+    let known = counts_known(&objects, watched);
     let objects = InParts::new(&objects, parts, limits);
-    match product.write_over(alloc, &kept, &heap, &objects, target) {
+    match product.write_over(alloc, &kept, &heap, &objects, known, target) {
         Ok(()) => Ok(()),
         Err(PassStop::Sink(stop)) => Err(ToolFault::from(stop)),
         Err(PassStop::Lost(fault)) => Err(ToolFault::from(fault)),

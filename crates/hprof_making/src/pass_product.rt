@@ -1,14 +1,16 @@
 //! Products that are made of passes over objects.
 
-ghost use Rattle.std.specs.Prelude.{◌≡◌, ℕ, List};
+ghost use Rattle.std.specs.Prelude.{◌≡◌, ℕ, List, IsSome};
 ghost use Rattle.hprof_items.specs.FactValue.{FactValue};
 ghost use Rattle.hprof_heap.specs.Heap.{heap_of};
 ghost use Rattle.hprof_heap.specs.HeapFacts.{facts_of, size_of};
+ghost use Rattle.hprof_histogram.specs.Known.{MadeUpWith};
 ghost use Rattle.hprof_making.specs.Over.{EndsOver, heap_with};
 
 use hprof_devices::Target;
 use hprof_engine::{Summaries, WriteStop};
 use hprof_heap::Heap;
+use hprof_histogram::CountedKinds;
 use hprof_passes::{Objects, PassStop};
 use std::alloc::Global;
 
@@ -26,7 +28,10 @@ pub trait PassProduct: Summaries {
     // The heap is refused for that reason, before the first byte.
     ghost refuses: { Self → ProductRefusal → HeapValue → Type 0 };
 
-    /// Writes the product. The heap has all facts but the objects.
+    /// Returns whether counts of the objects by kind are of use to it.
+    fn wants_counts(&self) -> bool;
+
+    /// Writes the product. The heap has all facts but the objects, whose counts by kind may be known.
     ///
     /// # Errors
     ///
@@ -38,11 +43,13 @@ pub trait PassProduct: Summaries {
         kept: &Self::Kept,
         heap: &Heap,
         objects: &O,
+        known: Option<CountedKinds>,
         target: &mut W,
     ) -> Result<(), PassStop<WriteStop, O::Fault>>
         requires well { W.health target.old ≡ Well }
+        requires agree { IsSome known → O.agree objects.now (size_of heap.now) (facts_of heap.now) }
         ensures { (summaries : List PartSummary) → Self.holds self.now kept.now summaries
-            → EndsOver (O.make_up objects.now (size_of heap.now) (facts_of heap.now))
+            → EndsOver (MadeUpWith (O.make_up objects.now (size_of heap.now) (facts_of heap.now)) (size_of heap.now) known)
             (O.agree objects.now (size_of heap.now) (facts_of heap.now)) (O.tells objects.now (size_of heap.now) (facts_of heap.now))
             (λ all. is_text self.now summaries (heap_with (heap_of heap.now) all))
             (λ refusal all. refuses self.now refusal (heap_with (heap_of heap.now) all)) W.written W.health target.old target.new result };

@@ -117,7 +117,7 @@ pub(crate) fn all_classes<O: Objects>(
         (O.tells objects.now (size_of heap.now) (facts_of heap.now)) (λ all classes. AreAll (IsClass all) classes.items) result }
     ensures ascend { IfOk result (λ classes. IsStrictlyIncreasing classes.items) }
 {
-    let rows = match histogram_over(alloc, heap, objects) {
+    let rows = match histogram_over(alloc, heap, objects, None) {
         Ok(rows) => rows,
         Err(stop) => return Err(stop),
     };

@@ -11,7 +11,7 @@ use Rattle.hprof_passes.proofs.Tables.{has_of_filter}
 
 module _ {T : Type 0} (takes : T → IdSize → FactValue → T → Type 0) (ids : IdSize) where
   -- one object more
-  takes_more : (old mid new : T) (objects : List FactValue) (object : FactValue) → TakesObjects takes ids old objects mid
+  pub takes_more : (old mid new : T) (objects : List FactValue) (object : FactValue) → TakesObjects takes ids old objects mid
       → takes mid ids object new → TakesObjects takes ids old (objects ++ object ∷ []) new
   takes_more old mid new [] object same took = (new, subst (λ (t : T). takes t ids object new) (sym same) took, refl)
   takes_more old mid new (first ∷ objects) object took more = (took.0, took.1, takes_more took.0 mid new objects object took.2 more)

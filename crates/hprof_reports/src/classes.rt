@@ -1,12 +1,13 @@
 //! The report `classes`: each class dump, with the objects of the class.
 
-ghost use Rattle.std.specs.Prelude.{◌≡◌, ℕ, List, IfOk, string_bytes};
+ghost use Rattle.std.specs.Prelude.{◌≡◌, ℕ, List, IfOk, IsSome, string_bytes};
 ghost use Rattle.hprof_devices.specs.declared.health.Health.TheVariants.{Well};
 ghost use Rattle.hprof_items.specs.FactValue.{FactValue};
 ghost use Rattle.hprof_heap.specs.ClassDump.{class_value};
 ghost use Rattle.hprof_heap.specs.HeapFacts.{facts_of, size_of};
 ghost use Rattle.hprof_passes.specs.Passing.{IsWhole};
 ghost use Rattle.hprof_histogram.specs.CountedKinds.{IsTally};
+ghost use Rattle.hprof_histogram.specs.Known.{MadeUpWith};
 ghost use Rattle.hprof_naming.specs.ClassNames.{AreClassNames};
 ghost use Rattle.hprof_naming.specs.Naming.{IsNaming, Naming};
 ghost use Rattle.hprof_lines.specs.Passed.{EndsPassed};
@@ -17,7 +18,7 @@ ghost use Rattle.hprof_reports.specs.ClassesText.{IsClassesText, class_end, clas
 use hprof_devices::Target;
 use hprof_engine::WriteStop;
 use hprof_heap::{ClassDump, Heap, Table, holds_of_heap, table_facts, to_class_dump};
-use hprof_histogram::{Counted, CountedKinds, count_objects};
+use hprof_histogram::{Counted, CountedKinds, count_known};
 use hprof_lines::{stop_of_pass, write_line};
 use hprof_naming::{ClassNames, label_of};
 use hprof_passes::{InHeap, Objects, PassStop};
@@ -105,7 +106,7 @@ fn write_counted<W: Target>(
 }
 
 /// Writes the report `classes`: a line for each class dump, in order of identifier, with its superclass and the objects of the class. The
-/// heap has all facts but the objects.
+/// heap has all facts but the objects. They are not gone through if their counts are known.
 ///
 /// # Errors
 ///
@@ -115,14 +116,16 @@ pub fn write_classes_over<O: Objects, W: Target>(
     alloc: Global,
     heap: &Heap,
     objects: &O,
+    known: Option<CountedKinds>,
     target: &mut W,
 ) -> Result<(), PassStop<WriteStop, O::Fault>>
-    requires { W.health target.old ≡ Well }
-    ensures { EndsPassed (O.make_up objects.now (size_of heap.now) (facts_of heap.now))
+    requires well { W.health target.old ≡ Well }
+    requires agree { IsSome known → O.agree objects.now (size_of heap.now) (facts_of heap.now) }
+    ensures { EndsPassed (MadeUpWith (O.make_up objects.now (size_of heap.now) (facts_of heap.now)) (size_of heap.now) known)
         (O.agree objects.now (size_of heap.now) (facts_of heap.now)) (O.tells objects.now (size_of heap.now) (facts_of heap.now))
         (IsClassesText (size_of heap.now)) W.written W.health target.old target.new result }
 {
-    let counts = match count_objects(alloc, heap, objects) {
+    let counts = match count_known(alloc, heap, objects, known) {
         Ok(counts) => counts,
         Err(stop) => return Err(stop_of_pass(stop)),
     };
@@ -141,7 +144,7 @@ pub fn write_classes<W: Target>(alloc: Global, heap: &Heap, target: &mut W) -> R
     ensures health { LeavesTarget result (W.health target.new) }
 {
     holds_of_heap(heap);
-    match write_classes_over(alloc, heap, &InHeap, target) {
+    match write_classes_over(alloc, heap, &InHeap, None, target) {
         Ok(()) => Ok(()),
         Err(stop) => Err(stop.of_sink()),
     }

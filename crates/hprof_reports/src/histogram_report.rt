@@ -1,11 +1,12 @@
 //! The report `histo`: the number of objects of each class and array type, and their bytes.
 
-ghost use Rattle.std.specs.Prelude.{◌≡◌, ℕ, List, IfOk, string_bytes};
+ghost use Rattle.std.specs.Prelude.{◌≡◌, ℕ, List, IfOk, IsSome, string_bytes};
 ghost use Rattle.hprof_devices.specs.declared.health.Health.TheVariants.{Well};
 ghost use Rattle.hprof_items.specs.FactValue.{FactValue};
 ghost use Rattle.hprof_heap.specs.HeapFacts.{facts_of, size_of};
 ghost use Rattle.hprof_passes.specs.Passing.{IsWhole};
 ghost use Rattle.hprof_histogram.specs.Histogram.{IsHistogram};
+ghost use Rattle.hprof_histogram.specs.Known.{MadeUpWith};
 ghost use Rattle.hprof_naming.specs.ClassNames.{AreClassNames};
 ghost use Rattle.hprof_naming.specs.Naming.{IsNaming, Naming};
 ghost use Rattle.hprof_reports.specs.HistogramText.{IsHistogramText, array_row_line, class_row_line, row_line, rows_text};
@@ -15,7 +16,7 @@ ghost use Rattle.hprof_lines.specs.Stopping.{LeavesTarget, WritesText};
 use hprof_devices::Target;
 use hprof_engine::WriteStop;
 use hprof_heap::{Heap, holds_of_heap};
-use hprof_histogram::{Kind, Row, histogram_over};
+use hprof_histogram::{CountedKinds, Kind, Row, histogram_over};
 use hprof_lines::{stop_of_pass, write_line};
 use hprof_naming::{ClassNames, label_of, type_word};
 use hprof_passes::{InHeap, Objects, PassStop};
@@ -100,7 +101,7 @@ fn write_histogram_rows<W: Target>(
 }
 
 /// Writes the report `histo`: a line for each class and each array type that has objects, those with the most bytes first. The heap has all
-/// facts but the objects.
+/// facts but the objects. They are not gone through if their counts are known.
 ///
 /// # Errors
 ///
@@ -110,14 +111,16 @@ pub fn write_histogram_over<O: Objects, W: Target>(
     alloc: Global,
     heap: &Heap,
     objects: &O,
+    known: Option<CountedKinds>,
     target: &mut W,
 ) -> Result<(), PassStop<WriteStop, O::Fault>>
-    requires { W.health target.old ≡ Well }
-    ensures { EndsPassed (O.make_up objects.now (size_of heap.now) (facts_of heap.now))
+    requires well { W.health target.old ≡ Well }
+    requires agree { IsSome known → O.agree objects.now (size_of heap.now) (facts_of heap.now) }
+    ensures { EndsPassed (MadeUpWith (O.make_up objects.now (size_of heap.now) (facts_of heap.now)) (size_of heap.now) known)
         (O.agree objects.now (size_of heap.now) (facts_of heap.now)) (O.tells objects.now (size_of heap.now) (facts_of heap.now))
         (IsHistogramText (size_of heap.now)) W.written W.health target.old target.new result }
 {
-    let rows = match histogram_over(alloc, heap, objects) {
+    let rows = match histogram_over(alloc, heap, objects, known) {
         Ok(rows) => rows,
         Err(stop) => return Err(stop_of_pass(stop)),
     };
@@ -140,7 +143,7 @@ pub fn write_histogram<W: Target>(
     ensures health { LeavesTarget result (W.health target.new) }
 {
     holds_of_heap(heap);
-    match write_histogram_over(alloc, heap, &InHeap, target) {
+    match write_histogram_over(alloc, heap, &InHeap, None, target) {
         Ok(()) => Ok(()),
         Err(stop) => Err(stop.of_sink()),
     }

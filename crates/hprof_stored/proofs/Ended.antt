@@ -1,9 +1,10 @@
 -- A part that was read to its end, among those before it.
-use Rattle.std.proofs.Common.{◌≡◌, ℕ, zero, suc, ◌+◌, List, [], ◌∷◌, ◌++◌, take, map, Option, Some, None, sym, ap, subst, ◌∙◌}
+use Rattle.std.proofs.Common.{◌≡◌, ℕ, zero, suc, ◌+◌, List, [], ◌∷◌, ◌++◌, take, map, Option, Some, None, refl, sym, ap, subst, ◌∙◌}
 use Rattle.std.proofs.Common.{add-one, append-nil}
 use Rattle.std.specs.Prelude.{slice_get}
 use Rattle.std.specs.Io.KnownBytes.{Consumes, IsAtEnd}
 use Rattle.std.proofs.lemmas.List.{length-append, map-append}
+use Rattle.hprof_values.specs.declared.ids.IdSize.{IdSize}
 use Rattle.hprof_items.specs.declared.header.Header.{Header}
 use Rattle.hprof_items.specs.FactValue.{FactValue}
 use Rattle.hprof_devices.specs.declared.health.Health.{Health}
@@ -18,6 +19,8 @@ use Rattle.hprof_objects.specs.Whole.{no_objects, without_objects}
 use Rattle.hprof_stored.specs.Holding.{Earlier, EndsPart, HoldsAll, HoldsStored, one_more}
 use Rattle.hprof_stored.specs.Parts.{AreAllOf, AreStored, IsStored, PartStored, all_read, given_of, others_of, read_of}
 use Rattle.hprof_stored.specs.Storing.{Storing}
+use Rattle.hprof_stored.specs.WatchedSink.{WatchesSoFar}
+use Rattle.hprof_stored.specs.Watching.{Watched, WatchesPart, WatchesParts}
 
 others_more : (parts : List PartStored) (part : PartStored) → others_of (parts ++ part ∷ []) ≡ others_of parts
     ++ without_objects part.given ∷ []
@@ -48,6 +51,34 @@ part_ended written health limits earlier header facts came before piece mid new 
       without = ends.within;
       sound = ends.sound ∙ held.sound;
     }
+
+-- ---- what a sink took that watched
+
+module _ {T : Type 0} (takes : T → IdSize → FactValue → T → Type 0) where
+  parts_more : (old mid new : T) (parts : List PartStored) (part : PartStored) → WatchesParts takes old parts mid
+      → WatchesPart takes part.given mid new → WatchesParts takes old (parts ++ part ∷ []) new
+  parts_more old mid new [] part same watches =
+      (new, subst (λ (t : T). WatchesPart takes part.given t new) (sym same) watches, refl)
+  parts_more old mid new (first ∷ parts) part before watches =
+      (before.0, before.1, parts_more before.0 mid new parts part before.2 watches)
+
+  -- it watched no part
+  pub watched_first : (start now : Option T) → now ≡ start → Watched takes start [] now
+  watched_first None None same = tt
+  watched_first (Some start) None same = tt
+  watched_first None (Some now) same = absurd cc
+  watched_first (Some start) (Some now) same = let one : start ≡ now = cc in one
+
+  -- it watched one part more
+  pub watched_ended : (parts : List PartStored) (header : Header) (facts : List FactValue) (came : List ℕ) (start now : Option T)
+      (last : Option ℕ) → WatchesSoFar takes start parts (Some header) facts now last
+      → Watched takes start (parts ++ record { given = record { header = header; facts = facts }; bytes = came } ∷ []) now
+  watched_ended parts header facts came None None last watches = tt
+  watched_ended parts header facts came (Some start) None last watches = tt
+  watched_ended parts header facts came None (Some now) last watches = absurd watches
+  watched_ended parts header facts came (Some start) (Some now) last watches =
+      parts_more start watches.mid now parts (record { given = record { header = header; facts = facts }; bytes = came }) watches.before
+      watches.so_far
 
 -- ---- what the readers told
 

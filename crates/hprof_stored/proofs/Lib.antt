@@ -16,6 +16,7 @@ mod ObjectTable
 mod Passed
 mod Counted
 mod MadeUp
+mod WatchedPass
 pub mod StoredReads
 pub mod StoredMakes
 mod JoinMakes

@@ -63,13 +63,13 @@ same_times (part ∷ parts) = ap (λ (times : List ℕ). part.header.millis ∷ 
 module _ {R S P : Type 0} (left : R → Option (List ℕ)) (written : S → Option (List ℕ)) (health : S → Health)
     (bytes : P → List (Option (List ℕ))) (readers : List R) (scratch : Option (List ℕ)) (stored : StoredHeap S) (it : InParts S P)
     (told : List (List ℕ)) (are : AreStoredOf left written health bytes readers scratch stored it told) where
-  abbrev heap : HeapValue
+  abbrev pub heap : HeapValue
   heap = heap_of stored.heap
 
-  abbrev parts : List PartStored
+  abbrev pub parts : List PartStored
   parts = are.holds.parts
 
-  abbrev given : List Given
+  abbrev pub given : List Given
   given = given_of parts
 
   all_stored : AreStored (limits_under it) (map Some told) parts
@@ -81,10 +81,10 @@ module _ {R S P : Type 0} (left : R → Option (List ℕ)) (written : S → Opti
       told_again (limits_under it) written health told parts (bytes (parts_under it)) (objects_under it) are.same all_stored
       (are.finished (all_read parts) (are.holds.objects are.scratch_tells))
 
-  fit : FitGiven given
+  pub fit : FitGiven given
   fit = fits (limits_under it) told parts all_stored
 
-  sizes : AllByRecursion (λ part. part.header.ids ≡ heap.ids) given
+  pub sizes : AllByRecursion (λ part. part.header.ids ≡ heap.ids) given
   sizes = same_ids heap.ids given are.holds.tells.0
 
   given_all : AreGiven (limits_under it) (map left (take (length readers) readers)) given
@@ -180,7 +180,7 @@ module _ {R S P : Type 0} (left : R → Option (List ℕ)) (written : S → Opti
         (together_once told ids heap.ids millis heap.millis all (all_given given) (say_together told ids millis all agreement.state)
         (say_together told heap.ids heap.millis (all_given given) state)).1
 
-    all_union : IsUnion (objects_of (all_read parts)) (object_rows heap.ids all)
+    pub all_union : IsUnion (objects_of (all_read parts)) (object_rows heap.ids all)
     all_union =
         subst (λ (l : List (List ByteRow)). IsUnion l (object_rows heap.ids all)) (sym (rows_same parts))
         (in_order given heap.ids all sizes agreement.ordered same_facts)

@@ -2,6 +2,7 @@
 use Rattle.std.proofs.Common.{◌≡◌, ◌≢◌, ◌⊎◌, ◌≤◌, ℕ, false, List, [], ◌∷◌, Option, Some, None, Ok, Err, inl, inr, refl, sym, ap, subst}
 use Rattle.std.proofs.Common.{◌∙◌}
 use Rattle.std.specs.Prelude.{slice_get}
+use Rattle.hprof_values.specs.declared.ids.IdSize.{IdSize}
 use Rattle.hprof_items.specs.declared.header.Header.{Header}
 use Rattle.hprof_items.specs.FactValue.{FactValue}
 use Rattle.hprof_devices.specs.declared.health.Health.{Health}
@@ -26,13 +27,18 @@ use Rattle.hprof_engine.proofs.Gathered.{Gathers-sound, Run-sound}
 use Rattle.hprof_placed.specs.Handed.{Handed}
 use Rattle.hprof_placed.specs.Reading.{HoldsHanded, ListsPart}
 use Rattle.hprof_placed.proofs.Listing.{handed_up_to, handed_whole}
-use Rattle.hprof_stored.specs.declared.stored_sink.StoredSink.{StoredSink}
-use Rattle.hprof_stored.specs.Holding.{Earlier, HoldsAll, HoldsHeader, HoldsStored}
+use Rattle.hprof_stored.specs.declared.watched_sink.WatchedSink.{WatchedSink}
+use Rattle.hprof_stored.specs.Holding.{Earlier, HoldsAll, HoldsStored}
 use Rattle.hprof_stored.specs.Parts.{given_of, others_of}
 use Rattle.hprof_engine.specs.Joining.{IsPartFault}
 use Rattle.hprof_stored.specs.Reading.{AreSoMany, StopsForScratch, StopsReader, StoresAll, stop_of}
 use Rattle.hprof_stored.specs.Storing.{HaveObject, IsFull, IsStoredRefusal, RefusesStored, Storing, storing}
+use Rattle.hprof_stored.specs.WatchedSink.{EarlierWatched, HoldsWatchedSink}
+use Rattle.hprof_stored.specs.Watching.{Watched}
 use Rattle.hprof_stored.proofs.Fresh.{new_behind_all}
+
+abbrev pub watched_after : {T : Type 0} → Earlier → Option T → EarlierWatched T
+watched_after earlier start = record { earlier = earlier; start = start }
 
 no_place : (limits : Limits) (it : Option PartPlace) → it ≡ None → (part : _) → IsPlaceNow limits part it
 no_place limits None e part = tt
@@ -50,19 +56,27 @@ module _ {S : Type 0} (written : S → Option (List ℕ)) (well : S → Health) 
     sound = all.sound;
   }
 
-  module _ {R : Type 0} (left : R → Option (List ℕ)) (health : R → Health) (pulls : R → ℕ) where
-    -- at its end, all facts of the part
-    pub read_whole : (was is : R) (came before : List ℕ) (summary : PartSummary) (handed : Handed) (mid : Storing S)
-        → ListsPart left health pulls limits was came is (Ok summary) handed
-        → HoldsStored written well limits earlier handed.header before handed.facts mid
-        → (facts : List FactValue) × IsPart came summary.header.ids summary.header.millis facts
-        × HoldsHeader written well limits earlier summary.header before facts mid
-    read_whole was is came before summary handed mid reads held =
-        let whole = handed_whole left health pulls limits was is came summary handed reads in (
-          whole.0,
-          whole.2,
-          subst (λ (h : Handed). HoldsStored written well limits earlier h.header before h.facts mid) whole.1 held,
-        )
+  module _ {T : Type 0} {g : Ghosts S} (takes : T → IdSize → FactValue → T → Type 0) (start : Option T) where
+    -- nor was any of its objects shown
+    pub watched_starts : (it : WatchedSink S T g) → HoldsAll written well limits earlier (storing it.sink)
+        → Watched takes start earlier.parts it.watch
+        → HoldsWatchedSink {g = g} written well takes limits (watched_after earlier start) None [] [] it
+    watched_starts it all watched = record { stored = part_starts (storing it.sink) all; watches = watched }
+
+    module _ {R : Type 0} (left : R → Option (List ℕ)) (health : R → Health) (pulls : R → ℕ) where
+      -- at its end, all facts of the part
+      pub read_whole : (was is : R) (came before : List ℕ) (summary : PartSummary) (handed : Handed) (mid : WatchedSink S T g)
+          → ListsPart left health pulls limits was came is (Ok summary) handed
+          → HoldsWatchedSink {g = g} written well takes limits (watched_after earlier start) handed.header before handed.facts mid
+          → (facts : List FactValue) × IsPart came summary.header.ids summary.header.millis facts
+          × HoldsWatchedSink {g = g} written well takes limits (watched_after earlier start) (Some summary.header) before facts mid
+      read_whole was is came before summary handed mid reads held =
+          let whole = handed_whole left health pulls limits was is came summary handed reads in (
+            whole.0,
+            whole.2,
+            subst (λ (h : Handed). HoldsWatchedSink {g = g} written well takes limits (watched_after earlier start) h.header before h.facts mid) whole.1
+                held,
+          )
 
   -- what was gathered is sound, and lacks only what is new
   gathered_sound : (header : Option Header) (bytes : List ℕ) (facts : List FactValue) (it : Storing S)
@@ -105,16 +119,18 @@ module _ {S : Type 0} (written : S → Option (List ℕ)) (well : S → Health) 
       → all_facts items ≡ []
   no_fact longest items place each bare = ap all_facts (items_at_start longest Start place items each bare).1
 
-  module _ {g : Ghosts S} {R : Type 0} (left : R → Option (List ℕ)) (health : R → Health) (pulls : R → ℕ) (was is : R)
-      (came : List ℕ) (handed : Handed) (new : StoredSink S g) where
-    abbrev HoldsIt : StoredSink S g → Limits → Option Header → List ℕ → List FactValue → Type 0
-    HoldsIt sink within header bytes facts = HoldsStored written well within earlier header bytes facts (storing sink)
+  module _ {T : Type 0} {g : Ghosts S} (takes : T → IdSize → FactValue → T → Type 0) (start : Option T) {R : Type 0}
+      (left : R → Option (List ℕ)) (health : R → Health) (pulls : R → ℕ) (was is : R) (came : List ℕ) (handed : Handed)
+      (new : WatchedSink S T g) where
+    abbrev HoldsIt : WatchedSink S T g → Limits → Option Header → List ℕ → List FactValue → Type 0
+    HoldsIt it within header bytes facts =
+        HoldsWatchedSink {g = g} written well takes within (watched_after earlier start) header bytes facts it
 
     abbrev pub Comes : PartFault → Type 0
     Comes fault =
         HoldsHanded HoldsIt
-        (λ (old : StoredSink S g) given why (it : StoredSink S g). RefusesStored (storing old) given why (storing it))
-        (λ (sink : StoredSink S g). sink.failed) limits came (Err fault) handed new
+        (λ (old : WatchedSink S T g) given why (it : WatchedSink S T g). RefusesStored (storing old.sink) given why (storing it.sink))
+        (λ (it : WatchedSink S T g). it.sink.failed) limits came (Err fault) handed new
 
     -- the facts before a refused item
     bare_item : (fault : SinkFault) → (reads : ListsPart left health pulls limits was came is (Err (faults.Sink fault)) handed)
@@ -126,10 +142,10 @@ module _ {S : Type 0} (written : S → Option (List ℕ)) (well : S → Health) 
 
     -- the scratch took no more
     pub is_full : ListsPart left health pulls limits was came is (Err (faults.Sink sinks.Failed)) handed → Comes (faults.Sink sinks.Failed)
-        → IsFull new.full
+        → IsFull new.sink.full
     is_full reads comes =
-        refused_for handed.header comes.1.before handed.facts handed.refused sinks.Failed (storing comes.0) (storing new)
-        (bare_item sinks.Failed reads) comes.1.held comes.2.0
+        refused_for handed.header comes.1.before handed.facts handed.refused sinks.Failed (storing comes.0.sink)
+        (storing new.sink) (bare_item sinks.Failed reads) comes.1.held.stored comes.2.0
 
     -- with which fault the part is refused
     pub is_fault : (fault : PartFault) → (fault ≡ faults.Sink sinks.Failed → ⊥)
@@ -138,9 +154,10 @@ module _ {S : Type 0} (written : S → Option (List ℕ)) (well : S → Health) 
     is_fault (faults.Sink sinks.OutOfMemory) other reads comes =
         let up = handed_up_to left health pulls limits was is came sinks.OutOfMemory handed reads in
         let bare = bare_item sinks.OutOfMemory reads in
-        let why = refused_for handed.header comes.1.before handed.facts handed.refused sinks.OutOfMemory (storing comes.0) (storing new)
-        bare comes.1.held comes.2.0 in
-        let wants = wants_for handed.header comes.1.before handed.facts handed.refused (storing comes.0) bare comes.1.held why in (
+        let why = refused_for handed.header comes.1.before handed.facts handed.refused sinks.OutOfMemory (storing comes.0.sink)
+        (storing new.sink) bare comes.1.held.stored comes.2.0 in
+        let wants = wants_for handed.header comes.1.before handed.facts handed.refused (storing comes.0.sink) bare comes.1.held.stored
+        why in (
           reads.0,
           subst (λ (l : List FactValue). HaveObject l
               ⊎ IsNewBehind (given_of earlier.parts) (header_before reads.0.1.whole.before) (all_facts reads.0.1.whole.items) l)
@@ -165,18 +182,19 @@ stops_for old new some scratches.Full full = some
 stops_for old new some (scratches.Write fault) full = some
 
 -- how reading stops at a reader
-pub stops_so : {R : Type 0} (left : R → Option (List ℕ)) (health : R → Health) (pulls : R → ℕ) {S : Type 0} (g : Ghosts S)
-    (written : S → Option (List ℕ)) (well : S → Health) (limits : Limits) (scratch : Option (List ℕ)) (old new : List R) (index : ℕ)
-    (was : R) → slice_get old index ≡ Some was → (full : Option ScratchFault) (fault : PartFault)
+pub stops_so : {R : Type 0} (left : R → Option (List ℕ)) (health : R → Health) (pulls : R → ℕ) {S T : Type 0} (g : Ghosts S)
+    (written : S → Option (List ℕ)) (well : S → Health) (takes : T → IdSize → FactValue → T → Type 0) (limits : Limits)
+    (scratch : Option (List ℕ)) (start : Option T) (old new : List R) (index : ℕ) (was : R) → slice_get old index ≡ Some was
+    → (full : Option ScratchFault) (fault : PartFault)
     → (fault ≡ faults.Sink sinks.Failed → IsFull full)
     → ((fault ≡ faults.Sink sinks.Failed → ⊥) → StopsReader left health pulls limits old new index fault)
-    → StoresAll left health pulls {S = S} {g = g} written well limits scratch old (Err (stop_of full index fault)) new
-stops_so left health pulls g written well limits scratch old new index was there None (faults.Sink sinks.Failed) fills part =
+    → StoresAll left health pulls {S = S} {g = g} written well takes limits scratch start old (Err (stop_of full index fault)) new
+stops_so left health pulls g written well takes limits scratch start old new index was there None (faults.Sink sinks.Failed) fills part =
     absurd (fills refl)
-stops_so left health pulls g written well limits scratch old new index was there (Some why) (faults.Sink sinks.Failed) fills part =
+stops_so left health pulls g written well takes limits scratch start old new index was there (Some why) (faults.Sink sinks.Failed) fills part =
     stops_for old new (some_reader old index was there) why (fills refl)
-stops_so left health pulls g written well limits scratch old new index was there None fault fills part = part (λ e. cc)
-stops_so left health pulls g written well limits scratch old new index was there (Some why) fault fills part = part (λ e. cc)
+stops_so left health pulls g written well takes limits scratch start old new index was there None fault fills part = part (λ e. cc)
+stops_so left health pulls g written well takes limits scratch start old new index was there (Some why) fault fills part = part (λ e. cc)
 
 -- how many readers were read to their ends then
 pub so_many : (full : Option ScratchFault) (index all : ℕ) (fault : PartFault) → index ≤ all

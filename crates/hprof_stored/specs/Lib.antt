@@ -1,7 +1,10 @@
 pub mod Parts
+pub mod Watching
 pub mod Storing
 pub mod Holding
 pub mod HoldingLaws
+pub mod WatchedSink
+pub mod WatchedLaws
 pub mod Reading
 pub mod Dumping
 pub mod RowDecoder

@@ -10,6 +10,8 @@ use Rattle.hprof_stream.specs.declared.part_fault.PartFault.{PartFault}
 use Rattle.hprof_stream.specs.declared.part_fault.PartFault.TheVariants as faults
 use Rattle.hprof_stream.specs.declared.sink.SinkFault.TheVariants as sinks
 use Rattle.hprof_stream.specs.declared.summary.PartSummary.{PartSummary}
+use Rattle.hprof_values.specs.declared.ids.IdSize.{IdSize}
+use Rattle.hprof_items.specs.FactValue.{FactValue}
 use Rattle.hprof_rows.specs.declared.key.Key.{Key}
 use Rattle.hprof_heap.specs.declared.heap.Heap.{Heap}
 use Rattle.hprof_heap.specs.declared.standing.Refusal.TheVariants as refusals
@@ -24,10 +26,11 @@ use Rattle.hprof_engine.specs.Summaries.{HoldsFirst}
 use Rattle.hprof_stored.specs.declared.stored_fault.StoredFault.{StoredFault}
 use Rattle.hprof_stored.specs.declared.stored_fault.StoredFault.TheVariants as stops
 use Rattle.hprof_stored.specs.declared.stored_heap.StoredHeap.{StoredHeap}
-use Rattle.hprof_stored.specs.declared.stored_sink.StoredSink.{StoredSink}
+use Rattle.hprof_stored.specs.declared.watched_sink.WatchedSink.{WatchedSink}
 use Rattle.hprof_stored.specs.Holding.{HoldsAll}
 use Rattle.hprof_stored.specs.Parts.{AreStored, PartStored, all_read, given_of, others_of}
 use Rattle.hprof_stored.specs.Storing.{HaveObject, storing}
+use Rattle.hprof_stored.specs.Watching.{Watched}
 
 -- the heap of all facts of the parts but objects, and a log that keeps enough of the objects, if the scratch tells its bytes
 --   lefts: what the readers had to tell;  scratch: the bytes of the scratch at first
@@ -39,6 +42,14 @@ pub record HoldsHeap {S : Type 0} (written : S → Option (List ℕ)) (health : 
   pub tells : Tells (others_of parts) (Ok (heap_of it.heap))
   pub objects : IsSome scratch → HoldsParts written health limits (all_read parts) it.objects
   pub well : health (scratch_of_log it.objects) ≡ healths.Well
+
+-- the same, and what a sink took of the parts that watched, if one did
+--   start, now: that sink, before and afterwards
+pub record HoldsWatched {S T : Type 0} (written : S → Option (List ℕ)) (health : S → Health) (takes : T → IdSize → FactValue → T → Type 0)
+    (limits : Limits) (lefts : List (Option (List ℕ))) (scratch : Option (List ℕ)) (start : Option T) (it : StoredHeap S) (now : Option T)
+    : Type 0 where
+  pub holds : HoldsHeap written health limits lefts scratch it
+  pub watched : Watched takes start holds.parts now
 
 -- ---- how reading ended
 
@@ -85,18 +96,20 @@ StopsForScratch old new other = old ≢ []
 
 -- ---- reading all parts
 
-module _ {R : Type 0} (left : R → Option (List ℕ)) (health : R → Health) (pulls : R → ℕ) {S : Type 0} {g : Ghosts S}
-    (written : S → Option (List ℕ)) (well : S → Health) (limits : Limits) (scratch : Option (List ℕ)) where
+module _ {R : Type 0} (left : R → Option (List ℕ)) (health : R → Health) (pulls : R → ℕ) {S T : Type 0} {g : Ghosts S}
+    (written : S → Option (List ℕ)) (well : S → Health) (takes : T → IdSize → FactValue → T → Type 0) (limits : Limits)
+    (scratch : Option (List ℕ)) (start : Option T) where
   -- so many readers were read to their ends, and the sink was given their parts
-  pub record StoresFirst (old : List R) (count : ℕ) (sink : StoredSink S g) : Type 0 where
+  pub record StoresFirst (old : List R) (count : ℕ) (it : WatchedSink S T g) : Type 0 where
     pub parts : List PartStored
     pub all : length parts ≡ count
     pub stored : AreStored limits (map left (take count old)) parts
     pub given : AreGiven limits (map left (take count old)) (given_of parts)
-    pub holds : HoldsAll written well limits (record { scratch = scratch; parts = parts }) (storing sink)
+    pub holds : HoldsAll written well limits (record { scratch = scratch; parts = parts }) (storing it.sink)
+    pub watched : Watched takes start parts it.watch
 
   -- all readers were read to their ends, or one was refused, or the scratch took no more
-  abbrev pub StoresAll : List R → Result (StoredSink S g) StoredFault → List R → Type 0
+  abbrev pub StoresAll : List R → Result (WatchedSink S T g) StoredFault → List R → Type 0
   StoresAll old (Ok sink) new = StoresFirst old (length old) sink
   StoresAll old (Err (stops.Part index fault)) new = StopsReader left health pulls limits old new index fault
   StoresAll old (Err (stops.Scratch why)) new = StopsForScratch old new why

@@ -49,6 +49,7 @@ impl<S: Scratch + Drop> StoredSink<S> {
         requires well { S.health scratch ≡ Well }
         ensures holds { IfOk result (λ sink. (limits : Limits)
             → HoldsAll S.written S.health limits (nothing_before (S.written scratch)) (storing sink)) }
+        ensures begun { IfOk result (λ sink. (gathered sink.gatherer).begun ≡ None) }
     {
         let log = ObjectLog::new(alloc, scratch, keeping)?;
         Ok(StoredSink {

@@ -2,6 +2,8 @@ use Rattle.std.proofs.Common.{Some, sym, subst}
 use Rattle.std.specs.Prelude.{⊤}
 use Rattle.hprof_heap.specs.Heap.{heap_of}
 use Rattle.hprof_heap.specs.HeapFacts.{facts_of, size_of}
+use Rattle.hprof_histogram.specs.CountedKinds.{CountsObject}
+use Rattle.hprof_histogram.specs.Known.{MadeUpWith}
 use Rattle.hprof_engine.specs.declared.tool_fault.ToolFault.{ToolFault}
 use Rattle.hprof_engine.specs.Joining.{AreReadOut}
 use Rattle.hprof_passes.specs.Passing.{IfLost}
@@ -10,8 +12,8 @@ use Rattle.hprof_stored.specs.Storing.{HaveObject}
 use Rattle.hprof_stored.proofs.StoredReads.{some_readers}
 use Rattle.hprof_making.specs.Over.{heap_with}
 use Rattle.hprof_making.proofs.Made.{of_loss}
-use Rattle.hprof_making.proofs.OfParts.{of_parts}
-use Rattle.hprof_making.proofs.StoredOf.{are_stored_of}
+use Rattle.hprof_making.proofs.OfParts.{known_agree, of_parts}
+use Rattle.hprof_making.proofs.StoredOf.{are_watched_of}
 use Rattle.hprof_diff.specs.Comparing.{Counts}
 use Rattle.hprof_diff.proofs.Counting.{all_counts, pass_counts, reading_counts, stored_wants_counts}
 use Rattle.hprof_diff.proofs.parts.count_stored.Goals as goal
@@ -21,16 +23,30 @@ pub returns-in-Err-clause-counts : goal.returns-in-Err-clause-counts
 returns-in-Err-clause-counts g c =
     let e = c.in-Err.ensures in
     subst (λ (fault : ToolFault). Counts g.R.Source.left g.R.Source.health g.R.Source.pulls HaveObject ⊤ c.args.limits c.args.readers.now
-    c.read_stored.new.readers (Some fault)) (sym c.from.ensures)
-    (reading_counts g.R.Source.left g.R.Source.health g.R.Source.pulls c.args.limits c.args.readers.now c.read_stored.new.readers
+    c.read_watched.new.readers (Some fault)) (sym c.from.ensures)
+    (reading_counts g.R.Source.left g.R.Source.health g.R.Source.pulls c.args.limits c.args.readers.now c.read_watched.new.readers
     (some_readers c.args.readers.now c.if-is_empty.ensures) c.in-Err.fault e.reads e.first.count e.first.so_many e.first.read_out
     e.no_other)
+
+-- where counts are known, the objects are one stretch
+pub over-requires : goal.over-requires
+over-requires g c =
+    known_agree g.R.Source.left g.S.Target.written g.S.Target.health g.S.Scratch.unreadable g.P.Parts.bytes c.args.readers.now
+    (g.S.Target.written c.args.scratch) c.in-Ok.read.0 c.new-objects.result c.counts_to_watch-watch.result c.in-Ok.read.1
+    c.counts_known-known.result c.what_was_watched_is_a_pass.ensures.agree (record {
+      watches = λ some. (c.counts_to_watch-watch.ensures.some.0 some).1;
+      tally = c.counts_to_watch-watch.ensures.tally;
+      objects = c.finish-objects.result;
+      under = c.new-objects.ensures.objects;
+      one = c.counts_known-known.ensures.one;
+      same = c.counts_known-known.ensures.same;
+    })
 
 -- the objects were counted
 pub returns-in-Ok-over-clause-counts : goal.returns-in-Ok-over-clause-counts
 returns-in-Ok-over-clause-counts g c =
     let readers = c.args.readers.now in
-    let then = c.read_stored.new.readers in
+    let then = c.read_watched.new.readers in
     let e = c.in-Ok.ensures in
     all_counts g.R.Source.left g.R.Source.health g.R.Source.pulls c.args.limits readers then (some_readers readers c.if-is_empty.ensures)
     e.reads (subst (AreReadOut g.R.Source.left g.R.Source.health g.R.Source.pulls c.args.limits readers then) e.first.so_many
@@ -41,16 +57,27 @@ unfolding facts_of size_of
 returns-in-Ok-over-clause-totals g c = λ told tell.
     let left = g.R.Source.left in
     let readers = c.args.readers.now in
-    let stored = c.in-Ok.stored in
+    let stored = c.in-Ok.read.0 in
+    let watch = c.counts_to_watch-watch.result in
+    let watched = c.in-Ok.read.1 in
+    let known = c.counts_known-known.result in
     let it = c.new-objects.result in
     let scratch = g.S.Target.written c.args.scratch in
     let law = c.stored_objects_are_those_of_the_parts.ensures in
     let bytes = c.requires.again (some_readers readers c.if-is_empty.ensures) told tell in
-    let are = of_parts left g.S.Target.written g.S.Target.health g.S.Scratch.unreadable g.P.Parts.bytes law.heap law.agree law.disagree
-    law.faults readers scratch stored it told
-    (are_stored_of left g.S.Target.written g.S.Target.health g.P.Parts.bytes readers scratch stored it c.args.limits
-    c.finish-objects.result c.args.parts.now c.new-objects.ensures.limits c.new-objects.ensures.objects c.new-objects.ensures.parts
-    c.in-Ok.ensures.ok c.finish-objects.ensures.holds told tell bytes.0 bytes.1) in
+    let are = of_parts left g.S.Target.written g.S.Target.health g.S.Scratch.unreadable g.P.Parts.bytes readers scratch stored it watch watched known
+    c.what_was_watched_is_a_pass.ensures.took (record {
+      watches = λ some. (c.counts_to_watch-watch.ensures.some.0 some).1;
+      tally = c.counts_to_watch-watch.ensures.tally;
+      objects = c.finish-objects.result;
+      under = c.new-objects.ensures.objects;
+      one = c.counts_known-known.ensures.one;
+      same = c.counts_known-known.ensures.same;
+    }) told
+    (are_watched_of left g.S.Target.written g.S.Target.health g.P.Parts.bytes CountsObject readers scratch stored it watch watched
+    c.args.limits c.finish-objects.result c.args.parts.now c.new-objects.ensures.limits c.new-objects.ensures.objects
+    c.new-objects.ensures.parts c.in-Ok.ensures.ok c.finish-objects.ensures.holds told tell bytes.0 bytes.1)
+    law.heap law.agree law.disagree law.faults in
     let heap = heap_of stored.heap in
     let all = are.agree c.in-Ok-over.ensures.0 in
     record {
@@ -63,7 +90,7 @@ returns-in-Ok-over-clause-totals g c = λ told tell.
 pub returns-in-Err-Sink-clause-counts : goal.returns-in-Err-Sink-clause-counts
 returns-in-Err-Sink-clause-counts g c =
     let readers = c.args.readers.now in
-    let then = c.read_stored.new.readers in
+    let then = c.read_watched.new.readers in
     let e = c.in-Ok.ensures in
     stored_wants_counts g.R.Source.left g.R.Source.health g.R.Source.pulls c.args.limits readers then
     (some_readers readers c.if-is_empty.ensures) e.reads
@@ -76,9 +103,12 @@ returns-clause-counts g c =
     let health = g.R.Source.health in
     let pulls = g.R.Source.pulls in
     let readers = c.args.readers.now in
-    let then = c.read_stored.new.readers in
+    let then = c.read_watched.new.readers in
     let e = c.in-Ok.ensures in
-    let stored = c.in-Ok.stored in
+    let stored = c.in-Ok.read.0 in
+    let watch = c.counts_to_watch-watch.result in
+    let watched = c.in-Ok.read.1 in
+    let known = c.counts_known-known.result in
     let it = c.new-objects.result in
     let scratch = g.S.Target.written c.args.scratch in
     let some = some_readers readers c.if-is_empty.ensures in
@@ -89,14 +119,22 @@ returns-clause-counts g c =
     (subst (AreReadOut left health pulls c.args.limits readers then) e.first.so_many e.first.read_out) fault (λ told tell.
     let bytes = c.requires.again some told tell in
     of_loss (heap_of stored.heap)
-    (MakeUp g.S.Target.written g.S.Target.health g.P.Parts.bytes it (size_of stored.heap) (facts_of stored.heap))
-    (HaveUnion g.S.Target.written g.S.Target.health g.P.Parts.bytes it)
+    (MadeUpWith (MakeUp g.S.Target.written g.S.Target.health g.P.Parts.bytes it (size_of stored.heap) (facts_of stored.heap))
+    (size_of stored.heap) known) (HaveUnion g.S.Target.written g.S.Target.health g.P.Parts.bytes it)
     (TellsPass g.S.Target.written g.S.Target.health g.P.Parts.bytes g.S.Scratch.unreadable it (size_of stored.heap) (facts_of stored.heap))
     told
-    (of_parts left g.S.Target.written g.S.Target.health g.S.Scratch.unreadable g.P.Parts.bytes law.heap law.agree law.disagree law.faults
-    readers scratch stored it told
-    (are_stored_of left g.S.Target.written g.S.Target.health g.P.Parts.bytes readers scratch stored it c.args.limits
-    c.finish-objects.result c.args.parts.now c.new-objects.ensures.limits c.new-objects.ensures.objects c.new-objects.ensures.parts
-    e.ok c.finish-objects.ensures.holds told tell bytes.0 bytes.1)) fault
+    (of_parts left g.S.Target.written g.S.Target.health g.S.Scratch.unreadable g.P.Parts.bytes readers scratch stored it watch watched known
+    c.what_was_watched_is_a_pass.ensures.took (record {
+      watches = λ some. (c.counts_to_watch-watch.ensures.some.0 some).1;
+      tally = c.counts_to_watch-watch.ensures.tally;
+      objects = c.finish-objects.result;
+      under = c.new-objects.ensures.objects;
+      one = c.counts_known-known.ensures.one;
+      same = c.counts_known-known.ensures.same;
+    }) told
+    (are_watched_of left g.S.Target.written g.S.Target.health g.P.Parts.bytes CountsObject readers scratch stored it watch watched
+    c.args.limits c.finish-objects.result c.args.parts.now c.new-objects.ensures.limits c.new-objects.ensures.objects
+    c.new-objects.ensures.parts e.ok c.finish-objects.ensures.holds told tell bytes.0 bytes.1)
+    law.heap law.agree law.disagree law.faults) fault
     (subst (IfLost (TellsPass g.S.Target.written g.S.Target.health g.P.Parts.bytes g.S.Scratch.unreadable it (size_of stored.heap)
     (facts_of stored.heap))) c.in-Err-Lost.field-0-is c.in-Err-Lost.ensures)))

@@ -1,7 +1,8 @@
-use Rattle.std.proofs.Common.{refl}
+use Rattle.std.proofs.Common.{None, refl}
 use Rattle.std.specs.Prelude.{⊤}
 use Rattle.hprof_heap.specs.HeapFacts.{facts_of, size_of}
 use Rattle.hprof_passes.specs.Passing.{IsItself}
+use Rattle.hprof_histogram.specs.Known.{MadeUpWith}
 use Rattle.hprof_lines.proofs.PassedEnds.{in_memory}
 use Rattle.hprof_diff.specs.DifferenceText.{IsGrowthText, changes_text}
 use Rattle.hprof_diff.specs.Kept.{totals_in}
@@ -16,12 +17,15 @@ returns-in-Err-clause-bytes g c =
     let facts = facts_of c.args.heap.now in
     let new = totals_exist ids facts in
     let changes = growth_exists c.args.old.now ids facts new.0 new.1 in
-    in_memory (IsItself ids facts) ⊤ (λ fault. ⊥) (IsGrowthText (totals_in c.args.old.now) ids) g.W.Target.written g.W.Target.health
-    c.args.target.now c.write_growth_over.new.target facts (record {
-      same = refl;
-      fit = c.holds_of_heap.ensures.fit;
-      ordered = c.holds_of_heap.ensures.ordered;
-    }) (
+    in_memory (MadeUpWith (IsItself ids facts) ids None) ⊤ (λ fault. ⊥) (IsGrowthText (totals_in c.args.old.now) ids) g.W.Target.written
+    g.W.Target.health c.args.target.now c.write_growth_over.new.target facts (
+      record {
+        same = refl;
+        fit = c.holds_of_heap.ensures.fit;
+        ordered = c.holds_of_heap.ensures.ordered;
+      },
+      tt,
+    ) (
       changes_text changes.0,
       record {
         agree = c.holds_of_heap.ensures.agree;

@@ -5,6 +5,6 @@ pub returns-in-Ok-rows_in_order : goal.returns-in-Ok-rows_in_order
 returns-in-Ok-rows_in_order g c =
     let ids = size_of c.args.heap.now in (
       c.in-Ok.ensures.0,
-      λ all make. c.in-Ok-rows_in_order.ensures ids all
-          (g.met.O.Objects.whole c.args.objects.now ids (facts_of c.args.heap.now) all make).fit (c.in-Ok.ensures.1 all make),
+      λ all made. c.in-Ok-rows_in_order.ensures ids all
+          (g.met.O.Objects.whole c.args.objects.now ids (facts_of c.args.heap.now) all made.0).fit (c.in-Ok.ensures.1 all made),
     )

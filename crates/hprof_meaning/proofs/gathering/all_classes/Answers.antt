@@ -8,5 +8,5 @@ returns-in-Ok-classes_of-clause-all g c =
     let ids = size_of c.args.heap.now in (
       c.in-Ok.ensures.0,
       λ all make. c.in-Ok-classes_of.ensures.all all (g.met.O.Objects.whole c.args.objects.now ids (facts_of c.args.heap.now) all make)
-          (subst (IsHistogram ids all) (sym c.deref.ensures.value) (c.in-Ok.ensures.1 all make)),
+          (subst (IsHistogram ids all) (sym c.deref.ensures.value) (c.in-Ok.ensures.1 all (make, tt))),
     )

@@ -1,4 +1,5 @@
-use Rattle.std.proofs.Common.{refl, sym}
+use Rattle.std.proofs.Common.{ap, refl, sym}
+use Rattle.hprof_heap.specs.Gathering.{Gathered}
 use Rattle.hprof_stored.proofs.stored_sink.StoredSink.new.Goals as goal
 
 pub returns : goal.returns
@@ -11,4 +12,5 @@ returns g c = record {
     without = refl;
     sound = refl;
   };
+  begun = ap (λ (it : Gathered). it.begun) c.new-2.ensures;
 }
