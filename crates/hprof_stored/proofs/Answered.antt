@@ -97,7 +97,8 @@ module _ {R : Type 0} (left : R → Option (List ℕ)) (health : R → Health) (
       part = λ other why e parts told.
           let one : stops.Part index fault ≡ stops.Part other why = cc in
           stops_part parts old new other why told
-          (subst (λ (f : StoredFault). StoresAll left health pulls {g = g} written well takes limits scratch start old (Err f) new) one reads);
+          (subst (λ (f : StoredFault). StoresAll left health pulls {g = g} written well takes limits scratch start old (Err f) new) one
+          reads);
       scratch = λ why e. absurd cc;
       accepted = λ all. absurd all;
     },

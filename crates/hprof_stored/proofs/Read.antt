@@ -74,8 +74,8 @@ module _ {S : Type 0} (written : S → Option (List ℕ)) (well : S → Health) 
           let whole = handed_whole left health pulls limits was is came summary handed reads in (
             whole.0,
             whole.2,
-            subst (λ (h : Handed). HoldsWatchedSink {g = g} written well takes limits (watched_after earlier start) h.header before h.facts mid) whole.1
-                held,
+            subst (λ (h : Handed). HoldsWatchedSink {g = g} written well takes limits (watched_after earlier start) h.header before h.facts
+                mid) whole.1 held,
           )
 
   -- what was gathered is sound, and lacks only what is new
@@ -191,7 +191,8 @@ pub stops_so : {R : Type 0} (left : R → Option (List ℕ)) (health : R → Hea
     → StoresAll left health pulls {S = S} {g = g} written well takes limits scratch start old (Err (stop_of full index fault)) new
 stops_so left health pulls g written well takes limits scratch start old new index was there None (faults.Sink sinks.Failed) fills part =
     absurd (fills refl)
-stops_so left health pulls g written well takes limits scratch start old new index was there (Some why) (faults.Sink sinks.Failed) fills part =
+stops_so left health pulls g written well takes limits scratch start old new index was there (Some why) (faults.Sink sinks.Failed) fills
+    part =
     stops_for old new (some_reader old index was there) why (fills refl)
 stops_so left health pulls g written well takes limits scratch start old new index was there None fault fills part = part (λ e. cc)
 stops_so left health pulls g written well takes limits scratch start old new index was there (Some why) fault fills part = part (λ e. cc)

@@ -22,7 +22,7 @@ use Rattle.hprof_stored.specs.declared.watched_sink.WatchedSink.{WatchedSink}
 use Rattle.hprof_stored.specs.HoldingLaws.{holds_begun, holds_taken}
 use Rattle.hprof_stored.specs.Parts.{PartStored}
 use Rattle.hprof_stored.specs.Storing.{storing}
-use Rattle.hprof_stored.specs.WatchedSink.{BeginsWatched, EarlierWatched, HoldsWatchedSink, IsHighest, StepsWatched, WatchesOn, WatchesSoFar}
+use Rattle.hprof_stored.specs.WatchedSink.{BeginsWatched, EarlierWatched, HoldsWatchedSink, IsHighest, StepsWatched, WatchesSoFar}
 use Rattle.hprof_stored.specs.Watching.{IsAbove, ShowsFact, Watched}
 
 -- ---- a fact more
@@ -37,6 +37,7 @@ record AddsOne (ids : IdSize) (facts : List FactValue) (fact : FactValue) (id : 
   objects : objects_among (facts ++ fact ∷ []) ≡ objects_among facts ++ fact ∷ []
   rows : object_rows ids (facts ++ fact ∷ []) ≡ object_rows ids facts ++ (id, dump_bytes ids fact) ∷ []
 
+-- a fact alone
 alone_none : (ids : IdSize) (fact : FactValue) → object_key fact ≡ None
     → (objects_among (fact ∷ []) ≡ []) × (object_rows ids (fact ∷ []) ≡ [])
 alone_none ids (Instance id trace class bytes) none = absurd cc
@@ -44,16 +45,17 @@ alone_none ids (ObjArray id trace class elements) none = absurd cc
 alone_none ids (PrimArray id trace elem bytes) none = absurd cc
 alone_none ids fact none = (refl, refl)
 
+row_at : (at id : ℕ) (bytes : List ℕ) → at ≡ id → ◌≡◌ {A = List ByteRow} ((at, bytes) ∷ []) ((id, bytes) ∷ [])
+row_at at id bytes same = ap (λ (n : ℕ). let row : ByteRow = (n, bytes) in row ∷ []) same
+
 alone_one : (ids : IdSize) (fact : FactValue) (id : ℕ) → object_key fact ≡ Some id
     → (objects_among (fact ∷ []) ≡ fact ∷ []) × (object_rows ids (fact ∷ []) ≡ (id, dump_bytes ids fact) ∷ [])
-alone_one ids (Instance at trace class bytes) id key =
-    let same : at ≡ id = cc in (refl, ap (λ (n : ℕ). let row : ByteRow = (n, dump_bytes ids (Instance at trace class bytes)) in row ∷ []) same)
-alone_one ids (ObjArray at trace class elements) id key =
-    let same : at ≡ id = cc in (refl, ap (λ (n : ℕ). let row : ByteRow = (n, dump_bytes ids (ObjArray at trace class elements)) in row ∷ []) same)
-alone_one ids (PrimArray at trace elem bytes) id key =
-    let same : at ≡ id = cc in (refl, ap (λ (n : ℕ). let row : ByteRow = (n, dump_bytes ids (PrimArray at trace elem bytes)) in row ∷ []) same)
+alone_one ids (Instance at trace class bytes) id key = (refl, row_at at id (dump_bytes ids (Instance at trace class bytes)) cc)
+alone_one ids (ObjArray at trace class elements) id key = (refl, row_at at id (dump_bytes ids (ObjArray at trace class elements)) cc)
+alone_one ids (PrimArray at trace elem bytes) id key = (refl, row_at at id (dump_bytes ids (PrimArray at trace elem bytes)) cc)
 alone_one ids fact id key = absurd cc
 
+-- a fact behind others
 adds_none : (ids : IdSize) (facts : List FactValue) (fact : FactValue) → object_key fact ≡ None → AddsNone ids facts fact
 adds_none ids facts fact none =
     let alone = alone_none ids fact none in

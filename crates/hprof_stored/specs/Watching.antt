@@ -31,7 +31,8 @@ module _ {T : Type 0} (takes : T → IdSize → FactValue → T → Type 0) wher
   Watched None parts (Some now) = ⊥
   Watched (Some start) parts (Some now) = WatchesParts start parts now
 
-  -- what a fact does to it, if it is there: it takes an object whose identifier is above the last one, or is dropped; other facts pass it by
+  -- what a fact does to it, if it is there: it takes an object whose identifier is above the last one, or is dropped; it passes by other
+  -- facts
   --   key: the identifier, if the fact is an object;  last, highest: that of the last object, before and afterwards
   abbrev pub ShowsFact : IdSize → FactValue → (key : Option ℕ) → (old : Option T) → (last : Option ℕ) → (new : Option T)
       → (highest : Option ℕ) → Type 0

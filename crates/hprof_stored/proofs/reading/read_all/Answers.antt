@@ -28,7 +28,14 @@ room_behind has_room count index summaries within room =
 pub loop-index-init : goal.loop-index-init
 loop-index-init g c = record {
   unread = λ k d after below. refl;
-  first = record { parts = []; all = refl; stored = tt; given = tt; holds = c.in-Ok.ensures.holds c.args.limits; watched = watched_first g.T.ObjectSink.takes c.args.watch c.in-Ok.sink.watch c.in-Ok.ensures.watch };
+  first = record {
+    parts = [];
+    all = refl;
+    stored = tt;
+    given = tt;
+    holds = c.in-Ok.ensures.holds c.args.limits;
+    watched = watched_first g.T.ObjectSink.takes c.args.watch c.in-Ok.sink.watch c.in-Ok.ensures.watch;
+  };
   out = λ k below. absurd (omega (arith, below));
   kept = HoldsFirst-none g.R.Source.left (g.M.Summaries.holds c.args.summaries.now) c.args.readers.now c.args.kept.now c.requires.none;
   room = let all : length c.args.readers.now ≡ length c.args.readers.now - 0 = omega arith in
@@ -90,14 +97,14 @@ returns-in-Err-clause-read g c =
     c.args.readers.now (Err f) (set c.loop-index.readers index is))
     (sym c.stop_at.ensures)
     (stops_so g.R.Source.left g.R.Source.health g.R.Source.pulls {S = g.row.S.Denot} g.S.Target g.S.Target.written g.S.Target.health
-    g.T.ObjectSink.takes c.args.limits (g.S.Target.written c.args.scratch) c.args.watch c.args.readers.now (set c.loop-index.readers index is) index was there
-    c.read_placed.new.sink.sink.full c.in-Err.fault
-    (λ failed. is_full g.S.Target.written g.S.Target.health c.args.limits earlier g.T.ObjectSink.takes c.args.watch g.R.Source.left g.R.Source.health g.R.Source.pulls was is
-    read.0 handed c.read_placed.new.sink
+    g.T.ObjectSink.takes c.args.limits (g.S.Target.written c.args.scratch) c.args.watch c.args.readers.now
+    (set c.loop-index.readers index is) index was there c.read_placed.new.sink.sink.full c.in-Err.fault
+    (λ failed. is_full g.S.Target.written g.S.Target.health c.args.limits earlier g.T.ObjectSink.takes c.args.watch g.R.Source.left
+    g.R.Source.health g.R.Source.pulls was is read.0 handed c.read_placed.new.sink
     (subst (λ (f : PartFault). ListsPart g.R.Source.left g.R.Source.health g.R.Source.pulls c.args.limits was read.0 is (Err f) handed)
     failed read.2.1)
-    (subst (λ (f : PartFault). Comes g.S.Target.written g.S.Target.health c.args.limits earlier g.T.ObjectSink.takes c.args.watch g.R.Source.left g.R.Source.health
-    g.R.Source.pulls was is read.0 handed c.read_placed.new.sink f) failed comes))
+    (subst (λ (f : PartFault). Comes g.S.Target.written g.S.Target.health c.args.limits earlier g.T.ObjectSink.takes c.args.watch
+    g.R.Source.left g.R.Source.health g.R.Source.pulls was is read.0 handed c.read_placed.new.sink f) failed comes))
     (λ other. record {
       given = given_of first.parts;
       of_readers = first.given;
@@ -109,8 +116,8 @@ returns-in-Err-clause-read g c =
         came = read.0;
         consumed = read.1;
         spared = c.in-Err.ensures.pulls;
-        refused = is_fault g.S.Target.written g.S.Target.health c.args.limits earlier g.T.ObjectSink.takes c.args.watch g.R.Source.left g.R.Source.health g.R.Source.pulls
-            was is read.0 handed c.read_placed.new.sink c.in-Err.fault other read.2.1 comes;
+        refused = is_fault g.S.Target.written g.S.Target.health c.args.limits earlier g.T.ObjectSink.takes c.args.watch g.R.Source.left
+            g.R.Source.health g.R.Source.pulls was is read.0 handed c.read_placed.new.sink c.in-Err.fault other read.2.1 comes;
         unread = λ k behind. same_at (set c.loop-index.readers index is) c.args.readers.now k
             (length-set c.loop-index.readers index is ∙ same_length)
             (λ d below. let other : k ≢ index = omega (arith, behind) in
@@ -125,7 +132,8 @@ returns-in-Err-clause-first g c =
     record {
       count = index;
       so_many = subst (λ (f : StoredFault). AreSoMany (Some f) (length c.args.readers.now) index) (sym c.stop_at.ensures)
-          (so_many c.read_placed.new.sink.sink.full index (length c.args.readers.now) c.in-Err.fault (omega (arith, c.loop-index-test.true)));
+          (so_many c.read_placed.new.sink.sink.full index (length c.args.readers.now) c.in-Err.fault
+          (omega (arith, c.loop-index-test.true)));
       read_out = AreReadOut-kept g.R.Source.left g.R.Source.health g.R.Source.pulls c.args.limits c.args.readers.now c.loop-index.readers
           index c.read_placed.new.source c.loop-index.invariant.out;
       summaries = c.loop-index.invariant.kept;
@@ -192,7 +200,8 @@ pub returns-clause-read : goal.returns-clause-read
 returns-clause-read g c =
     let all : c.loop-index.index ≡ length c.args.readers.now = omega (arith, c.loop-index.auto.index-end) in
     subst (λ (count : ℕ). StoresFirst g.R.Source.left g.R.Source.health g.R.Source.pulls g.S.Target.written g.S.Target.health
-    g.T.ObjectSink.takes c.args.limits (g.S.Target.written c.args.scratch) c.args.watch c.args.readers.now count c.loop-index.sink) all c.loop-index.invariant.first
+    g.T.ObjectSink.takes c.args.limits (g.S.Target.written c.args.scratch) c.args.watch c.args.readers.now count c.loop-index.sink) all
+    c.loop-index.invariant.first
 
 pub returns-clause-first : goal.returns-clause-first
 returns-clause-first g c =
