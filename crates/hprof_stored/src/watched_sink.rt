@@ -1,6 +1,6 @@
 //! The sink that takes the facts of parts, and shows the objects to another sink as they come.
 
-ghost use Rattle.std.specs.Prelude.{◌≡◌, ◌<◌, ◌-◌, ◌^◌, false, true, Some, None, IfErr, IfOk, OnOk};
+ghost use Rattle.std.specs.Prelude.{◌≡◌, ◌⊎◌, ◌<◌, ◌-◌, ◌^◌, false, true, Some, None, IfErr, IfOk, OnOk};
 ghost use Rattle.hprof_devices.specs.declared.health.Health.TheVariants.{Well};
 ghost use Rattle.hprof_items.specs.FactValue.{ListsHave, value_of};
 ghost use Rattle.hprof_items.specs.Spelling.{Fits};
@@ -51,7 +51,9 @@ where
     T::Fault: Drop,
     requires fits { Fits ids (value_of object.now) }
     requires lists { ListsHave ids object.now }
-    ensures { result ≡ true → T.takes watch.old ids (value_of object.now) watch.new × IsAbove id last }
+    ensures took { result ≡ true → T.takes watch.old ids (value_of object.now) watch.new × IsAbove id last }
+    ensures refused { result ≡ false → (IsAbove id last → ⊥) ⊎ ((fault : T.Fault) × T.refuses watch.old ids (value_of object.now) fault
+        watch.new) }
 {
     if let Some(last) = last {
         if id <= last {
@@ -109,7 +111,7 @@ where
         requires fits { FitsBegun self.old.ids (value_of fact.now) }
         requires lists { ListsHaveBegun self.old.ids fact.now }
         ensures shown { (ids : IdSize) → self.old.ids ≡ Some ids
-            → ShowsFact T.takes ids (value_of fact.now) (object_key (value_of fact.now)) self.old.watch self.old.last self.new.watch
+            → ShowsFact T.takes T.refuses ids (value_of fact.now) (object_key (value_of fact.now)) self.old.watch self.old.last self.new.watch
             self.new.last }
         ensures sink { self.new.sink ≡ self.old.sink }
     {
@@ -138,9 +140,9 @@ where
     ghost use Rattle.hprof_stored.specs.Storing.{RefusesStored, storing};
     ghost use Rattle.hprof_stored.specs.WatchedSink.{BeginsWatched, StepsWatched};
 
-    ghost begins = { λ old header new. BeginsWatched S.written S.health T.takes old header new };
+    ghost begins = { λ old header new. BeginsWatched S.written S.health T.takes T.refuses old header new };
 
-    ghost steps = { λ old fact new. StepsWatched S.written S.health T.takes old fact new };
+    ghost steps = { λ old fact new. StepsWatched S.written S.health T.takes T.refuses old fact new };
 
     ghost begun = { λ it. (gathered it.sink.gatherer).begun };
 
@@ -182,13 +184,13 @@ where
     ghost Earlier = { EarlierWatched T };
 
     ghost holds = { λ it limits earlier header bytes facts.
-        HoldsWatchedSink S.written S.health T.takes limits earlier header bytes facts it };
+        HoldsWatchedSink S.written S.health T.takes T.refuses limits earlier header bytes facts it };
 
     ghost begins_part = { λ old header new begins limits earlier bytes held.
-        watched_begun S.written S.health T.takes limits earlier header bytes old new begins held };
+        watched_begun S.written S.health T.takes T.refuses limits earlier header bytes old new begins held };
 
     ghost takes_fact = { λ old fact new steps limits earlier header bytes facts held.
-        watched_taken S.written S.health T.takes limits earlier header bytes facts fact old new steps held };
+        watched_taken S.written S.health T.takes T.refuses limits earlier header bytes facts fact old new steps held };
 
     fn note(&mut self, place: PartPlace) {
         self.sink.note(place);

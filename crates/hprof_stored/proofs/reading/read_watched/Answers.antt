@@ -18,7 +18,7 @@ returns-in_err-sink-clause-reads g c =
     g.R.Source.health g.R.Source.pulls c.args.limits c.args.readers.now c.read_all.new.readers (stopped_by r)) c.from_residual.result
     fault c.from_residual.ensures.1
     (stopped g.R.Source.left g.R.Source.health g.R.Source.pulls c.args.limits {S = g.row.S.Denot} g.S.Target g.S.Target.written
-    g.S.Target.health g.T.ObjectSink.takes (g.S.Target.written c.args.scratch) c.args.watch c.args.readers.now c.read_all.new.readers fault
+    g.S.Target.health g.T.ObjectSink.takes g.T.ObjectSink.refuses (g.S.Target.written c.args.scratch) c.args.watch c.args.readers.now c.read_all.new.readers fault
     c.in_err-sink.ensures.read le).0
 
 pub returns-in_err-sink-clause-no_other : goal.returns-in_err-sink-clause-no_other
@@ -29,7 +29,7 @@ returns-in_err-sink-clause-no_other g c =
     g.R.Source.health c.args.readers.now c.read_all.new.readers (stopped_by r)) c.from_residual.result
     fault c.from_residual.ensures.1
     (stopped g.R.Source.left g.R.Source.health g.R.Source.pulls c.args.limits {S = g.row.S.Denot} g.S.Target g.S.Target.written
-    g.S.Target.health g.T.ObjectSink.takes (g.S.Target.written c.args.scratch) c.args.watch c.args.readers.now c.read_all.new.readers fault
+    g.S.Target.health g.T.ObjectSink.takes g.T.ObjectSink.refuses (g.S.Target.written c.args.scratch) c.args.watch c.args.readers.now c.read_all.new.readers fault
     c.in_err-sink.ensures.read le).1
 
 -- all parts were read
@@ -72,6 +72,16 @@ returns-clause-ok g c =
         well = sink.sink.well first.holds.sound;
       };
       watched = first.watched;
+    }
+
+pub returns-clause-dropped : goal.returns-clause-dropped
+returns-clause-dropped g c =
+    let first = c.in_ok-sink.ensures.read in
+    record {
+      parts = first.parts;
+      stored = by_all g.R.Source.left (λ (l : List (Option (List ℕ))). AreStored c.args.limits l first.parts) c.args.readers.now
+          first.stored;
+      dropped = first.dropped;
     }
 
 pub returns-clause-reads : goal.returns-clause-reads
