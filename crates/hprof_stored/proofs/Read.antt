@@ -76,8 +76,8 @@ module _ {S : Type 0} (written : S → Option (List ℕ)) (well : S → Health) 
           let whole = handed_whole left health pulls limits was is came summary handed reads in (
             whole.0,
             whole.2,
-            subst (λ (h : Handed). HoldsWatchedSink {g = g} written well takes refuses limits (watched_after earlier start) h.header before h.facts
-                mid) whole.1 held,
+            subst (λ (h : Handed). HoldsWatchedSink {g = g} written well takes refuses limits (watched_after earlier start) h.header before
+                h.facts mid) whole.1 held,
           )
 
   -- what was gathered is sound, and lacks only what is new
@@ -184,20 +184,17 @@ stops_for old new some scratches.Full full = some
 stops_for old new some (scratches.Write fault) full = some
 
 -- how reading stops at a reader
-pub stops_so : {R : Type 0} (left : R → Option (List ℕ)) (health : R → Health) (pulls : R → ℕ) {S T E : Type 0} (g : Ghosts S)
+module _ {R : Type 0} (left : R → Option (List ℕ)) (health : R → Health) (pulls : R → ℕ) {S T E : Type 0} (g : Ghosts S)
     (written : S → Option (List ℕ)) (well : S → Health) (takes : T → IdSize → FactValue → T → Type 0)
-    (refuses : T → IdSize → FactValue → E → T → Type 0) (limits : Limits) (scratch : Option (List ℕ)) (start : Option T) (old new : List R) (index : ℕ) (was : R) → slice_get old index ≡ Some was
-    → (full : Option ScratchFault) (fault : PartFault)
-    → (fault ≡ faults.Sink sinks.Failed → IsFull full)
-    → ((fault ≡ faults.Sink sinks.Failed → ⊥) → StopsReader left health pulls limits old new index fault)
-    → StoresAll left health pulls {S = S} {g = g} written well takes refuses limits scratch start old (Err (stop_of full index fault)) new
-stops_so left health pulls g written well takes refuses limits scratch start old new index was there None (faults.Sink sinks.Failed) fills part =
-    absurd (fills refl)
-stops_so left health pulls g written well takes refuses limits scratch start old new index was there (Some why) (faults.Sink sinks.Failed) fills
-    part =
-    stops_for old new (some_reader old index was there) why (fills refl)
-stops_so left health pulls g written well takes refuses limits scratch start old new index was there None fault fills part = part (λ e. cc)
-stops_so left health pulls g written well takes refuses limits scratch start old new index was there (Some why) fault fills part = part (λ e. cc)
+    (refuses : T → IdSize → FactValue → E → T → Type 0) (limits : Limits) (scratch : Option (List ℕ)) (start : Option T) (old new : List R)
+    (index : ℕ) (was : R) (there : slice_get old index ≡ Some was) where
+  pub stops_so : (full : Option ScratchFault) (fault : PartFault) → (fault ≡ faults.Sink sinks.Failed → IsFull full)
+      → ((fault ≡ faults.Sink sinks.Failed → ⊥) → StopsReader left health pulls limits old new index fault)
+      → StoresAll left health pulls {S = S} {g = g} written well takes refuses limits scratch start old (Err (stop_of full index fault)) new
+  stops_so None (faults.Sink sinks.Failed) fills part = absurd (fills refl)
+  stops_so (Some why) (faults.Sink sinks.Failed) fills part = stops_for old new (some_reader old index was there) why (fills refl)
+  stops_so None fault fills part = part (λ e. cc)
+  stops_so (Some why) fault fills part = part (λ e. cc)
 
 -- how many readers were read to their ends then
 pub so_many : (full : Option ScratchFault) (index all : ℕ) (fault : PartFault) → index ≤ all

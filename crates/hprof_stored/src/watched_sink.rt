@@ -111,8 +111,8 @@ where
         requires fits { FitsBegun self.old.ids (value_of fact.now) }
         requires lists { ListsHaveBegun self.old.ids fact.now }
         ensures shown { (ids : IdSize) → self.old.ids ≡ Some ids
-            → ShowsFact T.takes T.refuses ids (value_of fact.now) (object_key (value_of fact.now)) self.old.watch self.old.last self.new.watch
-            self.new.last }
+            → ShowsFact T.takes T.refuses ids (value_of fact.now) (object_key (value_of fact.now)) self.old.watch self.old.last
+            self.new.watch self.new.last }
         ensures sink { self.new.sink ≡ self.old.sink }
     {
         let Some(id) = object_id(fact) else {

@@ -18,8 +18,8 @@ returns-in_err-sink-clause-reads g c =
     g.R.Source.health g.R.Source.pulls c.args.limits c.args.readers.now c.read_all.new.readers (stopped_by r)) c.from_residual.result
     fault c.from_residual.ensures.1
     (stopped g.R.Source.left g.R.Source.health g.R.Source.pulls c.args.limits {S = g.row.S.Denot} g.S.Target g.S.Target.written
-    g.S.Target.health g.T.ObjectSink.takes g.T.ObjectSink.refuses (g.S.Target.written c.args.scratch) c.args.watch c.args.readers.now c.read_all.new.readers fault
-    c.in_err-sink.ensures.read le).0
+    g.S.Target.health g.T.ObjectSink.takes g.T.ObjectSink.refuses (g.S.Target.written c.args.scratch) c.args.watch c.args.readers.now
+    c.read_all.new.readers fault c.in_err-sink.ensures.read le).0
 
 pub returns-in_err-sink-clause-no_other : goal.returns-in_err-sink-clause-no_other
 returns-in_err-sink-clause-no_other g c =
@@ -29,8 +29,8 @@ returns-in_err-sink-clause-no_other g c =
     g.R.Source.health c.args.readers.now c.read_all.new.readers (stopped_by r)) c.from_residual.result
     fault c.from_residual.ensures.1
     (stopped g.R.Source.left g.R.Source.health g.R.Source.pulls c.args.limits {S = g.row.S.Denot} g.S.Target g.S.Target.written
-    g.S.Target.health g.T.ObjectSink.takes g.T.ObjectSink.refuses (g.S.Target.written c.args.scratch) c.args.watch c.args.readers.now c.read_all.new.readers fault
-    c.in_err-sink.ensures.read le).1
+    g.S.Target.health g.T.ObjectSink.takes g.T.ObjectSink.refuses (g.S.Target.written c.args.scratch) c.args.watch c.args.readers.now
+    c.read_all.new.readers fault c.in_err-sink.ensures.read le).1
 
 -- all parts were read
 
