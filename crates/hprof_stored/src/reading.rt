@@ -92,9 +92,9 @@ fn heap_of_all(gatherer: Gatherer) -> Result<Heap, StoredFault>
 /// Reads all parts in order, and returns the heap of all facts but their objects, and a log of these. `summaries` takes the summary of each
 /// part that was read to its end, and keeps it in `kept`.
 ///
-/// `watch` takes each object as it comes, and is returned beside the heap. It took the objects of all parts, in the order of the parts. It
-/// is dropped as soon as it refuses an object, or if the objects of a part do not come in ascending order of identifier: then the parts are
-/// read without it, and `None` is returned beside the heap.
+/// `watch` takes each object as it comes, and is returned beside the heap: then it took all objects of each part, in the order of the part.
+/// It is dropped when it refuses an object, or when an object of a part has no greater identifier than the one before it. Then reading goes
+/// on without it, and `None` is returned beside the heap.
 ///
 /// # Errors
 ///
@@ -195,10 +195,8 @@ pub fn read_stored<R: Source, S: Scratch + Drop, M: Summaries>(
         → (IsHinderedStored (stopped_by result) → ⊥) → IsOkOrConflictStored (stopped_by result) }
 {
     let watch: Option<NoWatch> = None;
-    match read_watched(
+    let (stored, _) = read_watched(
         alloc, readers, limits, keeping, scratch, summaries, kept, watch,
-    ) {
-        Ok((stored, _)) => Ok(stored),
-        Err(fault) => Err(fault),
-    }
+    )?;
+    Ok(stored)
 }

@@ -85,11 +85,8 @@ where
             → HoldsAll S.written S.health limits (nothing_before (S.written scratch)) (storing it.sink)) }
         ensures watch { IfOk result (λ it. it.watch ≡ watch) }
     {
-        let Ok(sink) = StoredSink::new(alloc, scratch, keeping) else {
-            return Err(AllocError);
-        };
         Ok(WatchedSink {
-            sink,
+            sink: StoredSink::new(alloc, scratch, keeping)?,
             ids: None,
             watch,
             last: None,
@@ -151,22 +148,15 @@ where
     ghost refuses = { λ old given fault new. RefusesStored (storing old.sink) given fault (storing new.sink) };
 
     fn begin_part(&mut self, header: Header) -> Result<(), SinkFault> {
-        match self.sink.begin_part(header) {
-            Ok(()) => {
-                self.ids = Some(header.ids);
-                self.last = None;
-                Ok(())
-            }
-            Err(fault) => Err(fault),
-        }
+        self.sink.begin_part(header)?;
+        self.ids = Some(header.ids);
+        self.last = None;
+        Ok(())
     }
 
     #[inline]
     fn take(&mut self, fact: &Fact<'_>, spelled: &[u8]) -> Result<(), SinkFault> {
-        match self.sink.take(fact, spelled) {
-            Ok(()) => {}
-            Err(fault) => return Err(fault),
-        }
+        self.sink.take(fact, spelled)?;
         if self.watch.is_some() {
             self.show(fact);
         }
