@@ -23,8 +23,8 @@ use std::alloc::{AllocError, Global};
 
 /// Takes parts as [`StoredSink`] does, and gives each object also to a sink that watches, if there is one.
 ///
-/// That sink is dropped as soon as it refuses an object, or if an object of a part does not come in ascending order of identifier. Then
-/// the parts are taken without it.
+/// That sink is dropped when it refuses an object, or when an object of a part has no greater identifier than the one before it. Then the
+/// parts are taken without it.
 #[derive(Drop)]
 pub(crate) struct WatchedSink<S: Target + Drop, T> {
     pub(crate) sink: StoredSink<S>,
