@@ -1,0 +1,4 @@
+pub mod Small
+pub mod Begun
+pub mod FewObjects
+pub mod TextOf

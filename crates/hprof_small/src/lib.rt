@@ -1,0 +1,8 @@
+//! Reports that need a few objects of a heap whose objects are gone through: the heap with these objects alone, and the reports on it.
+#![tactic(auto)]
+
+mod few_objects;
+mod small;
+mod spelling;
+
+pub use small::small_heap;
