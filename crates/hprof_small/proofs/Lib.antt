@@ -1,1 +1,3 @@
-
+pub mod Going
+pub mod OtherFacts
+pub mod SmallFacts

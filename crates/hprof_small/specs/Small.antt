@@ -28,10 +28,14 @@ is_one_of wanted None = false
 abbrev pub is_wanted : List ℕ → FactValue → Bool
 is_wanted wanted fact = is_one_of wanted (object_of fact)
 
+-- the objects that are wanted
+abbrev pub wanted_objects : List ℕ → List FactValue → List FactValue
+wanted_objects wanted facts = filter (is_wanted wanted) (objects_among facts)
+
 -- the facts of a heap: in each table but that of objects they are these facts, and of the objects they have those that are wanted
 pub record IsSmall (ids : IdSize) (wanted : List ℕ) (all small : List FactValue) : Type 0 where
   pub whole : IsWhole ids all small
-  pub objects : objects_among small ≡ filter (is_wanted wanted) (objects_among all)
+  pub objects : objects_among small ≡ wanted_objects wanted all
 
 -- the heap has this time, this size, and of these facts all but the objects that are not wanted
 pub record IsSmallHeap (millis : ℕ) (ids : IdSize) (wanted : List ℕ) (all : List FactValue) (small : Heap) : Type 0 where

@@ -147,7 +147,7 @@ impl<'a> FewObjects<'a> {
 
     /// Returns the heap of all facts. If two facts with one key differ, the answer is `AllocError`.
     pub(crate) fn finish(self) -> Result<Heap, AllocError>
-        ensures { (facts : List FactValue) → HasTaken self facts → IfOk result (IsHeapOf self.header facts) }
+        ensures { (facts : List FactValue) → HasTaken self.entry facts → IfOk result (IsHeapOf self.entry.header facts) }
     {
         match self.gatherer.finish() {
             Ok(heap) => Ok(heap),
