@@ -1,3 +1,4 @@
 pub mod Going
 pub mod OtherFacts
+pub mod Finished
 pub mod SmallFacts
