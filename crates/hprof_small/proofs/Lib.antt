@@ -2,3 +2,4 @@ pub mod Going
 pub mod OtherFacts
 pub mod Finished
 pub mod SmallFacts
+pub mod SmallHeaps
