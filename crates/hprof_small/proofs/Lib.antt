@@ -3,3 +3,5 @@ pub mod OtherFacts
 pub mod Finished
 pub mod SmallFacts
 pub mod SmallHeaps
+pub mod SmallHas
+pub mod SmallFields
