@@ -5,3 +5,4 @@ pub mod SmallFacts
 pub mod SmallHeaps
 pub mod SmallHas
 pub mod SmallFields
+pub mod SmallTexts
