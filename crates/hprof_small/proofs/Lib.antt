@@ -6,3 +6,5 @@ pub mod SmallHeaps
 pub mod SmallHas
 pub mod SmallFields
 pub mod SmallTexts
+pub mod SmallReports
+pub mod ReportsOver

@@ -2,7 +2,10 @@
 #![tactic(auto)]
 
 mod few_objects;
+pub mod laws;
+mod object_report;
 mod small;
 mod spelling;
 
+pub use object_report::write_object_over;
 pub use small::small_heap;
