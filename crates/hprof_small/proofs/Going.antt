@@ -20,9 +20,12 @@ goes_one old new fact header wanted took = record {
   header = header;
   wanted = wanted;
   taken = λ facts has. subst (λ (h : Header). Run Begins Takes nothing_gathered (Some h) (facts ++ fact ∷ []) (gathered new.gatherer))
-      (sym header)
-      (has.0, has.1, Steps-then Begins Takes has.0 (gathered old.gatherer) (gathered new.gatherer) facts (fact ∷ []) has.2
-      (gathered new.gatherer, took, refl));
+      (sym header) (
+        has.0,
+        has.1,
+        Steps-then Begins Takes has.0 (gathered old.gatherer) (gathered new.gatherer) facts (fact ∷ []) has.2
+            (gathered new.gatherer, took, refl),
+      );
 }
 
 -- no facts

@@ -1,10 +1,6 @@
-pub mod Going
-pub mod OtherFacts
-pub mod Finished
-pub mod SmallFacts
-pub mod SmallHeaps
+mod Going
+mod OtherFacts
+mod Finished
+mod SmallFacts
+mod SmallHeaps
 pub mod SmallHas
-pub mod SmallFields
-pub mod SmallTexts
-pub mod SmallReports
-pub mod ReportsOver

@@ -1,4 +1,3 @@
 pub mod Small
 pub mod Begun
 pub mod FewObjects
-pub mod TextOf

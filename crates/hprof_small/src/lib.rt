@@ -1,11 +1,8 @@
-//! Reports that need a few objects of a heap whose objects are gone through: the heap with these objects alone, and the reports on it.
+//! A heap of a few objects: all facts of a heap whose objects are gone through, and of the objects those that are wanted.
 #![tactic(auto)]
 
 mod few_objects;
-pub mod laws;
-mod object_report;
 mod small;
 mod spelling;
 
-pub use object_report::write_object_over;
 pub use small::small_heap;

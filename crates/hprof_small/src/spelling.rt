@@ -55,11 +55,7 @@ fn is_sub_fact(fact: &Fact<'_>) -> bool
 }
 
 /// Returns the sub-record that states a fact, without bytes if a record states it. If memory runs out, the answer is `AllocError`.
-pub(crate) fn sub_bytes(
-    alloc: Global,
-    fact: &Fact<'_>,
-    ids: IdSize,
-) -> Result<Vec<u8>, AllocError>
+pub(crate) fn sub_bytes(alloc: Global, fact: &Fact<'_>, ids: IdSize) -> Result<Vec<u8>, AllocError>
     requires fits { Fits ids (value_of fact.now) }
     requires lists { ListsHave ids fact.now }
     ensures { IfOk result (λ bytes. bytes.items ≡ dump_bytes ids (value_of fact.now)) }

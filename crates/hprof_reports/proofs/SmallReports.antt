@@ -9,10 +9,10 @@ use Rattle.hprof_lines.proofs.WholeNames.{naming_same}
 use Rattle.hprof_reports.specs.ObjectText.{IsObjectText}
 use Rattle.hprof_reports.specs.TextReport.{IsTextLine}
 use Rattle.hprof_small.specs.Small.{IsSmall}
-use Rattle.hprof_small.specs.TextOf.{HasValueArray}
-use Rattle.hprof_small.proofs.SmallFields.{fields_in_all}
+use Rattle.hprof_reports.specs.TextObjects.{HasValueArray}
+use Rattle.hprof_reports.proofs.SmallFields.{fields_in_all}
 use Rattle.hprof_small.proofs.SmallHas.{class_in_all, object_in_all}
-use Rattle.hprof_small.proofs.SmallTexts.{text_in_all}
+use Rattle.hprof_reports.proofs.SmallTexts.{text_in_all}
 
 module _ (ids : IdSize) (wanted : List ℕ) (all small : List FactValue) (id : ℕ) (text : List ℕ) (agree : IsConsistent all)
     (is : IsSmall ids wanted all small) (among : IsTrue (is_among wanted id)) where

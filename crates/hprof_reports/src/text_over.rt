@@ -1,28 +1,28 @@
-//! The report `object`, which needs one object.
+//! The report `text` by passes over objects.
 
 ghost use Rattle.std.specs.Prelude.{◌≡◌};
 ghost use Rattle.hprof_devices.specs.declared.health.Health.TheVariants.{Well};
 ghost use Rattle.hprof_heap.specs.HeapFacts.{facts_of, size_of};
 ghost use Rattle.hprof_lines.specs.Passed.{EndsPassed};
-ghost use Rattle.hprof_reports.specs.ObjectText.{IsObjectText};
+ghost use Rattle.hprof_reports.specs.TextReport.{IsTextLine};
 
-use crate::small::small_heap;
+use crate::text_objects::text_heap;
+use crate::text_report::write_text;
 use hprof_devices::Target;
 use hprof_engine::WriteStop;
 use hprof_heap::Heap;
 use hprof_lines::stop_of_pass;
 use hprof_passes::{Objects, PassStop};
-use hprof_reports::write_object;
 use std::alloc::Global;
 
-/// Writes the report `object` on an identifier, as `write_object` does. Goes through the objects once. The heap has all facts but the
-/// objects.
+/// Writes the report `text` on an identifier, as [`write_text`] does. The heap has all facts but the objects, which are gone through once,
+/// and again if the object is a string. Of the objects, memory holds only the string and the array of its characters.
 ///
 /// # Errors
 ///
 /// - `Sink`: the writer failed or memory ran out. The bytes written are the beginning of the report.
 /// - `Lost`: the objects cannot be gone through. Nothing was written.
-pub fn write_object_over<O: Objects, W: Target>(
+pub fn write_text_over<O: Objects, W: Target>(
     alloc: Global,
     heap: &Heap,
     objects: &O,
@@ -32,13 +32,13 @@ pub fn write_object_over<O: Objects, W: Target>(
     requires { W.health target.old ≡ Well }
     ensures { EndsPassed (O.make_up objects.now (size_of heap.now) (facts_of heap.now))
         (O.agree objects.now (size_of heap.now) (facts_of heap.now)) (O.tells objects.now (size_of heap.now) (facts_of heap.now))
-        (λ all. IsObjectText (size_of heap.now) all id) W.written W.health target.old target.new result }
+        (λ all. IsTextLine (size_of heap.now) all id) W.written W.health target.old target.new result }
 {
-    let small = match small_heap(alloc, heap, objects, &[id]) {
+    let small = match text_heap(alloc, heap, objects, id) {
         Ok(small) => small,
         Err(stop) => return Err(stop_of_pass(stop)),
     };
-    match write_object(alloc, &small, id, target) {
+    match write_text(alloc, &small, id, target) {
         Ok(()) => Ok(()),
         Err(stop) => Err(PassStop::Sink(stop)),
     }

@@ -15,8 +15,8 @@ use Rattle.hprof_naming.specs.Texts.{referred_text, target_of_field}
 use Rattle.hprof_naming.proofs.Lookups.{object_exists}
 use Rattle.hprof_passes.proofs.Tables.{has_same}
 use Rattle.hprof_small.specs.Small.{IsSmall}
-use Rattle.hprof_small.specs.TextOf.{HasValueArray, IsValueArray}
-use Rattle.hprof_small.proofs.SmallFields.{fields_in_all}
+use Rattle.hprof_reports.specs.TextObjects.{HasValueArray, IsValueArray}
+use Rattle.hprof_reports.proofs.SmallFields.{fields_in_all}
 use Rattle.hprof_small.proofs.SmallHas.{class_in_all, object_in_all, small_has}
 
 -- a field that refers to nothing has no text, whatever the array is

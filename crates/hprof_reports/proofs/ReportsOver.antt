@@ -11,7 +11,7 @@ use Rattle.hprof_histogram.specs.Chosen.{is_among}
 use Rattle.hprof_passes.specs.Passing.{IsWhole}
 use Rattle.hprof_reports.specs.ObjectText.{IsObjectText}
 use Rattle.hprof_small.specs.Small.{IsSmallHeap}
-use Rattle.hprof_small.proofs.SmallReports.{object_text_in_all}
+use Rattle.hprof_reports.proofs.SmallReports.{object_text_in_all}
 
 -- an identifier alone is among those that are wanted
 pub alone : (id : ℕ) → IsTrue (is_among (id ∷ []) id)

@@ -5,8 +5,8 @@ use Rattle.hprof_heap.specs.HeapFacts.{facts_of, size_of}
 use Rattle.hprof_lines.proofs.PassedEnds.{ends_passed}
 use Rattle.hprof_lines.specs.Stopping.{WritesText}
 use Rattle.hprof_reports.specs.ObjectText.{IsObjectText}
-use Rattle.hprof_small.proofs.ReportsOver.{object_over}
-use Rattle.hprof_small.proofs.object_report.write_object_over.Goals as goal
+use Rattle.hprof_reports.proofs.ReportsOver.{object_over}
+use Rattle.hprof_reports.proofs.object_over.write_object_over.Goals as goal
 
 pub returns-in-Ok-write_object : goal.returns-in-Ok-write_object
 returns-in-Ok-write_object g c =
