@@ -14,3 +14,5 @@ mod SmallFields
 mod SmallTexts
 mod SmallReports
 mod ReportsOver
+mod FoundSo
+mod ValueArrays

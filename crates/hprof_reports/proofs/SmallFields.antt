@@ -3,7 +3,6 @@ use Rattle.std.proofs.Common.{ℕ, List}
 use Rattle.std.specs.Prelude.{IsTrue}
 use Rattle.hprof_values.specs.declared.ids.IdSize.{IdSize}
 use Rattle.hprof_items.specs.FactValue.{FactValue, Instance, ObjArray, PrimArray}
-use Rattle.hprof_heap.specs.Objects.{HasInstance}
 use Rattle.hprof_histogram.specs.Chosen.{is_among}
 use Rattle.hprof_layouts.specs.Fields.{AreFields, AreInstanceFields, HasArray, OfInstance, OfNumbers, OfObjects}
 use Rattle.hprof_layouts.specs.Fields.{FieldsValue, Values, Missing, Cyclic, WidthDiffers, NotAnInstance, NoObject}

@@ -73,7 +73,7 @@ module _ (ids : IdSize) (wanted : List ℕ) (all small : List FactValue) (is : I
           is_array = object_in_all ids wanted all small is target among of.array of.is_array;
           is = of.is;
         }
-        | inl zero ↦
+        | inl none ↦
             let array = object_exists all target in
             record {
               value = of.value;
@@ -84,7 +84,7 @@ module _ (ids : IdSize) (wanted : List ℕ) (all small : List FactValue) (is : I
               is_array = array.1;
               is =
                   of.is ∙ nothing_referred target (referred_text (is_wide_coder of.coder) of.array)
-                  (referred_text (is_wide_coder of.coder) array.0) zero;
+                  (referred_text (is_wide_coder of.coder) array.0) none;
             }
       ]
 

@@ -1,8 +1,9 @@
 -- The facts of some tables.
-use Rattle.std.proofs.Common.{◌≡◌, ◌==◌, ℕ, Bool, true, false, ◌||◌, cond, List, [], ◌∷◌, ◌++◌, inl, inr, refl, sym, ap, subst, ◌∙◌}
+use Rattle.std.proofs.Common.{◌≡◌, ◌==◌, ℕ, Bool, true, false, ◌||◌, List, [], ◌∷◌, ◌++◌, inl, inr, refl, sym, ap, subst, ◌∙◌}
 use Rattle.std.specs.Prelude.{◌≢◌, slice_index}
 use Rattle.std.specs.List.{list_any}
 use Rattle.std.proofs.lemmas.Bool.{eqb-true}
+use Rattle.std.proofs.Math.Bool.{or-true}
 use Rattle.hprof_values.specs.declared.ids.IdSize.{IdSize}
 use Rattle.hprof_items.specs.FactValue.{FactValue}
 use Rattle.hprof_items.specs.Spelling.{Fits}
@@ -29,10 +30,6 @@ next_fits table ids facts front left rest fact fit are next =
 abbrev pub stands_among : List Table → FactValue → Bool
 stands_among list fact = list_any (λ table. stands_in (number_of_table table) fact) list
 
-or_true : (b : Bool) → (b || true) ≡ true
-or_true true = refl
-or_true false = refl
-
 -- a fact of the tables is one of the facts, and stands in one of them
 pub record IsOfTables (list : List Table) (facts : List FactValue) (fact : FactValue) : Type 0 where
   pub has : Has facts fact
@@ -51,7 +48,7 @@ of_tables (table ∷ list) facts fact has =
           record {
             has = is.has;
             stands =
-                ap (λ (b : Bool). stands_in (number_of_table table) fact || b) is.stands ∙ or_true (stands_in (number_of_table table) fact);
+                ap (λ (b : Bool). stands_in (number_of_table table) fact || b) is.stands ∙ or-true (stands_in (number_of_table table) fact);
           }
     ]
 

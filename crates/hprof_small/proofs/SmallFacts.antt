@@ -1,5 +1,5 @@
 -- The facts of a small heap.
-use Rattle.std.proofs.Common.{◌≡◌, ℕ, Bool, List, true, ◌++◌, inl, inr, refl, sym, subst}
+use Rattle.std.proofs.Common.{◌≡◌, ℕ, Bool, List, ◌++◌, inl, inr}
 use Rattle.std.specs.Prelude.{◌≢◌}
 use Rattle.hprof_values.specs.declared.ids.IdSize.{IdSize}
 use Rattle.hprof_items.specs.FactValue.{FactValue}

@@ -1,13 +1,12 @@
 use Rattle.std.proofs.Common.{◌+◌, ◌∙◌, List, drop, get_or, ap, refl, sym, subst}
 use Rattle.hprof_items.specs.declared.header.Header.{Header}
-use Rattle.hprof_items.specs.FactValue.{FactValue}
 use Rattle.hprof_rows.specs.declared.table.Table.{Table}
 use Rattle.hprof_rows.specs.declared.table.Table.TheVariants.{Names}
 use Rattle.hprof_rows.specs.Tables.{facts_of_table}
 use Rattle.hprof_rows.proofs.Tables.{drop_from}
 use Rattle.hprof_heap.specs.HeapFacts.{facts_of}
 use Rattle.hprof_small.specs.Small.{other_facts, other_tables, tables_facts}
-use Rattle.hprof_small.proofs.Going.{Copies, copies_all, copies_more, copies_none}
+use Rattle.hprof_small.proofs.Going.{Copies, copies_more, copies_none}
 use Rattle.hprof_small.proofs.few_objects.FewObjects.add_others.Goals as goal
 
 pub loop-table-init : goal.loop-table-init
