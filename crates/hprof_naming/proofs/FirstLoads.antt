@@ -1,5 +1,5 @@
 -- The load of least serial of each class, as far as loads were gone over.
-use Rattle.std.proofs.Common.{◌≡◌, ◌≢◌, ◌⊎◌, inl, inr, ℕ, ◌<◌, ◌≤◌, false, List, [], ◌∷◌, ◌++◌, Option, Some, None}
+use Rattle.std.proofs.Common.{◌≡◌, ◌≢◌, ◌⊎◌, inl, inr, ℕ, ◌<◌, ◌≤◌, Bool, true, false, cond, List, [], ◌∷◌, ◌++◌, Option, Some, None}
 use Rattle.std.proofs.Common.{refl, sym, ap, subst, ◌∙◌, append_assoc, append-nil, arith}
 use Rattle.std.proofs.lemmas.Bool.{cases_eq}
 use Rattle.std.proofs.lemmas.Bool.Decides.{leb_tells}
@@ -22,10 +22,10 @@ use Rattle.hprof_rows.proofs.FactSets.{Has-parts, Has-front, Has-back}
 use Rattle.hprof_rows.proofs.Picking.{picked, picked_is}
 use Rattle.hprof_rows.specs.declared.key.Key.TheVariants as keys
 use Rattle.hprof_rows.specs.Conflict.{IsConsistent}
-use Rattle.hprof_heap.specs.ClassName.{NamesClass}
+use Rattle.hprof_heap.specs.ClassName.{NamesClass, IsNamedFirst}
 use Rattle.hprof_naming.specs.declared.class_names.ClassNames.{ClassNames}
 use Rattle.hprof_naming.specs.declared.class_names.Named.{Named}
-use Rattle.hprof_naming.specs.ClassNames.{IsFirst, IsBelow, AreFirst, NotesFact, AreClassNames}
+use Rattle.hprof_naming.specs.ClassNames.{IsFirstLoad, IsFirst, IsBelow, AreFirst, NotesFact, AreClassNames}
 
 -- ---- what a load says
 

@@ -1,5 +1,5 @@
 -- The words for types, as reports print them.
-use Rattle.std.specs.Prelude.{ℕ, List, codes}
+use Rattle.std.specs.Prelude.{ℕ, List, ◌++◌, codes}
 use Rattle.hprof_values.specs.declared.basic.Basic.{Basic}
 use Rattle.hprof_values.specs.declared.basic.Basic.TheVariants as basics
 

@@ -22,7 +22,8 @@ alone id = ap (λ (b : Bool). b || false) (eq-eqb id id refl)
 module _ (ids : IdSize) (facts all : List FactValue) (whole : IsWhole ids facts all) (small : Heap) (id : ℕ) (P : List ℕ → Type 0) where
   -- a text that is that of the small heap is that of the whole
   pub object_over : (millis : ℕ) → IsSmallHeap millis ids (id ∷ []) all small
-      → (text : List ℕ) × IsObjectText (size_of small) (facts_of small) id text × P text → (text : List ℕ) × IsObjectText ids all id text × P text
+      → (text : List ℕ) × IsObjectText (size_of small) (facts_of small) id text × P text
+      → (text : List ℕ) × IsObjectText ids all id text × P text
   object_over millis is written = (
     written.0,
     object_text_in_all ids (id ∷ []) all (facts_of small) id written.0 (order_agrees all whole.ordered) is.facts (alone id)
@@ -30,6 +31,7 @@ module _ (ids : IdSize) (facts all : List FactValue) (whole : IsWhole ids facts 
     written.2,
   )
 
+  -- and so is a line
   pub text_over : IsTextHeap ids id all small → (line : List ℕ) × IsTextLine (size_of small) (facts_of small) id line × P line
       → (line : List ℕ) × IsTextLine ids all id line × P line
   text_over is written = (

@@ -41,13 +41,14 @@ pub(crate) struct FewObjects<'a> {
 }
 
 /// Returns the identifier of an instance or an array, or `None` for any other fact.
+#[inline(always)]
 fn object_id(fact: &Fact<'_>) -> Option<u64>
     ensures { result ≡ object_of (value_of fact.now) }
 {
     match *fact {
-        Fact::Instance { id, .. } => Some(id),
-        Fact::ObjArray { id, .. } => Some(id),
-        Fact::PrimArray { id, .. } => Some(id),
+        Fact::Instance { id, .. } | Fact::ObjArray { id, .. } | Fact::PrimArray { id, .. } => {
+            Some(id)
+        }
         _ => None,
     }
 }
@@ -136,6 +137,7 @@ impl<'a> FewObjects<'a> {
     }
 
     /// Returns whether an object is wanted.
+    #[inline(always)]
     fn wants(&self, object: &Fact<'_>) -> bool
         ensures { result ≡ is_wanted self.now.wanted.now (value_of object.now) }
     {
@@ -145,7 +147,7 @@ impl<'a> FewObjects<'a> {
         }
     }
 
-    /// Returns the heap of all facts. If two facts with one key differ, the answer is `AllocError`.
+    /// Returns the heap of all facts. If the objects do not agree, the answer is `AllocError`.
     pub(crate) fn finish(self) -> Result<Heap, AllocError>
         ensures { (facts : List FactValue) → HasTaken self.entry facts → IfOk result (IsHeapOf self.entry.header facts) }
     {
@@ -167,6 +169,7 @@ impl ObjectSink for FewObjects<'_> {
 
     type Fault = AllocError;
 
+    #[inline(always)]
     fn take(&mut self, ids: IdSize, object: &Fact<'_>) -> Result<(), AllocError> {
         if ids != self.header.ids || !self.wants(object) {
             return Ok(());

@@ -17,7 +17,7 @@ use std::alloc::{AllocError, Global};
 ///
 /// # Errors
 ///
-/// - `Sink`: memory ran out, or two of the objects have one identifier.
+/// - `Sink`: memory ran out, or two of the objects have one identifier and differ, so that no heap has both.
 /// - `Lost`: the objects cannot be gone through.
 pub fn small_heap<O: Objects>(
     alloc: Global,

@@ -39,18 +39,12 @@ fn is_sub_fact(fact: &Fact<'_>) -> bool
     ensures { result ≡ is_sub_fact (value_of fact.now) }
 {
     match fact {
-        Fact::Name { .. } => false,
-        Fact::Load { .. } => false,
-        Fact::Unload { .. } => false,
-        Fact::Frame { .. } => false,
-        Fact::Trace { .. } => false,
-        Fact::Start { .. } => false,
-        Fact::End { .. } => false,
-        Fact::Root(_) => true,
-        Fact::Class { .. } => true,
-        Fact::Instance { .. } => true,
-        Fact::ObjArray { .. } => true,
-        Fact::PrimArray { .. } => true,
+        Fact::Root(_)
+        | Fact::Class { .. }
+        | Fact::Instance { .. }
+        | Fact::ObjArray { .. }
+        | Fact::PrimArray { .. } => true,
+        _ => false,
     }
 }
 

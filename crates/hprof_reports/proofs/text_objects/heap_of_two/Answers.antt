@@ -35,7 +35,8 @@ returns-else-one-other g c =
     let other = c.args.other in
     let wanted : List ℕ = other ∷ one ∷ [] in
     found_so (g.O.Objects.make_up objects ids facts) (g.O.Objects.agree objects ids facts) (g.O.Objects.tells objects ids facts)
-    (λ all. IsSmallHeap millis ids wanted all) (λ all. IsHeapOfTwo millis ids one other all) c.small_heap-else-one-other.result c.small_heap-else-one-other.ensures
+    (λ all. IsSmallHeap millis ids wanted all) (λ all. IsHeapOfTwo millis ids one other all)
+    c.small_heap-else-one-other.result c.small_heap-else-one-other.ensures
     (λ all small make is. record {
       wanted = wanted;
       is_small = is;

@@ -15,7 +15,8 @@ returns-then-array-eq0 g c =
       c.in-Ok.ensures.0,
       λ all make. object_is_enough (heap_of c.args.heap.now).millis ids facts all (g.met.O.Objects.whole objects ids facts all make)
           c.args.id c.in-Ok.string (c.in-Ok.ensures.1 all make) c.in-Ok-value_array.array
-          (record { fields = found.0; are_fields = found.1; is_array = found.2 }) (elim c.then-array-eq0.either [ inl none ↦ inl none | inr same ↦ inr same.1 ]),
+          (record { fields = found.0; are_fields = found.1; is_array = found.2 })
+          (elim c.then-array-eq0.either [ inl none ↦ inl none | inr same ↦ inr same.1 ]),
     )
 
 pub returns : goal.returns

@@ -5,6 +5,8 @@ use Rattle.hprof_heap.specs.HeapFacts.{facts_of, size_of}
 use Rattle.hprof_reports.specs.Check.{IsCheck}
 use Rattle.hprof_reports.specs.ClassesText.{IsClassesText}
 use Rattle.hprof_reports.specs.HistogramText.{IsHistogramText}
+use Rattle.hprof_reports.specs.ObjectText.{IsObjectText}
+use Rattle.hprof_reports.specs.TextReport.{IsTextLine}
 use Rattle.hprof_ask.specs.Summarised.{Holds}
 use Rattle.hprof_ask.specs.Report.{IsReportText, RefusesReport}
 use Rattle.hprof_making.specs.Over.{EndsOver, heap_with}
@@ -69,3 +71,33 @@ returns-in-Objects g c = λ summaries holds.
     (g.O.Objects.tells objects ids facts) (λ all. IsReportText (report_of p) summaries (heap_with (heap_of c.args.heap.now) all))
     (λ refusal all. RefusesReport all (report_of p) refusal) g.W.Target.written g.W.Target.health c.args.target.now
     c.write_objects.new.target c.write_objects.result) (sym c.in-Objects.is) (c.write_objects.ensures summaries)
+
+pub returns-in-Object : goal.returns-in-Object
+unfolding facts_of size_of
+returns-in-Object g c = λ summaries holds.
+    let ids = size_of c.args.heap.now in
+    let facts = facts_of c.args.heap.now in
+    let objects = c.args.objects.now in
+    let report = report_of c.args.self.now in
+    ends_over (g.O.Objects.make_up objects ids facts) (g.O.Objects.agree objects ids facts) (g.O.Objects.tells objects ids facts)
+    (λ all. IsObjectText ids all c.in-Object.id) (λ all. IsReportText report summaries (heap_with (heap_of c.args.heap.now) all))
+    g.W.Target.written g.W.Target.health
+    c.args.target.now c.write_object_over.new.target (λ all text make is. subst
+    (λ (p : PassedReport). IsReportText (report_of p) summaries (heap_with (heap_of c.args.heap.now) all) text)
+    (sym c.in-Object.is) is)
+    (λ refusal all. RefusesReport all report refusal) c.write_object_over.result c.write_object_over.ensures
+
+pub returns-in-Text : goal.returns-in-Text
+unfolding facts_of size_of
+returns-in-Text g c = λ summaries holds.
+    let ids = size_of c.args.heap.now in
+    let facts = facts_of c.args.heap.now in
+    let objects = c.args.objects.now in
+    let report = report_of c.args.self.now in
+    ends_over (g.O.Objects.make_up objects ids facts) (g.O.Objects.agree objects ids facts) (g.O.Objects.tells objects ids facts)
+    (λ all. IsTextLine ids all c.in-Text.id) (λ all. IsReportText report summaries (heap_with (heap_of c.args.heap.now) all))
+    g.W.Target.written g.W.Target.health
+    c.args.target.now c.write_text_over.new.target (λ all text make is. subst
+    (λ (p : PassedReport). IsReportText (report_of p) summaries (heap_with (heap_of c.args.heap.now) all) text)
+    (sym c.in-Text.is) is)
+    (λ refusal all. RefusesReport all report refusal) c.write_text_over.result c.write_text_over.ensures

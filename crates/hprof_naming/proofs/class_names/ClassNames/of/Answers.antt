@@ -1,12 +1,13 @@
-use Rattle.std.proofs.Common.{ℕ, ap}
+use Rattle.std.proofs.Common.{◌≡◌, ℕ, None, ap}
 use Rattle.std.specs.Ordering.{nat_cmp}
-use Rattle.std.specs.BTreeMap.{is_at}
+use Rattle.std.specs.BTreeMap.{get, is_at}
 use Rattle.std.specs.Map.{lookup}
 use Rattle.hprof_items.specs.FactValue.{value_of}
 use Rattle.hprof_rows.specs.declared.table.Table.TheVariants as tables
 use Rattle.hprof_rows.specs.FactsLeft.{facts_left}
 use Rattle.hprof_rows.specs.Tables.{facts_of_table}
 use Rattle.hprof_heap.specs.HeapFacts.{facts_of}
+use Rattle.hprof_naming.specs.declared.class_names.Named.{Named}
 use Rattle.hprof_naming.proofs.FirstLoads.{first_of_none, first_of_more, first_of_all, all_names}
 use Rattle.hprof_naming.proofs.class_names.ClassNames.of.Goals as goal
 
