@@ -12,6 +12,7 @@ use Rattle.hprof_questions.specs.declared.report.HeapReport.{HeapReport}
 use Rattle.hprof_questions.specs.declared.report.HeapReport.TheVariants as heaps
 use Rattle.hprof_questions.specs.declared.report.KindReport.{KindReport}
 use Rattle.hprof_questions.specs.declared.report.KindReport.TheVariants as kinds
+use Rattle.hprof_questions.specs.declared.report.NodeReport.{NodeReport}
 use Rattle.hprof_questions.specs.declared.report.NodeReport.TheVariants as nodes
 use Rattle.hprof_questions.specs.declared.report_word.ReportWord.{ReportWord}
 use Rattle.hprof_questions.specs.declared.report_word.ReportWord.TheVariants as words
@@ -72,10 +73,15 @@ abbrev pub kind_reads_again : KindReport → Bool
 kind_reads_again kinds.Objects = true
 kind_reads_again other = false
 
+abbrev pub node_reads_again : NodeReport → Bool
+node_reads_again nodes.Text = true
+node_reads_again nodes.Object = true
+node_reads_again other = false
+
 abbrev pub reads_again : ReportWord → Bool
 reads_again (words.Heap report) = heap_reads_again report
 reads_again (words.Kind report) = kind_reads_again report
-reads_again (words.Node report) = false
+reads_again (words.Node report) = node_reads_again report
 
 -- whether a command takes the option for the memory: those that read objects again do
 abbrev pub takes_memory : CommandWord → Bool

@@ -11,12 +11,14 @@ use hprof_heap::Heap;
 use hprof_histogram::CountedKinds;
 use hprof_making::PassProduct;
 use hprof_passes::{Objects, PassStop};
-use hprof_questions::{HeapReport, KindReport, Kinds, Report};
-use hprof_reports::{write_classes_over, write_histogram_over};
+use hprof_questions::{HeapReport, KindReport, Kinds, Node, NodeReport, Report};
+use hprof_reports::{
+    write_classes_over, write_histogram_over, write_object_over, write_text_over,
+};
 use hprof_stream::PartSummary;
 use std::alloc::{AllocError, Global};
 
-/// A report that needs every object, and goes through all of them, wherever they are.
+/// A report that goes through all objects, wherever they are: it needs every one, or a few that it picks.
 #[derive(Clone, Copy, Debug, PartialEq, Eq)]
 pub enum PassedReport<'a> {
     /// `check`: a summary of each part, and the numbers of facts.
@@ -27,6 +29,10 @@ pub enum PassedReport<'a> {
     Classes,
     /// `objects`: the objects of a class or a type, or of all classes that a name means, the largest first.
     Objects(Kinds<'a>),
+    /// `object`: the contents of a class and an object.
+    Object(u64),
+    /// `text`: the text of a string, or of an array of chars or bytes.
+    Text(u64),
 }
 
 impl<'a> PassedReport<'a> {
@@ -44,6 +50,10 @@ impl<'a> PassedReport<'a> {
             Report::Heap(HeapReport::Histogram) => Some(PassedReport::Histogram),
             Report::Heap(HeapReport::Classes) => Some(PassedReport::Classes),
             Report::Kind(KindReport::Objects, kinds) => Some(PassedReport::Objects(kinds)),
+            Report::Node(NodeReport::Object, Node::Identifier(id)) => {
+                Some(PassedReport::Object(id))
+            }
+            Report::Node(NodeReport::Text, Node::Identifier(id)) => Some(PassedReport::Text(id)),
             Report::Heap(HeapReport::Threads | HeapReport::Suspects | HeapReport::Retained)
             | Report::Kind(KindReport::Biggest, _)
             | Report::Node(_, _) => None,
@@ -59,6 +69,8 @@ impl<'a> PassedReport<'a> {
             PassedReport::Histogram => Report::Heap(HeapReport::Histogram),
             PassedReport::Classes => Report::Heap(HeapReport::Classes),
             PassedReport::Objects(kinds) => Report::Kind(KindReport::Objects, kinds),
+            PassedReport::Object(id) => Report::Node(NodeReport::Object, Node::Identifier(id)),
+            PassedReport::Text(id) => Report::Node(NodeReport::Text, Node::Identifier(id)),
         }
     }
 
@@ -123,6 +135,8 @@ impl PassProduct for PassedReport<'_> {
             PassedReport::Histogram => write_histogram_over(alloc, heap, objects, known, target),
             PassedReport::Classes => write_classes_over(alloc, heap, objects, known, target),
             PassedReport::Objects(kinds) => write_objects(alloc, heap, objects, kinds, target),
+            PassedReport::Object(id) => write_object_over(alloc, heap, objects, id, target),
+            PassedReport::Text(id) => write_text_over(alloc, heap, objects, id, target),
         }
     }
 }

@@ -1,6 +1,6 @@
 pub mod FirstLoads
 pub mod Namings
-mod FirstNamed
+pub mod FirstNamed
 pub mod Lookups
 pub mod CalledClasses
 mod UnitCounts

@@ -17,7 +17,7 @@ pub use called::{is_called, is_named};
 pub use class_names::ClassNames;
 pub use meant_label::MeantLabel;
 pub use naming::{class_label, label_of, name_text};
-pub use object_text::{target_of_field, text_of};
+pub use object_text::{first_named, target_of_field, text_of};
 pub use text::{Coding, Text, Units};
 pub use type_names::arrays_named;
 pub use types::type_word;

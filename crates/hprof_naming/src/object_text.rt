@@ -15,7 +15,7 @@ use hprof_values::Basic;
 use std::alloc::{AllocError, Global};
 
 /// Returns the first of the values whose name has exactly these bytes, or `None` if there is none.
-fn first_named(heap: &Heap, word: &[u8], values: &[FieldValue]) -> Option<FieldValue>
+pub fn first_named(heap: &Heap, word: &[u8], values: &[FieldValue]) -> Option<FieldValue>
     ensures { IsFirstNamed (facts_of heap.now) word.now values.now result }
 {
     for value in values {

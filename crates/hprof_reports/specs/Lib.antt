@@ -18,3 +18,4 @@ pub mod OneText
 pub mod Skipped
 pub mod PlaceNames
 pub mod OnePlace
+pub mod TextObjects

@@ -13,6 +13,7 @@ use Rattle.hprof_questions.specs.declared.report.KindReport.TheVariants as kinds
 use Rattle.hprof_questions.specs.declared.report.Node.{Node}
 use Rattle.hprof_questions.specs.declared.report.Node.TheVariants as that
 use Rattle.hprof_questions.specs.declared.report.NodeReport.{NodeReport}
+use Rattle.hprof_questions.specs.declared.report.NodeReport.TheVariants as nodes
 use Rattle.hprof_questions.specs.declared.report.Report.{Report}
 use Rattle.hprof_questions.specs.declared.report.Report.TheVariants as reports
 use Rattle.hprof_ask.specs.Report.{IsReportText, RefusesReport, TakesMemory, TakesRoom, report_making}
@@ -27,6 +28,8 @@ is_passed passed.Check = tt
 is_passed passed.Histogram = tt
 is_passed passed.Classes = tt
 is_passed (passed.Objects kind) = tt
+is_passed (passed.Object id) = tt
+is_passed (passed.Text id) = tt
 
 -- the report is another one than those
 some_passed : (report : Report) → ((p : PassedReport) → report_of p ≢ report) → IsPassed report → ⊥
@@ -38,12 +41,17 @@ some_passed (reports.Heap heaps.Retained) other is = is
 some_passed (reports.Heap heaps.Threads) other is = is
 some_passed (reports.Kind kinds.Objects these) other is = other (passed.Objects these) refl
 some_passed (reports.Kind kinds.Biggest these) other is = is
-some_passed (reports.Node node id) other is = is
+some_passed (reports.Node nodes.Object (that.Identifier id)) other is = other (passed.Object id) refl
+some_passed (reports.Node nodes.Text (that.Identifier id)) other is = other (passed.Text id) refl
+some_passed (reports.Node node (that.Identifier id)) other is = is
+some_passed (reports.Node nodes.Object (that.Named name)) other is = is
+some_passed (reports.Node nodes.Text (that.Named name)) other is = is
+some_passed (reports.Node node (that.Named name)) other is = is
 
 never_true : false ≡ true → ⊥
 never_true e = cc
 
--- a report is found to be one of those exactly if it needs every object
+-- a report is found to be one of those exactly if it goes through all objects
 pub found_passed : (report : Report) (found : Option PassedReport)
     → MatchOption found ((p : PassedReport) → report_of p ≢ report) (λ p. report_of p ≡ report) → IsTrue (is_some found) ↔ IsPassed report
 found_passed report (Some p) is = (λ told. subst IsPassed is (is_passed p), λ passed. refl)

@@ -8,6 +8,8 @@ use Rattle.hprof_stored.specs.StoredMaking.{CanBeReadAgain}
 use Rattle.hprof_stored.specs.Storing.{HaveObject}
 use Rattle.hprof_questions.specs.declared.report.HeapReport.TheVariants as heaps
 use Rattle.hprof_questions.specs.declared.report.KindReport.TheVariants as kinds
+use Rattle.hprof_questions.specs.declared.report.Node.TheVariants as that
+use Rattle.hprof_questions.specs.declared.report.NodeReport.TheVariants as nodes
 use Rattle.hprof_questions.specs.declared.report.Report.{Report}
 use Rattle.hprof_questions.specs.declared.report.Report.TheVariants as reports
 use Rattle.hprof_ask.specs.Report.{IsReportText, RefusesReport, TakesMemory, TakesRoom}
@@ -29,12 +31,14 @@ abbrev pub IsReadyFor : {P H S : Type 0} → (P → Option (List ℕ)) → (H �
 IsReadyFor left bytes written health parts again = CanBeReadAgain left parts (map bytes again.handles.items) (written again.scratch)
     × HoldsNothing (written again.scratch) × (health again.scratch ≡ Well)
 
--- the report needs every object: these are read again, if they can be
+-- the report goes through all objects: these are read again, if they can be
 abbrev pub IsPassed : Report → Type 0
 IsPassed (reports.Heap heaps.Check) = ⊤
 IsPassed (reports.Heap heaps.Histogram) = ⊤
 IsPassed (reports.Heap heaps.Classes) = ⊤
 IsPassed (reports.Kind kinds.Objects these) = ⊤
+IsPassed (reports.Node nodes.Object (that.Identifier id)) = ⊤
+IsPassed (reports.Node nodes.Text (that.Identifier id)) = ⊤
 IsPassed other = ⊥
 
 -- what a report makes of parts; where objects may be read again, memory is taken for each, also for one that is known

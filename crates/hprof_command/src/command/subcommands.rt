@@ -2,8 +2,8 @@
 
 ghost use Rattle.std.specs.Prelude.{◌≡◌, ◌≢◌, map, MatchOption};
 ghost use Rattle.hprof_command.specs.declared.command.subcommands.CommandWord.{CommandWord};
-ghost use Rattle.hprof_command.specs.CommandLine.{arguments_of, heap_reads_again, kind_reads_again, reads_again, shape_of_command};
-ghost use Rattle.hprof_command.specs.CommandLine.{shape_of_row};
+ghost use Rattle.hprof_command.specs.CommandLine.{arguments_of, heap_reads_again, kind_reads_again, node_reads_again, reads_again};
+ghost use Rattle.hprof_command.specs.CommandLine.{shape_of_command, shape_of_row};
 ghost use Rattle.hprof_command.specs.Commands.{command_word};
 
 use super::{NewFile, help};
@@ -145,6 +145,21 @@ fn kind_reads_again(report: KindReport) -> bool
     }
 }
 
+/// Returns whether a report on a class or an object reads objects again.
+fn node_reads_again(report: NodeReport) -> bool
+    ensures { result ≡ node_reads_again report }
+{
+    match report {
+        NodeReport::Text | NodeReport::Object => true,
+        NodeReport::Show
+        | NodeReport::Why
+        | NodeReport::Who
+        | NodeReport::Keeps
+        | NodeReport::Refs
+        | NodeReport::Path => false,
+    }
+}
+
 /// Returns whether a report reads objects again.
 fn reads_again(report: ReportWord) -> bool
     ensures { result ≡ reads_again report }
@@ -152,7 +167,7 @@ fn reads_again(report: ReportWord) -> bool
     match report {
         ReportWord::Heap(report) => heap_reads_again(report),
         ReportWord::Kind(report) => kind_reads_again(report),
-        ReportWord::Node(_) => false,
+        ReportWord::Node(report) => node_reads_again(report),
     }
 }
 

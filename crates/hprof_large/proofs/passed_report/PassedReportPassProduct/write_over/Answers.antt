@@ -6,6 +6,8 @@ use Rattle.hprof_histogram.specs.Known.{MadeUpWith}
 use Rattle.hprof_reports.specs.Check.{IsCheck}
 use Rattle.hprof_reports.specs.ClassesText.{IsClassesText}
 use Rattle.hprof_reports.specs.HistogramText.{IsHistogramText}
+use Rattle.hprof_reports.specs.ObjectText.{IsObjectText}
+use Rattle.hprof_reports.specs.TextReport.{IsTextLine}
 use Rattle.hprof_ask.specs.Summarised.{Holds}
 use Rattle.hprof_ask.specs.Report.{IsReportText, RefusesReport}
 use Rattle.hprof_making.specs.Over.{EndsOver, heap_with}
@@ -84,3 +86,43 @@ returns-in-Objects g c = λ summaries holds.
     (λ all. IsReportText (report_of (Objects c.in-Objects.kinds)) summaries (heap_with (heap_of c.args.heap.now) all))
     (λ refusal all. RefusesReport all (report_of (Objects c.in-Objects.kinds)) refusal) g.W.Target.written g.W.Target.health
     c.args.target.now c.write_objects.new.target (λ all made. made.0) c.write_objects.result (c.write_objects.ensures summaries))
+
+pub returns-in-Object : goal.returns-in-Object
+unfolding facts_of size_of
+returns-in-Object g c = λ summaries holds.
+    let ids = size_of c.args.heap.now in
+    let facts = facts_of c.args.heap.now in
+    let objects = c.args.objects.now in
+    let report = report_of c.args.self.now in
+    let MakeUp = g.O.Objects.make_up objects ids facts in
+    let agree = g.O.Objects.agree objects ids facts in
+    let tells = g.O.Objects.tells objects ids facts in
+    ends_fewer MakeUp (MadeUpWith MakeUp ids c.args.known) agree tells
+    (λ all. IsReportText report summaries (heap_with (heap_of c.args.heap.now) all)) (λ refusal all. RefusesReport all report refusal)
+    g.W.Target.written g.W.Target.health c.args.target.now c.write_object_over.new.target (λ all made. made.0) c.write_object_over.result
+    (ends_over MakeUp agree tells (λ all. IsObjectText ids all c.in-Object.id)
+    (λ all. IsReportText report summaries (heap_with (heap_of c.args.heap.now) all)) g.W.Target.written g.W.Target.health
+    c.args.target.now c.write_object_over.new.target (λ all text make is. subst
+    (λ (p : PassedReport). IsReportText (report_of p) summaries (heap_with (heap_of c.args.heap.now) all) text)
+    (sym c.in-Object.is) is)
+    (λ refusal all. RefusesReport all report refusal) c.write_object_over.result c.write_object_over.ensures)
+
+pub returns-in-Text : goal.returns-in-Text
+unfolding facts_of size_of
+returns-in-Text g c = λ summaries holds.
+    let ids = size_of c.args.heap.now in
+    let facts = facts_of c.args.heap.now in
+    let objects = c.args.objects.now in
+    let report = report_of c.args.self.now in
+    let MakeUp = g.O.Objects.make_up objects ids facts in
+    let agree = g.O.Objects.agree objects ids facts in
+    let tells = g.O.Objects.tells objects ids facts in
+    ends_fewer MakeUp (MadeUpWith MakeUp ids c.args.known) agree tells
+    (λ all. IsReportText report summaries (heap_with (heap_of c.args.heap.now) all)) (λ refusal all. RefusesReport all report refusal)
+    g.W.Target.written g.W.Target.health c.args.target.now c.write_text_over.new.target (λ all made. made.0) c.write_text_over.result
+    (ends_over MakeUp agree tells (λ all. IsTextLine ids all c.in-Text.id)
+    (λ all. IsReportText report summaries (heap_with (heap_of c.args.heap.now) all)) g.W.Target.written g.W.Target.health
+    c.args.target.now c.write_text_over.new.target (λ all text make is. subst
+    (λ (p : PassedReport). IsReportText (report_of p) summaries (heap_with (heap_of c.args.heap.now) all) text)
+    (sym c.in-Text.is) is)
+    (λ refusal all. RefusesReport all report refusal) c.write_text_over.result c.write_text_over.ensures)

@@ -1,0 +1,45 @@
+//! The report `text` by passes over objects.
+
+ghost use Rattle.std.specs.Prelude.{◌≡◌};
+ghost use Rattle.hprof_devices.specs.declared.health.Health.TheVariants.{Well};
+ghost use Rattle.hprof_heap.specs.HeapFacts.{facts_of, size_of};
+ghost use Rattle.hprof_lines.specs.Passed.{EndsPassed};
+ghost use Rattle.hprof_reports.specs.TextReport.{IsTextLine};
+
+use crate::text_objects::text_heap;
+use crate::text_report::write_text;
+use hprof_devices::Target;
+use hprof_engine::WriteStop;
+use hprof_heap::Heap;
+use hprof_lines::stop_of_pass;
+use hprof_passes::{Objects, PassStop};
+use std::alloc::Global;
+
+/// Writes the report `text` on an identifier, as [`write_text`] does. The heap has all facts but the objects, which are gone through once,
+/// and again if the object is a string. Of the objects, memory holds only the string and the array of its characters.
+///
+/// # Errors
+///
+/// - `Sink`: the writer failed or memory ran out. The bytes written are the beginning of the report.
+/// - `Lost`: the objects cannot be gone through. Nothing was written.
+pub fn write_text_over<O: Objects, W: Target>(
+    alloc: Global,
+    heap: &Heap,
+    objects: &O,
+    id: u64,
+    target: &mut W,
+) -> Result<(), PassStop<WriteStop, O::Fault>>
+    requires { W.health target.old ≡ Well }
+    ensures { EndsPassed (O.make_up objects.now (size_of heap.now) (facts_of heap.now))
+        (O.agree objects.now (size_of heap.now) (facts_of heap.now)) (O.tells objects.now (size_of heap.now) (facts_of heap.now))
+        (λ all. IsTextLine (size_of heap.now) all id) W.written W.health target.old target.new result }
+{
+    let small = match text_heap(alloc, heap, objects, id) {
+        Ok(small) => small,
+        Err(stop) => return Err(stop_of_pass(stop)),
+    };
+    match write_text(alloc, &small, id, target) {
+        Ok(()) => Ok(()),
+        Err(stop) => Err(PassStop::Sink(stop)),
+    }
+}

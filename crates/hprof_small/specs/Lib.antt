@@ -1,0 +1,3 @@
+pub mod Small
+pub mod Begun
+pub mod FewObjects

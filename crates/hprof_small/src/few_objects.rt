@@ -1,0 +1,179 @@
+//! A heap in the making: all facts of a heap but its objects, and those objects of a pass that are wanted.
+
+ghost use Rattle.std.specs.Prelude.{◌≡◌};
+ghost use Rattle.std.specs.List.Sorted.{IsStrictlyIncreasing};
+ghost use Rattle.hprof_items.specs.FactValue.{value_of};
+ghost use Rattle.hprof_small.specs.Begun.{IsBegun, IsBegun-prop, ascends-prop};
+ghost use Rattle.hprof_small.specs.Small.{object_of};
+
+use crate::spelling::sub_bytes;
+use hprof_heap::{Gatherer, Heap, Table, id_size, table_facts};
+use hprof_items::{Fact, Header, Version};
+use hprof_passes::ObjectSink;
+use hprof_stream::Sink;
+use hprof_values::IdSize;
+use std::alloc::{AllocError, Global};
+
+/// All tables but that of the objects.
+const OTHER_TABLES: [Table; 9] = [
+    Table::Names,
+    Table::Loads,
+    Table::Unloads,
+    Table::Frames,
+    Table::Traces,
+    Table::Starts,
+    Table::Ends,
+    Table::Roots,
+    Table::Classes,
+];
+
+/// A heap in the making. It takes the objects whose identifiers are wanted.
+#[derive(Drop)]
+pub(crate) struct FewObjects<'a> {
+    alloc: Global,
+    header: Header,
+    // They ascend strictly.
+    wanted: &'a [u64],
+    gatherer: Gatherer,
+    ghost ascends: { IsStrictlyIncreasing wanted.now } by { ascends-prop wanted.now },
+    // The gatherer takes facts with identifiers of the header's size.
+    ghost begun: { IsBegun gatherer header } by { IsBegun-prop gatherer header },
+}
+
+/// Returns the identifier of an instance or an array, or `None` for any other fact.
+#[inline(always)]
+fn object_id(fact: &Fact<'_>) -> Option<u64>
+    ensures { result ≡ object_of (value_of fact.now) }
+{
+    match *fact {
+        Fact::Instance { id, .. } | Fact::ObjArray { id, .. } | Fact::PrimArray { id, .. } => {
+            Some(id)
+        }
+        _ => None,
+    }
+}
+
+impl<'a> FewObjects<'a> {
+    ghost use Rattle.std.specs.Prelude.{◌∷◌, [], List, IfOk, OnOk};
+    ghost use Rattle.hprof_items.specs.FactValue.{FactValue, ListsHave};
+    ghost use Rattle.hprof_items.specs.Spelling.{Fits};
+    ghost use Rattle.hprof_rows.specs.Tables.{facts_of_table};
+    ghost use Rattle.hprof_heap.specs.Heap.{heap_of};
+    ghost use Rattle.hprof_heap.specs.HeapFacts.{facts_of, size_of};
+    ghost use Rattle.hprof_small.specs.FewObjects.{GoesOn, HasOthers, HasTaken, IsHeapOf};
+    ghost use Rattle.hprof_small.specs.Small.{is_wanted, other_facts};
+
+    /// Returns a heap in the making without facts.
+    fn new(alloc: Global, header: Header, wanted: &'a [u64]) -> Self
+        requires { IsStrictlyIncreasing wanted.now }
+        ensures header { result.header ≡ header }
+        ensures wanted { result.wanted.now ≡ wanted.now }
+        ensures taken { HasTaken result [] }
+    {
+        let mut gatherer = Gatherer::new(alloc);
+        if gatherer.begin_part(header).is_err() {
+            // A new gatherer has not failed.
+            unreachable!()
+        }
+        FewObjects {
+            alloc,
+            header,
+            wanted,
+            gatherer,
+        }
+    }
+
+    /// Takes a fact. If memory runs out, the answer is `AllocError`.
+    fn add(&mut self, fact: &Fact<'_>) -> Result<(), AllocError>
+        requires fits { Fits self.old.header.ids (value_of fact.now) }
+        requires lists { ListsHave self.old.header.ids fact.now }
+        ensures { OnOk result (GoesOn self.old (value_of fact.now ∷ []) self.new) }
+    {
+        let bytes = sub_bytes(self.alloc, fact, self.header.ids)?;
+        match self.gatherer.take(fact, &bytes) {
+            Ok(()) => Ok(()),
+            Err(_) => Err(AllocError),
+        }
+    }
+
+    /// Takes the facts of a table. If memory runs out, the answer is `AllocError`.
+    fn add_table(&mut self, heap: &Heap, table: Table) -> Result<(), AllocError>
+        requires { size_of heap.now ≡ self.old.header.ids }
+        ensures { OnOk result (GoesOn self.old (facts_of_table table (facts_of heap.now)) self.new) }
+    {
+        id_size(heap);
+        let mut facts = table_facts(heap, table);
+        let mut fact = Fact::End { thread: 0 };
+        while facts.next_into(&mut fact) {
+            self.add(&fact)?;
+        }
+        Ok(())
+    }
+
+    /// Takes the facts of all tables but that of the objects. If memory runs out, the answer is `AllocError`.
+    fn add_others(&mut self, heap: &Heap) -> Result<(), AllocError>
+        requires { size_of heap.now ≡ self.old.header.ids }
+        ensures { OnOk result (GoesOn self.old (other_facts (facts_of heap.now)) self.new) }
+    {
+        for table in &OTHER_TABLES {
+            self.add_table(heap, *table)?;
+        }
+        Ok(())
+    }
+
+    /// Returns a heap in the making that has all facts of a heap but its objects. If memory runs out, the answer is `AllocError`.
+    pub(crate) fn of(alloc: Global, heap: &Heap, wanted: &'a [u64]) -> Result<Self, AllocError>
+        requires { IsStrictlyIncreasing wanted.now }
+        ensures { IfOk result (HasOthers (heap_of heap.now).millis (size_of heap.now) (facts_of heap.now) wanted.now) }
+    {
+        let header = Header {
+            version: Version::V102,
+            ids: id_size(heap),
+            millis: heap.millis(),
+        };
+        let mut few = FewObjects::new(alloc, header, wanted);
+        few.add_others(heap)?;
+        Ok(few)
+    }
+
+    /// Returns whether an object is wanted.
+    #[inline(always)]
+    fn wants(&self, object: &Fact<'_>) -> bool
+        ensures { result ≡ is_wanted self.now.wanted.now (value_of object.now) }
+    {
+        match object_id(object) {
+            Some(id) => self.wanted.binary_search(&id).is_ok(),
+            None => false,
+        }
+    }
+
+    /// Returns the heap of all facts. If the objects do not agree, the answer is `AllocError`.
+    pub(crate) fn finish(self) -> Result<Heap, AllocError>
+        ensures { (facts : List FactValue) → HasTaken self.entry facts → IfOk result (IsHeapOf self.entry.header facts) }
+    {
+        match self.gatherer.finish() {
+            Ok(heap) => Ok(heap),
+            Err(_) => Err(AllocError),
+        }
+    }
+}
+
+/// The fault is want of memory.
+impl ObjectSink for FewObjects<'_> {
+    ghost use Rattle.std.specs.Prelude.{⊤};
+    ghost use Rattle.hprof_small.specs.FewObjects.{TakesWanted};
+
+    ghost takes = { TakesWanted };
+
+    ghost refuses = { λ old ids object fault new. ⊤ };
+
+    type Fault = AllocError;
+
+    #[inline(always)]
+    fn take(&mut self, ids: IdSize, object: &Fact<'_>) -> Result<(), AllocError> {
+        if ids != self.header.ids || !self.wants(object) {
+            return Ok(());
+        }
+        self.add(object)
+    }
+}
