@@ -12,9 +12,7 @@ use hprof_histogram::CountedKinds;
 use hprof_making::PassProduct;
 use hprof_passes::{Objects, PassStop};
 use hprof_questions::{HeapReport, KindReport, Kinds, Node, NodeReport, Report};
-use hprof_reports::{
-    write_classes_over, write_histogram_over, write_object_over, write_text_over,
-};
+use hprof_reports::{write_classes_over, write_histogram_over, write_object_over, write_text_over};
 use hprof_stream::PartSummary;
 use std::alloc::{AllocError, Global};
 
