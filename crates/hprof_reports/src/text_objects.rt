@@ -75,5 +75,6 @@ pub(crate) fn text_heap<O: Objects>(
     if array == 0 || array == id {
         return Ok(string);
     }
+    drop(string);
     heap_of_two(alloc, heap, objects, id, array)
 }

@@ -7,7 +7,7 @@ ghost use Rattle.hprof_small.specs.Begun.{IsBegun, IsBegun-prop, ascends-prop};
 ghost use Rattle.hprof_small.specs.Small.{object_of};
 
 use crate::spelling::sub_bytes;
-use hprof_heap::{Gatherer, Heap, Table, id_size, table_facts};
+use hprof_heap::{Gatherer, Heap, Table, holds_of_heap, id_size, table_facts};
 use hprof_items::{Fact, Header, Version};
 use hprof_passes::ObjectSink;
 use hprof_stream::Sink;
@@ -101,7 +101,7 @@ impl<'a> FewObjects<'a> {
         requires { size_of heap.now ≡ self.old.header.ids }
         ensures { OnOk result (GoesOn self.old (facts_of_table table (facts_of heap.now)) self.new) }
     {
-        id_size(heap);
+        holds_of_heap(heap);
         let mut facts = table_facts(heap, table);
         let mut fact = Fact::End { thread: 0 };
         while facts.next_into(&mut fact) {

@@ -23,7 +23,7 @@ add-requires-clause-fits c =
     subst (λ (ids : IdSize). Fits ids (value_of c.next_into.new.fact))
     (c.requires ∙ sym (ap (λ (h : Header). h.ids) copies.goes.header))
     (next_fits c.args.table (size_of c.args.heap.now) (facts_of c.args.heap.now) copies.front (facts_left c.loop-facts.facts)
-    (facts_left c.next_into.new.self) (value_of c.next_into.new.fact) c.id_size.ensures.fit copies.are
+    (facts_left c.next_into.new.self) (value_of c.next_into.new.fact) c.holds_of_heap.ensures.fit copies.are
     (c.next_into.ensures.some c.loop-facts-test.true))
 
 pub add-requires-clause-lists : goal.add-requires-clause-lists
