@@ -196,7 +196,7 @@ def again(folder):
     """Objects that stay in their file, since they ascend, and objects that go to another, since they descend. All are read again."""
     for step in (1, -1):
         write_arrays(folder / "arrays", step)
-        words = ["histo", "--memory", "64M", "arrays"]
+        words = ["objects", "short[]", "--memory", "64M", "arrays"]
         pieces, _, status = on_terminal(words, folder)
         lines, left = lines_of(pieces)
         first, second = ([line for line in lines if (line[1][0] == 0) == is_again] for is_again in (False, True))
