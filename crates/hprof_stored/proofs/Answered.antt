@@ -83,12 +83,13 @@ module _ {R : Type 0} (left : R → Option (List ℕ)) (health : R → Health) (
   none_for_scratch old new (scratches.Write fault) is none = absurd (is none)
 
   -- reading ended with a fault
-  pub stopped : {S T : Type 0} (g : Ghosts S) (written : S → Option (List ℕ)) (well : S → Health)
-      (takes : T → IdSize → FactValue → T → Type 0) (scratch : Option (List ℕ)) (start : Option T) (old new : List R) (fault : StoredFault)
-      → StoresAll left health pulls {S = S} {g = g} written well takes limits scratch start old (Err fault) new
+  pub stopped : {S T E : Type 0} (g : Ghosts S) (written : S → Option (List ℕ)) (well : S → Health)
+      (takes : T → IdSize → FactValue → T → Type 0) (refuses : T → IdSize → FactValue → E → T → Type 0) (scratch : Option (List ℕ))
+      (start : Option T) (old new : List R) (fault : StoredFault)
+      → StoresAll left health pulls {S = S} {g = g} written well takes refuses limits scratch start old (Err fault) new
       → limits.max_item ≤ longest_body
       → ReadsStored left health pulls limits old new (Some fault) × HasNoOther left health old new (Some fault)
-  stopped g written well takes scratch start old new (stops.Part index fault) reads le = (
+  stopped g written well takes refuses scratch start old new (stops.Part index fault) reads le = (
     record {
       no_parts = λ e. absurd cc;
       of_none = λ none. absurd (some_reader old index reads.at.was reads.at.was_there none);
@@ -97,7 +98,8 @@ module _ {R : Type 0} (left : R → Option (List ℕ)) (health : R → Health) (
       part = λ other why e parts told.
           let one : stops.Part index fault ≡ stops.Part other why = cc in
           stops_part parts old new other why told
-          (subst (λ (f : StoredFault). StoresAll left health pulls {g = g} written well takes limits scratch start old (Err f) new) one reads);
+          (subst (λ (f : StoredFault). StoresAll left health pulls {g = g} written well takes refuses limits scratch start old (Err f) new)
+          one reads);
       scratch = λ why e. absurd cc;
       accepted = λ all. absurd all;
     },
@@ -106,7 +108,7 @@ module _ {R : Type 0} (left : R → Option (List ℕ)) (health : R → Health) (
         index fault le state
         (stops_part parts old new index fault told reads) fine unhindered),
   )
-  stopped g written well takes scratch start old new (stops.Scratch why) reads le = (
+  stopped g written well takes refuses scratch start old new (stops.Scratch why) reads le = (
     record {
       no_parts = λ e. absurd cc;
       of_none = none_for_scratch old new why reads;
@@ -118,9 +120,9 @@ module _ {R : Type 0} (left : R → Option (List ℕ)) (health : R → Health) (
     },
     λ parts ids millis facts told state fine unhindered. absurd (unhindered tt),
   )
-  stopped g written well takes scratch start old new stops.NoParts reads le = absurd reads
-  stopped g written well takes scratch start old new stops.IdSizes reads le = absurd reads
-  stopped g written well takes scratch start old new (stops.Conflict key) reads le = absurd reads
+  stopped g written well takes refuses scratch start old new stops.NoParts reads le = absurd reads
+  stopped g written well takes refuses scratch start old new stops.IdSizes reads le = absurd reads
+  stopped g written well takes refuses scratch start old new (stops.Conflict key) reads le = absurd reads
 
 -- ---- all parts were read
 

@@ -1,6 +1,6 @@
 -- A part that was read to its end, among those before it.
 use Rattle.std.proofs.Common.{◌≡◌, ℕ, zero, suc, ◌+◌, List, [], ◌∷◌, ◌++◌, take, map, Option, Some, None, refl, sym, ap, subst, ◌∙◌}
-use Rattle.std.proofs.Common.{add-one, append-nil}
+use Rattle.std.proofs.Common.{add-one, append-nil, append_assoc, inl, inr}
 use Rattle.std.specs.Prelude.{slice_get}
 use Rattle.std.specs.Io.KnownBytes.{Consumes, IsAtEnd}
 use Rattle.std.proofs.lemmas.List.{length-append, map-append}
@@ -19,8 +19,8 @@ use Rattle.hprof_objects.specs.Whole.{no_objects, without_objects}
 use Rattle.hprof_stored.specs.Holding.{Earlier, EndsPart, HoldsAll, HoldsStored, one_more}
 use Rattle.hprof_stored.specs.Parts.{AreAllOf, AreStored, IsStored, PartStored, all_read, given_of, others_of, read_of}
 use Rattle.hprof_stored.specs.Storing.{Storing}
-use Rattle.hprof_stored.specs.WatchedSink.{WatchesSoFar}
-use Rattle.hprof_stored.specs.Watching.{Watched, WatchesPart, WatchesParts}
+use Rattle.hprof_stored.specs.WatchedSink.{DroppedSoFar, WatchesSoFar}
+use Rattle.hprof_stored.specs.Watching.{Dropped, Watched, WatchesPart, WatchesParts}
 
 others_more : (parts : List PartStored) (part : PartStored) → others_of (parts ++ part ∷ []) ≡ others_of parts
     ++ without_objects part.given ∷ []
@@ -79,6 +79,38 @@ module _ {T : Type 0} (takes : T → IdSize → FactValue → T → Type 0) wher
   watched_ended parts header facts came (Some start) (Some now) last watches =
       parts_more start watches.mid now parts (record { given = record { header = header; facts = facts }; bytes = came }) watches.before
       watches.so_far
+
+-- ---- why it was dropped
+
+module _ {T E : Type 0} (takes : T → IdSize → FactValue → T → Type 0) (refuses : T → IdSize → FactValue → E → T → Type 0) where
+  -- it was not at first
+  pub dropped_first : (start now : Option T) → now ≡ start → Dropped takes refuses start [] now
+  dropped_first None now same = tt
+  dropped_first (Some start) None same = absurd cc
+  dropped_first (Some start) (Some now) same = tt
+
+  -- one part more
+  pub dropped_ended : (parts : List PartStored) (header : Header) (facts : List FactValue) (came : List ℕ) (start now : Option T)
+      → DroppedSoFar takes refuses start parts (Some header) facts now
+      → Dropped takes refuses start (parts ++ record { given = record { header = header; facts = facts }; bytes = came } ∷ []) now
+  dropped_ended parts header facts came None now dropped = tt
+  dropped_ended parts header facts came (Some start) (Some now) dropped = tt
+  dropped_ended parts header facts came (Some start) None (inl stops) =
+      let part : PartStored = record { given = record { header = header; facts = facts }; bytes = came } in
+      record {
+        before = stops.before;
+        part = stops.part;
+        behind = stops.behind ++ part ∷ [];
+        are = ap (λ (l : List PartStored). l ++ part ∷ []) stops.are ∙ append_assoc stops.before (stops.part ∷ stops.behind) (part ∷ []);
+        ends = stops.ends;
+      }
+  dropped_ended parts header facts came (Some start) None (inr ends) = record {
+    before = parts;
+    part = record { given = record { header = header; facts = facts }; bytes = came };
+    behind = [];
+    are = refl;
+    ends = ends;
+  }
 
 -- ---- what the readers told
 

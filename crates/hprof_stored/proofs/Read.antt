@@ -34,7 +34,7 @@ use Rattle.hprof_engine.specs.Joining.{IsPartFault}
 use Rattle.hprof_stored.specs.Reading.{AreSoMany, StopsForScratch, StopsReader, StoresAll, stop_of}
 use Rattle.hprof_stored.specs.Storing.{HaveObject, IsFull, IsStoredRefusal, RefusesStored, Storing, storing}
 use Rattle.hprof_stored.specs.WatchedSink.{EarlierWatched, HoldsWatchedSink}
-use Rattle.hprof_stored.specs.Watching.{Watched}
+use Rattle.hprof_stored.specs.Watching.{Dropped, Watched}
 use Rattle.hprof_stored.proofs.Fresh.{new_behind_all}
 
 abbrev pub watched_after : {T : Type 0} → Earlier → Option T → EarlierWatched T
@@ -56,26 +56,28 @@ module _ {S : Type 0} (written : S → Option (List ℕ)) (well : S → Health) 
     sound = all.sound;
   }
 
-  module _ {T : Type 0} {g : Ghosts S} (takes : T → IdSize → FactValue → T → Type 0) (start : Option T) where
+  module _ {T E : Type 0} {g : Ghosts S} (takes : T → IdSize → FactValue → T → Type 0)
+      (refuses : T → IdSize → FactValue → E → T → Type 0) (start : Option T) where
     -- nor was any of its objects shown
     pub watched_starts : (it : WatchedSink S T g) → HoldsAll written well limits earlier (storing it.sink)
-        → Watched takes start earlier.parts it.watch
-        → HoldsWatchedSink {g = g} written well takes limits (watched_after earlier start) None [] [] it
-    watched_starts it all watched = record { stored = part_starts (storing it.sink) all; watches = watched }
+        → Watched takes start earlier.parts it.watch → Dropped takes refuses start earlier.parts it.watch
+        → HoldsWatchedSink {g = g} written well takes refuses limits (watched_after earlier start) None [] [] it
+    watched_starts it all watched dropped =
+        record { stored = part_starts (storing it.sink) all; watches = watched; dropped = dropped }
 
     module _ {R : Type 0} (left : R → Option (List ℕ)) (health : R → Health) (pulls : R → ℕ) where
       -- at its end, all facts of the part
       pub read_whole : (was is : R) (came before : List ℕ) (summary : PartSummary) (handed : Handed) (mid : WatchedSink S T g)
           → ListsPart left health pulls limits was came is (Ok summary) handed
-          → HoldsWatchedSink {g = g} written well takes limits (watched_after earlier start) handed.header before handed.facts mid
+          → HoldsWatchedSink {g = g} written well takes refuses limits (watched_after earlier start) handed.header before handed.facts mid
           → (facts : List FactValue) × IsPart came summary.header.ids summary.header.millis facts
-          × HoldsWatchedSink {g = g} written well takes limits (watched_after earlier start) (Some summary.header) before facts mid
+          × HoldsWatchedSink {g = g} written well takes refuses limits (watched_after earlier start) (Some summary.header) before facts mid
       read_whole was is came before summary handed mid reads held =
           let whole = handed_whole left health pulls limits was is came summary handed reads in (
             whole.0,
             whole.2,
-            subst (λ (h : Handed). HoldsWatchedSink {g = g} written well takes limits (watched_after earlier start) h.header before h.facts mid) whole.1
-                held,
+            subst (λ (h : Handed). HoldsWatchedSink {g = g} written well takes refuses limits (watched_after earlier start) h.header before
+                h.facts mid) whole.1 held,
           )
 
   -- what was gathered is sound, and lacks only what is new
@@ -119,12 +121,12 @@ module _ {S : Type 0} (written : S → Option (List ℕ)) (well : S → Health) 
       → all_facts items ≡ []
   no_fact longest items place each bare = ap all_facts (items_at_start longest Start place items each bare).1
 
-  module _ {T : Type 0} {g : Ghosts S} (takes : T → IdSize → FactValue → T → Type 0) (start : Option T) {R : Type 0}
-      (left : R → Option (List ℕ)) (health : R → Health) (pulls : R → ℕ) (was is : R) (came : List ℕ) (handed : Handed)
-      (new : WatchedSink S T g) where
+  module _ {T E : Type 0} {g : Ghosts S} (takes : T → IdSize → FactValue → T → Type 0)
+      (refuses : T → IdSize → FactValue → E → T → Type 0) (start : Option T) {R : Type 0} (left : R → Option (List ℕ))
+      (health : R → Health) (pulls : R → ℕ) (was is : R) (came : List ℕ) (handed : Handed) (new : WatchedSink S T g) where
     abbrev HoldsIt : WatchedSink S T g → Limits → Option Header → List ℕ → List FactValue → Type 0
     HoldsIt it within header bytes facts =
-        HoldsWatchedSink {g = g} written well takes within (watched_after earlier start) header bytes facts it
+        HoldsWatchedSink {g = g} written well takes refuses within (watched_after earlier start) header bytes facts it
 
     abbrev pub Comes : PartFault → Type 0
     Comes fault =
@@ -182,19 +184,17 @@ stops_for old new some scratches.Full full = some
 stops_for old new some (scratches.Write fault) full = some
 
 -- how reading stops at a reader
-pub stops_so : {R : Type 0} (left : R → Option (List ℕ)) (health : R → Health) (pulls : R → ℕ) {S T : Type 0} (g : Ghosts S)
-    (written : S → Option (List ℕ)) (well : S → Health) (takes : T → IdSize → FactValue → T → Type 0) (limits : Limits)
-    (scratch : Option (List ℕ)) (start : Option T) (old new : List R) (index : ℕ) (was : R) → slice_get old index ≡ Some was
-    → (full : Option ScratchFault) (fault : PartFault)
-    → (fault ≡ faults.Sink sinks.Failed → IsFull full)
-    → ((fault ≡ faults.Sink sinks.Failed → ⊥) → StopsReader left health pulls limits old new index fault)
-    → StoresAll left health pulls {S = S} {g = g} written well takes limits scratch start old (Err (stop_of full index fault)) new
-stops_so left health pulls g written well takes limits scratch start old new index was there None (faults.Sink sinks.Failed) fills part =
-    absurd (fills refl)
-stops_so left health pulls g written well takes limits scratch start old new index was there (Some why) (faults.Sink sinks.Failed) fills part =
-    stops_for old new (some_reader old index was there) why (fills refl)
-stops_so left health pulls g written well takes limits scratch start old new index was there None fault fills part = part (λ e. cc)
-stops_so left health pulls g written well takes limits scratch start old new index was there (Some why) fault fills part = part (λ e. cc)
+module _ {R : Type 0} (left : R → Option (List ℕ)) (health : R → Health) (pulls : R → ℕ) {S T E : Type 0} (g : Ghosts S)
+    (written : S → Option (List ℕ)) (well : S → Health) (takes : T → IdSize → FactValue → T → Type 0)
+    (refuses : T → IdSize → FactValue → E → T → Type 0) (limits : Limits) (scratch : Option (List ℕ)) (start : Option T) (old new : List R)
+    (index : ℕ) (was : R) (there : slice_get old index ≡ Some was) where
+  pub stops_so : (full : Option ScratchFault) (fault : PartFault) → (fault ≡ faults.Sink sinks.Failed → IsFull full)
+      → ((fault ≡ faults.Sink sinks.Failed → ⊥) → StopsReader left health pulls limits old new index fault)
+      → StoresAll left health pulls {S = S} {g = g} written well takes refuses limits scratch start old (Err (stop_of full index fault)) new
+  stops_so None (faults.Sink sinks.Failed) fills part = absurd (fills refl)
+  stops_so (Some why) (faults.Sink sinks.Failed) fills part = stops_for old new (some_reader old index was there) why (fills refl)
+  stops_so None fault fills part = part (λ e. cc)
+  stops_so (Some why) fault fills part = part (λ e. cc)
 
 -- how many readers were read to their ends then
 pub so_many : (full : Option ScratchFault) (index all : ℕ) (fault : PartFault) → index ≤ all

@@ -1,5 +1,5 @@
 -- What a sink took that watched the reading of one part, as what a pass over the stored objects gives it.
-use Rattle.std.proofs.Common.{◌≡◌, ℕ, zero, suc, List, [], ◌∷◌, length, map, Option, Some, inl, inr, refl, sym, ap, subst, ◌∙◌}
+use Rattle.std.proofs.Common.{◌≡◌, ℕ, zero, suc, List, [], ◌∷◌, length, map, Option, Some, inl, inr, refl, ap, subst, ◌∙◌}
 use Rattle.std.proofs.Common.{arith}
 use Rattle.std.specs.List.{AllByRecursion}
 use Rattle.hprof_values.specs.declared.ids.IdSize.{IdSize}
@@ -42,7 +42,8 @@ same_objects ids (row ∷ rows) (object ∷ objects) (other ∷ others) are too 
 -- their rows are those of the facts
 are_among : (ids : IdSize) (facts : List FactValue) → AllFit ids facts → AreObjects ids (object_rows ids facts) (objects_among facts)
 are_among ids [] fits = tt
-are_among ids (Instance id trace class bytes ∷ facts) fits = (fits _ (inl refl), refl, are_among ids facts (λ fact has. fits fact (inr has)))
+are_among ids (Instance id trace class bytes ∷ facts) fits =
+    (fits _ (inl refl), refl, are_among ids facts (λ fact has. fits fact (inr has)))
 are_among ids (ObjArray id trace class elements ∷ facts) fits =
     (fits _ (inl refl), refl, are_among ids facts (λ fact has. fits fact (inr has)))
 are_among ids (PrimArray id trace elem bytes ∷ facts) fits =

@@ -30,7 +30,7 @@ use Rattle.hprof_stored.specs.declared.watched_sink.WatchedSink.{WatchedSink}
 use Rattle.hprof_stored.specs.Holding.{HoldsAll}
 use Rattle.hprof_stored.specs.Parts.{AreStored, PartStored, all_read, given_of, others_of}
 use Rattle.hprof_stored.specs.Storing.{HaveObject, storing}
-use Rattle.hprof_stored.specs.Watching.{Watched}
+use Rattle.hprof_stored.specs.Watching.{Dropped, Watched}
 
 -- the heap of all facts of the parts but objects, and a log that keeps enough of the objects, if the scratch tells its bytes
 --   lefts: what the readers had to tell;  scratch: the bytes of the scratch at first
@@ -50,6 +50,14 @@ pub record HoldsWatched {S T : Type 0} (written : S → Option (List ℕ)) (heal
     : Type 0 where
   pub holds : HoldsHeap written health limits lefts scratch it
   pub watched : Watched takes start holds.parts now
+
+-- if a sink watched at first and is not there any more, one of the parts ended it
+--   lefts: what the readers had to tell
+pub record DropsWatch {T E : Type 0} (takes : T → IdSize → FactValue → T → Type 0) (refuses : T → IdSize → FactValue → E → T → Type 0)
+    (limits : Limits) (lefts : List (Option (List ℕ))) (start now : Option T) : Type 0 where
+  pub parts : List PartStored
+  pub stored : AreStored limits lefts parts
+  pub dropped : Dropped takes refuses start parts now
 
 -- ---- how reading ended
 
@@ -96,9 +104,9 @@ StopsForScratch old new other = old ≢ []
 
 -- ---- reading all parts
 
-module _ {R : Type 0} (left : R → Option (List ℕ)) (health : R → Health) (pulls : R → ℕ) {S T : Type 0} {g : Ghosts S}
-    (written : S → Option (List ℕ)) (well : S → Health) (takes : T → IdSize → FactValue → T → Type 0) (limits : Limits)
-    (scratch : Option (List ℕ)) (start : Option T) where
+module _ {R : Type 0} (left : R → Option (List ℕ)) (health : R → Health) (pulls : R → ℕ) {S T E : Type 0} {g : Ghosts S}
+    (written : S → Option (List ℕ)) (well : S → Health) (takes : T → IdSize → FactValue → T → Type 0)
+    (refuses : T → IdSize → FactValue → E → T → Type 0) (limits : Limits) (scratch : Option (List ℕ)) (start : Option T) where
   -- so many readers were read to their ends, and the sink was given their parts
   pub record StoresFirst (old : List R) (count : ℕ) (it : WatchedSink S T g) : Type 0 where
     pub parts : List PartStored
@@ -107,6 +115,7 @@ module _ {R : Type 0} (left : R → Option (List ℕ)) (health : R → Health) (
     pub given : AreGiven limits (map left (take count old)) (given_of parts)
     pub holds : HoldsAll written well limits (record { scratch = scratch; parts = parts }) (storing it.sink)
     pub watched : Watched takes start parts it.watch
+    pub dropped : Dropped takes refuses start parts it.watch
 
   -- all readers were read to their ends, or one was refused, or the scratch took no more
   abbrev pub StoresAll : List R → Result (WatchedSink S T g) StoredFault → List R → Type 0

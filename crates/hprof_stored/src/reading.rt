@@ -8,8 +8,8 @@ ghost use Rattle.hprof_heap.specs.Gathering.{Given, nothing_gathered, Gathers, g
 ghost use Rattle.hprof_heap.specs.State.{IsState};
 ghost use Rattle.hprof_engine.specs.Joining.{Tell};
 ghost use Rattle.hprof_runs.specs.ReadBack.{HoldsNothing};
-ghost use Rattle.hprof_stored.specs.Reading.{HoldsHeap, HoldsWatched, IsHinderedStored, IsOkOrConflictStored, ReadsFirst, ReadsStored};
-ghost use Rattle.hprof_stored.specs.Reading.{StoresAll, TellsStored, stop_of, stopped_by};
+ghost use Rattle.hprof_stored.specs.Reading.{DropsWatch, HoldsHeap, HoldsWatched, IsHinderedStored, IsOkOrConflictStored, ReadsFirst};
+ghost use Rattle.hprof_stored.specs.Reading.{ReadsStored, StoresAll, TellsStored, stop_of, stopped_by};
 
 use crate::no_watch::NoWatch;
 use crate::stored_fault::StoredFault;
@@ -55,8 +55,8 @@ where
     requires well { S.health scratch ≡ Well }
     requires none { M.holds summaries.now kept.old [] }
     requires room { M.has_room summaries.now kept.old (length readers.old) }
-    ensures read { StoresAll R.left R.health R.pulls S.written S.health T.takes limits (S.written scratch) watch readers.old result
-        readers.new }
+    ensures read { StoresAll R.left R.health R.pulls S.written S.health T.takes T.refuses limits (S.written scratch) watch readers.old
+        result readers.new }
     ensures first { ReadsFirst R.left R.health R.pulls (M.holds summaries.now) limits readers.old readers.new (stopped_by result) kept.new }
 {
     let Ok(mut sink) = WatchedSink::new(alloc, scratch, keeping, watch) else {
@@ -92,9 +92,9 @@ fn heap_of_all(gatherer: Gatherer) -> Result<Heap, StoredFault>
 /// Reads all parts in order, and returns the heap of all facts but their objects, and a log of these. `summaries` takes the summary of each
 /// part that was read to its end, and keeps it in `kept`.
 ///
-/// `watch` takes each object as it comes, and is returned beside the heap. It took the objects of all parts, in the order of the parts. It
-/// is dropped as soon as it refuses an object, or if the objects of a part do not come in ascending order of identifier: then the parts are
-/// read without it, and `None` is returned beside the heap.
+/// `watch` takes each object as it comes, and is returned beside the heap: then it took all objects of each part, in the order of the part.
+/// It is dropped when it refuses an object, or when an object of a part has no greater identifier than the one before it. Then reading goes
+/// on without it, and `None` is returned beside the heap.
 ///
 /// # Errors
 ///
@@ -125,6 +125,9 @@ where
     // What Ok means: the heap of all facts but objects, a log of the objects, and the sink that watched, if it took them all.
     ensures ok { IfOk result (λ it. HoldsWatched S.written S.health T.takes limits (map R.left readers.old) (S.written scratch) watch it.0
         it.1) }
+
+    // If that sink does not come back, it refused an object, or the objects of a part do not ascend.
+    ensures dropped { IfOk result (λ it. DropsWatch T.takes T.refuses limits (map R.left readers.old) watch it.1) }
 
     // What a refusal says of the parts.
     ensures reads { ReadsStored R.left R.health R.pulls limits readers.old readers.new (stopped_by result) }
@@ -192,10 +195,8 @@ pub fn read_stored<R: Source, S: Scratch + Drop, M: Summaries>(
         → (IsHinderedStored (stopped_by result) → ⊥) → IsOkOrConflictStored (stopped_by result) }
 {
     let watch: Option<NoWatch> = None;
-    match read_watched(
+    let (stored, _) = read_watched(
         alloc, readers, limits, keeping, scratch, summaries, kept, watch,
-    ) {
-        Ok((stored, _)) => Ok(stored),
-        Err(fault) => Err(fault),
-    }
+    )?;
+    Ok(stored)
 }

@@ -1,6 +1,6 @@
 //! The sink that takes the facts of parts, and shows the objects to another sink as they come.
 
-ghost use Rattle.std.specs.Prelude.{◌≡◌, ◌<◌, ◌-◌, ◌^◌, false, true, Some, None, IfErr, IfOk, OnOk};
+ghost use Rattle.std.specs.Prelude.{◌≡◌, ◌⊎◌, ◌<◌, ◌-◌, ◌^◌, false, true, Some, None, IfErr, IfOk, OnOk};
 ghost use Rattle.hprof_devices.specs.declared.health.Health.TheVariants.{Well};
 ghost use Rattle.hprof_items.specs.FactValue.{ListsHave, value_of};
 ghost use Rattle.hprof_items.specs.Spelling.{Fits};
@@ -23,8 +23,8 @@ use std::alloc::{AllocError, Global};
 
 /// Takes parts as [`StoredSink`] does, and gives each object also to a sink that watches, if there is one.
 ///
-/// That sink is dropped as soon as it refuses an object, or if an object of a part does not come in ascending order of identifier. Then
-/// the parts are taken without it.
+/// That sink is dropped when it refuses an object, or when an object of a part has no greater identifier than the one before it. Then the
+/// parts are taken without it.
 #[derive(Drop)]
 pub(crate) struct WatchedSink<S: Target + Drop, T> {
     pub(crate) sink: StoredSink<S>,
@@ -51,7 +51,9 @@ where
     T::Fault: Drop,
     requires fits { Fits ids (value_of object.now) }
     requires lists { ListsHave ids object.now }
-    ensures { result ≡ true → T.takes watch.old ids (value_of object.now) watch.new × IsAbove id last }
+    ensures took { result ≡ true → T.takes watch.old ids (value_of object.now) watch.new × IsAbove id last }
+    ensures refused { result ≡ false → (IsAbove id last → ⊥) ⊎ ((fault : T.Fault) × T.refuses watch.old ids (value_of object.now) fault
+        watch.new) }
 {
     if let Some(last) = last {
         if id <= last {
@@ -83,11 +85,8 @@ where
             → HoldsAll S.written S.health limits (nothing_before (S.written scratch)) (storing it.sink)) }
         ensures watch { IfOk result (λ it. it.watch ≡ watch) }
     {
-        let Ok(sink) = StoredSink::new(alloc, scratch, keeping) else {
-            return Err(AllocError);
-        };
         Ok(WatchedSink {
-            sink,
+            sink: StoredSink::new(alloc, scratch, keeping)?,
             ids: None,
             watch,
             last: None,
@@ -109,8 +108,8 @@ where
         requires fits { FitsBegun self.old.ids (value_of fact.now) }
         requires lists { ListsHaveBegun self.old.ids fact.now }
         ensures shown { (ids : IdSize) → self.old.ids ≡ Some ids
-            → ShowsFact T.takes ids (value_of fact.now) (object_key (value_of fact.now)) self.old.watch self.old.last self.new.watch
-            self.new.last }
+            → ShowsFact T.takes T.refuses ids (value_of fact.now) (object_key (value_of fact.now)) self.old.watch self.old.last
+            self.new.watch self.new.last }
         ensures sink { self.new.sink ≡ self.old.sink }
     {
         let Some(id) = object_id(fact) else {
@@ -138,9 +137,9 @@ where
     ghost use Rattle.hprof_stored.specs.Storing.{RefusesStored, storing};
     ghost use Rattle.hprof_stored.specs.WatchedSink.{BeginsWatched, StepsWatched};
 
-    ghost begins = { λ old header new. BeginsWatched S.written S.health T.takes old header new };
+    ghost begins = { λ old header new. BeginsWatched S.written S.health T.takes T.refuses old header new };
 
-    ghost steps = { λ old fact new. StepsWatched S.written S.health T.takes old fact new };
+    ghost steps = { λ old fact new. StepsWatched S.written S.health T.takes T.refuses old fact new };
 
     ghost begun = { λ it. (gathered it.sink.gatherer).begun };
 
@@ -149,22 +148,15 @@ where
     ghost refuses = { λ old given fault new. RefusesStored (storing old.sink) given fault (storing new.sink) };
 
     fn begin_part(&mut self, header: Header) -> Result<(), SinkFault> {
-        match self.sink.begin_part(header) {
-            Ok(()) => {
-                self.ids = Some(header.ids);
-                self.last = None;
-                Ok(())
-            }
-            Err(fault) => Err(fault),
-        }
+        self.sink.begin_part(header)?;
+        self.ids = Some(header.ids);
+        self.last = None;
+        Ok(())
     }
 
     #[inline]
     fn take(&mut self, fact: &Fact<'_>, spelled: &[u8]) -> Result<(), SinkFault> {
-        match self.sink.take(fact, spelled) {
-            Ok(()) => {}
-            Err(fault) => return Err(fault),
-        }
+        self.sink.take(fact, spelled)?;
         if self.watch.is_some() {
             self.show(fact);
         }
@@ -182,13 +174,13 @@ where
     ghost Earlier = { EarlierWatched T };
 
     ghost holds = { λ it limits earlier header bytes facts.
-        HoldsWatchedSink S.written S.health T.takes limits earlier header bytes facts it };
+        HoldsWatchedSink S.written S.health T.takes T.refuses limits earlier header bytes facts it };
 
     ghost begins_part = { λ old header new begins limits earlier bytes held.
-        watched_begun S.written S.health T.takes limits earlier header bytes old new begins held };
+        watched_begun S.written S.health T.takes T.refuses limits earlier header bytes old new begins held };
 
     ghost takes_fact = { λ old fact new steps limits earlier header bytes facts held.
-        watched_taken S.written S.health T.takes limits earlier header bytes facts fact old new steps held };
+        watched_taken S.written S.health T.takes T.refuses limits earlier header bytes facts fact old new steps held };
 
     fn note(&mut self, place: PartPlace) {
         self.sink.note(place);

@@ -13,8 +13,9 @@ use Rattle.hprof_stored.specs.Parts.{PartStored, given_of}
 use Rattle.hprof_stored.specs.Reading.{AreSoMany, StoresAll, StoresFirst}
 use Rattle.hprof_stored.specs.Storing.{storing}
 use Rattle.hprof_stored.specs.WatchedSink.{EarlierWatched}
-use Rattle.hprof_stored.specs.Watching.{Watched}
-use Rattle.hprof_stored.proofs.Ended.{are_given, is_stored, lefts_stored, part_ended, watched_ended, watched_first}
+use Rattle.hprof_stored.specs.Watching.{Dropped, Watched}
+use Rattle.hprof_stored.proofs.Ended.{are_given, dropped_ended, dropped_first, is_stored, lefts_stored, part_ended, watched_ended}
+use Rattle.hprof_stored.proofs.Ended.{watched_first}
 use Rattle.hprof_stored.proofs.Read.{Comes, is_fault, is_full, read_whole, so_many, stops_so, watched_starts}
 use Rattle.hprof_stored.proofs.reading.read_all.Goals as goal
 
@@ -28,7 +29,15 @@ room_behind has_room count index summaries within room =
 pub loop-index-init : goal.loop-index-init
 loop-index-init g c = record {
   unread = λ k d after below. refl;
-  first = record { parts = []; all = refl; stored = tt; given = tt; holds = c.in-Ok.ensures.holds c.args.limits; watched = watched_first g.T.ObjectSink.takes c.args.watch c.in-Ok.sink.watch c.in-Ok.ensures.watch };
+  first = record {
+    parts = [];
+    all = refl;
+    stored = tt;
+    given = tt;
+    holds = c.in-Ok.ensures.holds c.args.limits;
+    watched = watched_first g.T.ObjectSink.takes c.args.watch c.in-Ok.sink.watch c.in-Ok.ensures.watch;
+    dropped = dropped_first g.T.ObjectSink.takes g.T.ObjectSink.refuses c.args.watch c.in-Ok.sink.watch c.in-Ok.ensures.watch;
+  };
   out = λ k below. absurd (omega (arith, below));
   kept = HoldsFirst-none g.R.Source.left (g.M.Summaries.holds c.args.summaries.now) c.args.readers.now c.args.kept.now c.requires.none;
   room = let all : length c.args.readers.now ≡ length c.args.readers.now - 0 = omega arith in
@@ -50,11 +59,12 @@ end_part-requires g c =
     let read = c.in-Ok-read_placed.ensures.read in
     let earlier : Earlier = record { scratch = g.S.Target.written c.args.scratch; parts = first.parts } in
     let before : EarlierWatched g.row.T.Denot = record { earlier = earlier; start = c.args.watch } in
-    let front = read.2.2 before (watched_starts g.S.Target.written g.S.Target.health c.args.limits earlier g.T.ObjectSink.takes c.args.watch
-    c.loop-index.sink first.holds first.watched) in
-    let whole = read_whole g.S.Target.written g.S.Target.health c.args.limits earlier g.T.ObjectSink.takes c.args.watch g.R.Source.left
-    g.R.Source.health g.R.Source.pulls (get_or c.loop-index.readers c.loop-index.index c.index-readers-index.result)
-    c.read_placed.new.source read.0 front.before c.in-Ok-read_placed.summary read.2.0 c.read_placed.new.sink read.2.1 front.held in
+    let front = read.2.2 before (watched_starts g.S.Target.written g.S.Target.health c.args.limits earlier g.T.ObjectSink.takes
+    g.T.ObjectSink.refuses c.args.watch c.loop-index.sink first.holds first.watched first.dropped) in
+    let whole = read_whole g.S.Target.written g.S.Target.health c.args.limits earlier g.T.ObjectSink.takes g.T.ObjectSink.refuses
+    c.args.watch g.R.Source.left g.R.Source.health g.R.Source.pulls (get_or c.loop-index.readers c.loop-index.index
+    c.index-readers-index.result) c.read_placed.new.source read.0 front.before c.in-Ok-read_placed.summary read.2.0 c.read_placed.new.sink
+    read.2.1 front.held in
     let held = whole.2.stored in
     omega (arith, held.number, first.all, c.loop-index-test.true)
 
@@ -81,23 +91,23 @@ returns-in-Err-clause-read g c =
     let earlier : Earlier = record { scratch = g.S.Target.written c.args.scratch; parts = first.parts } in
     let before : EarlierWatched g.row.T.Denot = record { earlier = earlier; start = c.args.watch } in
     let handed = read.2.0 in
-    let comes = read.2.2 before (watched_starts g.S.Target.written g.S.Target.health c.args.limits earlier g.T.ObjectSink.takes c.args.watch
-    c.loop-index.sink first.holds first.watched) in
+    let comes = read.2.2 before (watched_starts g.S.Target.written g.S.Target.health c.args.limits earlier g.T.ObjectSink.takes
+    g.T.ObjectSink.refuses c.args.watch c.loop-index.sink first.holds first.watched first.dropped) in
     let there = element_at c.args.readers.now c.loop-index.readers index found within (c.loop-index.invariant.unread index found
     (omega arith) within) c.index-readers-index.is ∙ ap Some c.index-readers-index.is in
     subst (λ (f : StoredFault). StoresAll g.R.Source.left g.R.Source.health g.R.Source.pulls {S = g.row.S.Denot} {g = g.S.Target}
-    g.S.Target.written g.S.Target.health g.T.ObjectSink.takes c.args.limits (g.S.Target.written c.args.scratch) c.args.watch
-    c.args.readers.now (Err f) (set c.loop-index.readers index is))
+    g.S.Target.written g.S.Target.health g.T.ObjectSink.takes g.T.ObjectSink.refuses c.args.limits (g.S.Target.written c.args.scratch)
+    c.args.watch c.args.readers.now (Err f) (set c.loop-index.readers index is))
     (sym c.stop_at.ensures)
     (stops_so g.R.Source.left g.R.Source.health g.R.Source.pulls {S = g.row.S.Denot} g.S.Target g.S.Target.written g.S.Target.health
-    g.T.ObjectSink.takes c.args.limits (g.S.Target.written c.args.scratch) c.args.watch c.args.readers.now (set c.loop-index.readers index is) index was there
-    c.read_placed.new.sink.sink.full c.in-Err.fault
-    (λ failed. is_full g.S.Target.written g.S.Target.health c.args.limits earlier g.T.ObjectSink.takes c.args.watch g.R.Source.left g.R.Source.health g.R.Source.pulls was is
-    read.0 handed c.read_placed.new.sink
+    g.T.ObjectSink.takes g.T.ObjectSink.refuses c.args.limits (g.S.Target.written c.args.scratch) c.args.watch c.args.readers.now
+    (set c.loop-index.readers index is) index was there c.read_placed.new.sink.sink.full c.in-Err.fault
+    (λ failed. is_full g.S.Target.written g.S.Target.health c.args.limits earlier g.T.ObjectSink.takes g.T.ObjectSink.refuses c.args.watch
+    g.R.Source.left g.R.Source.health g.R.Source.pulls was is read.0 handed c.read_placed.new.sink
     (subst (λ (f : PartFault). ListsPart g.R.Source.left g.R.Source.health g.R.Source.pulls c.args.limits was read.0 is (Err f) handed)
     failed read.2.1)
-    (subst (λ (f : PartFault). Comes g.S.Target.written g.S.Target.health c.args.limits earlier g.T.ObjectSink.takes c.args.watch g.R.Source.left g.R.Source.health
-    g.R.Source.pulls was is read.0 handed c.read_placed.new.sink f) failed comes))
+    (subst (λ (f : PartFault). Comes g.S.Target.written g.S.Target.health c.args.limits earlier g.T.ObjectSink.takes g.T.ObjectSink.refuses
+    c.args.watch g.R.Source.left g.R.Source.health g.R.Source.pulls was is read.0 handed c.read_placed.new.sink f) failed comes))
     (λ other. record {
       given = given_of first.parts;
       of_readers = first.given;
@@ -109,8 +119,9 @@ returns-in-Err-clause-read g c =
         came = read.0;
         consumed = read.1;
         spared = c.in-Err.ensures.pulls;
-        refused = is_fault g.S.Target.written g.S.Target.health c.args.limits earlier g.T.ObjectSink.takes c.args.watch g.R.Source.left g.R.Source.health g.R.Source.pulls
-            was is read.0 handed c.read_placed.new.sink c.in-Err.fault other read.2.1 comes;
+        refused = is_fault g.S.Target.written g.S.Target.health c.args.limits earlier g.T.ObjectSink.takes g.T.ObjectSink.refuses
+            c.args.watch g.R.Source.left g.R.Source.health g.R.Source.pulls was is read.0 handed c.read_placed.new.sink c.in-Err.fault other
+            read.2.1 comes;
         unread = λ k behind. same_at (set c.loop-index.readers index is) c.args.readers.now k
             (length-set c.loop-index.readers index is ∙ same_length)
             (λ d below. let other : k ≢ index = omega (arith, behind) in
@@ -125,7 +136,8 @@ returns-in-Err-clause-first g c =
     record {
       count = index;
       so_many = subst (λ (f : StoredFault). AreSoMany (Some f) (length c.args.readers.now) index) (sym c.stop_at.ensures)
-          (so_many c.read_placed.new.sink.sink.full index (length c.args.readers.now) c.in-Err.fault (omega (arith, c.loop-index-test.true)));
+          (so_many c.read_placed.new.sink.sink.full index (length c.args.readers.now) c.in-Err.fault
+          (omega (arith, c.loop-index-test.true)));
       read_out = AreReadOut-kept g.R.Source.left g.R.Source.health g.R.Source.pulls c.args.limits c.args.readers.now c.loop-index.readers
           index c.read_placed.new.source c.loop-index.invariant.out;
       summaries = c.loop-index.invariant.kept;
@@ -144,10 +156,11 @@ loop-index-preserved g c =
     let reads = read.2.1 in
     let earlier : Earlier = record { scratch = g.S.Target.written c.args.scratch; parts = first.parts } in
     let before : EarlierWatched g.row.T.Denot = record { earlier = earlier; start = c.args.watch } in
-    let front = read.2.2 before (watched_starts g.S.Target.written g.S.Target.health c.args.limits earlier g.T.ObjectSink.takes c.args.watch
-    c.loop-index.sink first.holds first.watched) in
-    let whole = read_whole g.S.Target.written g.S.Target.health c.args.limits earlier g.T.ObjectSink.takes c.args.watch g.R.Source.left
-    g.R.Source.health g.R.Source.pulls was is read.0 front.before summary read.2.0 c.read_placed.new.sink reads front.held in
+    let front = read.2.2 before (watched_starts g.S.Target.written g.S.Target.health c.args.limits earlier g.T.ObjectSink.takes
+    g.T.ObjectSink.refuses c.args.watch c.loop-index.sink first.holds first.watched first.dropped) in
+    let whole = read_whole g.S.Target.written g.S.Target.health c.args.limits earlier g.T.ObjectSink.takes g.T.ObjectSink.refuses
+    c.args.watch g.R.Source.left g.R.Source.health g.R.Source.pulls was is read.0 front.before summary read.2.0 c.read_placed.new.sink reads
+    front.held in
     let part : PartStored = record { given = record { header = summary.header; facts = whole.0 }; bytes = read.0 } in
     let there = element_at c.args.readers.now c.loop-index.readers index found within (c.loop-index.invariant.unread index found
     (omega arith) within) c.index-readers-index.is ∙ ap Some c.index-readers-index.is in
@@ -169,6 +182,10 @@ loop-index-preserved g c =
             (sym c.end_part.ensures.watch)
             (watched_ended g.T.ObjectSink.takes first.parts summary.header whole.0 read.0 c.args.watch c.read_placed.new.sink.watch
             c.read_placed.new.sink.last whole.2.watches);
+        dropped = subst (λ (t : Option g.row.T.Denot). Dropped g.T.ObjectSink.takes g.T.ObjectSink.refuses c.args.watch
+            (first.parts ++ part ∷ []) t) (sym c.end_part.ensures.watch)
+            (dropped_ended g.T.ObjectSink.takes g.T.ObjectSink.refuses first.parts summary.header whole.0 read.0 c.args.watch
+            c.read_placed.new.sink.watch whole.2.dropped);
       };
       out = AreReadOut-more g.R.Source.left g.R.Source.health g.R.Source.pulls c.args.limits c.args.readers.now c.loop-index.readers
           index was is there (omega (arith, within, c.loop-index.auto.readers)) c.loop-index.invariant.out (record {
@@ -192,7 +209,8 @@ pub returns-clause-read : goal.returns-clause-read
 returns-clause-read g c =
     let all : c.loop-index.index ≡ length c.args.readers.now = omega (arith, c.loop-index.auto.index-end) in
     subst (λ (count : ℕ). StoresFirst g.R.Source.left g.R.Source.health g.R.Source.pulls g.S.Target.written g.S.Target.health
-    g.T.ObjectSink.takes c.args.limits (g.S.Target.written c.args.scratch) c.args.watch c.args.readers.now count c.loop-index.sink) all c.loop-index.invariant.first
+    g.T.ObjectSink.takes g.T.ObjectSink.refuses c.args.limits (g.S.Target.written c.args.scratch) c.args.watch c.args.readers.now count
+    c.loop-index.sink) all c.loop-index.invariant.first
 
 pub returns-clause-first : goal.returns-clause-first
 returns-clause-first g c =
