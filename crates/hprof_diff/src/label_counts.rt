@@ -98,8 +98,8 @@ impl LabelCounts {
     /// Returns the counts of objects, by the labels of their kinds. The heap has all other facts.
     ///
     /// The label of a class is the printed form of its name, or `\?` if it has no load or the heap does not have its name. Classes with the
-    /// same label are counted together, and so are arrays of a type and a class whose label reads the same. The objects are not gone through
-    /// if their counts by kind are known.
+    /// same label are counted together, and so are arrays of a type and a class whose label reads the same. The objects are not gone
+    /// through if their counts by kind are known.
     ///
     /// # Errors
     ///

@@ -109,7 +109,7 @@ pub fn count_parts<R: Source>(
 }
 
 /// Reads all parts, and counts the objects of their heap by label. Objects stay in the parts or go to scratch, as `keeping` says, and are
-/// read again to be counted: `parts` opens the same parts as the readers. If there is one reader, and its objects are in one stretch, they
+/// read again to be counted: `parts` opens the same parts as the readers. If there is one reader, and its objects are one stretch, they
 /// are counted as they are read, and not read again.
 ///
 /// # Errors

@@ -22,8 +22,8 @@ use hprof_stream::Limits;
 use std::alloc::Global;
 
 /// Reads all parts, and writes the product of them. Objects stay in the parts or go to scratch, as `keeping` says, and are gone through as
-/// often as the product wants: `parts` opens the same parts as the readers. If the product wants counts of the objects by kind, and there is
-/// one reader whose objects are in one stretch, they are counted as they are read, and not gone through again for that.
+/// often as the product wants: `parts` opens the same parts as the readers. If the product wants counts of the objects by kind, and there
+/// is one reader whose objects are one stretch, they are counted as they are read.
 ///
 /// # Errors
 ///
