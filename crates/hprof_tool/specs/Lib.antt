@@ -1,4 +1,5 @@
 pub mod Again
+pub mod Door
 pub mod PartFile
 pub mod Conversing
 pub mod Folder

@@ -1,4 +1,4 @@
-use Rattle.hprof_facts.specs.FactReader.{CanAdvance}
+use Rattle.hprof_tool.specs.Door.{CanAdvance}
 use Rattle.example_names.proofs.main.Given as goal
 
 -- the reader can be asked for the next fact
