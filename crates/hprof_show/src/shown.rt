@@ -16,8 +16,7 @@ ghost use Rattle.hprof_show.specs.ShownObjects.{HasShownIds};
 use hprof_heap::{ClassDump, Heap, ObjectDump, find_class, find_object, holds_of_heap};
 use hprof_layouts::{FieldValue, Fields, fields, refers};
 use hprof_reach::sort_once;
-use hprof_values::lists::entry_list::{ConstantList, StaticList};
-use hprof_values::{Basic, IdList};
+use hprof_values::{Basic, ConstantList, IdList, StaticList};
 use std::alloc::{AllocError, Global};
 
 /// The number of elements that are told of an array of objects.

@@ -1,4 +1,3 @@
-use Rattle.std.proofs.Common.{refl}
 use Rattle.hprof_heap.specs.HeapFacts.{facts_of}
 use Rattle.hprof_layouts.specs.Fields.{fields_value}
 use Rattle.hprof_threads.proofs.NameAnswers.{no_name_object, no_values}
