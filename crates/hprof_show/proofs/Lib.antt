@@ -10,3 +10,6 @@ mod NextInAll
 mod SameWords
 mod SameShow
 mod ShowInAll
+mod PushedIds
+mod NextParts
+mod FewHeaps
