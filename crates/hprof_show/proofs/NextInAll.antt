@@ -5,7 +5,7 @@ use Rattle.std.specs.List.{AllByRecursion}
 use Rattle.hprof_values.specs.declared.ids.IdSize.{IdSize}
 use Rattle.hprof_items.specs.FactValue.{FactValue, Name}
 use Rattle.hprof_rows.specs.Conflict.{IsConsistent}
-use Rattle.hprof_heap.specs.Classes.{ClassValue}
+use Rattle.hprof_heap.specs.Classes.{ClassValue, fact_of_class}
 use Rattle.hprof_heap.specs.Found.{IsClassFound, IsObjectFound}
 use Rattle.hprof_heap.specs.Names.{HasName}
 use Rattle.hprof_histogram.specs.Chosen.{is_among}
@@ -27,7 +27,7 @@ module _ (ids : IdSize) (wanted : List ℕ) (all small : List FactValue) (is : I
 
   class_in_small : (id : ℕ) (class : Option ClassValue) → IsClassFound all id class → IsClassFound small id class
   class_in_small id (Some dump) found = (dump_kept ids wanted all small is dump found.0, found.1)
-  class_in_small id None none = λ dump has. none dump (small_has ids wanted all small is _ has)
+  class_in_small id None none = λ dump has. none dump (small_has ids wanted all small is (fact_of_class dump) has)
 
   object_in_small : (id : ℕ) → IsTrue (is_among wanted id) → (object : Option FactValue) → IsObjectFound all id object
       → IsObjectFound small id object

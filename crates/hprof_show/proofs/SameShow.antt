@@ -30,6 +30,18 @@ use Rattle.hprof_show.specs.ShowText.{contents_text, found_text, object_line, ob
 use Rattle.hprof_show.proofs.Among.{all_back, all_front}
 use Rattle.hprof_show.proofs.SameWords.{Agrees, node_same, object_words_same, reference_same, value_same, with_others}
 
+-- an array of numbers has elements of such a type
+abbrev pub IsArrayOfNumbers : FactValue → Type 0
+IsArrayOfNumbers (PrimArray id trace elem bytes) = element_type (Some elem) ≡ Ok elem
+IsArrayOfNumbers fact = Unit {0}
+
+-- the dumps, of which that of a class has the identifier
+abbrev pub AreFound : ℕ → Option ClassValue → Option FactValue → Type 0
+AreFound id None None = Unit {0}
+AreFound id (Some dump) None = dump.id ≡ id
+AreFound id None (Some fact) = IsArrayOfNumbers fact
+AreFound id (Some dump) (Some fact) = (dump.id ≡ id) × IsArrayOfNumbers fact
+
 module _ (one : Findings) (object : ℕ → Option FactValue) (text : ℕ → TextValue) (thread_name : ℕ → Option (List ℕ)) where
   abbrev other : Findings
   other = with_others one object text thread_name
@@ -156,15 +168,15 @@ module _ (one : Findings) (object : ℕ → Option FactValue) (text : ℕ → Te
 
   told_same : (place : ℕ) (ids : List ℕ) (n : ℕ) → Told n (filter is_some_id ids) (present_from place ids)
   unfolding present_from
-  told_same place [] zero all = refl
-  told_same place [] (suc n) all = refl
-  told_same place (id ∷ ids) n all = by_test n (id == 0) all where
-    by_test : (n : ℕ) (null : Bool) → Told n (cond (not null) (id ∷ filter is_some_id ids) (filter is_some_id ids))
+  told_same place [] zero = λ all. refl
+  told_same place [] (suc n) = λ all. refl
+  told_same place (id ∷ ids) n = by_test (told_same (place + 1) ids) n (id == 0) where
+    by_test : ((m : ℕ) → Told m (filter is_some_id ids) (present_from (place + 1) ids)) → (n : ℕ) (null : Bool)
+        → Told n (cond (not null) (id ∷ filter is_some_id ids) (filter is_some_id ids))
         (cond null (present_from (place + 1) ids) ((record { place = place; id = id }) ∷ present_from (place + 1) ids))
-    by_test n true all = told_same (place + 1) ids n all
-    by_test zero false all = refl
-    by_test (suc n) false all =
-        told_one n place id (filter is_some_id ids) (present_from (place + 1) ids) (told_same (place + 1) ids n) all
+    by_test rest n true = rest n
+    by_test rest zero false = told_none (id ∷ filter is_some_id ids) ((record { place = place; id = id }) ∷ present_from (place + 1) ids)
+    by_test rest (suc n) false = told_one n place id (filter is_some_id ids) (present_from (place + 1) ids) (rest n)
 
   elements_same : (elements : List ℕ) → AllByRecursion Same (element_referents elements)
       → elements_text one elements ≡ elements_text other elements
@@ -188,11 +200,6 @@ module _ (one : Findings) (object : ℕ → Option FactValue) (text : ℕ → Te
 
   -- ---- what is found
 
-  -- an array of numbers has elements of such a type
-  abbrev pub IsArrayOfNumbers : FactValue → Type 0
-  IsArrayOfNumbers (PrimArray id trace elem bytes) = element_type (Some elem) ≡ Ok elem
-  IsArrayOfNumbers fact = Unit {0}
-
   contents_same : (fields : FieldsValue) (fact : FactValue) → IsArrayOfNumbers fact
       → AllByRecursion Same (found_object_referents fields (Some fact)) → contents_text one fields fact ≡ contents_text other fields fact
   contents_same fields (Instance id trace class bytes) numbers all = fields_same class fields all
@@ -208,13 +215,6 @@ module _ (one : Findings) (object : ℕ → Option FactValue) (text : ℕ → Te
       let line : object_line one id fact ≡ object_line other id fact = cc in
       let contents : contents_text one fields fact ≡ contents_text other fields fact = contents_same fields fact numbers all in
       cc
-
-  -- the dumps, of which that of a class has the identifier
-  abbrev pub AreFound : ℕ → Option ClassValue → Option FactValue → Type 0
-  AreFound id None None = Unit {0}
-  AreFound id (Some dump) None = dump.id ≡ id
-  AreFound id None (Some fact) = IsArrayOfNumbers fact
-  AreFound id (Some dump) (Some fact) = (dump.id ≡ id) × IsArrayOfNumbers fact
 
   pub found_same : (id : ℕ) (fields : FieldsValue) (class : Option ClassValue) (found : Option FactValue) → AreFound id class found
       → AllByRecursion Same (shown_ids id fields class found) → found_text one id fields class found ≡ found_text other id fields class found

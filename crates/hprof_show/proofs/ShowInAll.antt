@@ -66,12 +66,12 @@ module _ (ids : IdSize) (wanted : List ℕ) (all small : List FactValue) (id : �
 
     -- ---- the dumps
 
-    numbers_of : (fact : FactValue) → IsObjectFound small id (Some fact) → IsArrayOfNumbers one other.object other.text other.thread_name fact
+    numbers_of : (fact : FactValue) → IsObjectFound small id (Some fact) → IsArrayOfNumbers fact
     numbers_of (PrimArray same trace elem bytes) found = (is.whole.fit (PrimArray same trace elem bytes) found.0).0.3
     numbers_of fact found = tt
 
     found_of : (class : Option ClassValue) (object : Option FactValue) → IsClassFound small id class → IsObjectFound small id object
-        → AreFound one other.object other.text other.thread_name id class object
+        → AreFound id class object
     found_of None None class_is object_is = tt
     found_of (Some dump) None class_is object_is = class_is.1
     found_of None (Some fact) class_is object_is = numbers_of fact object_is
