@@ -41,30 +41,10 @@ module _ (values : List FieldValue) (place : ℕ) where
 abbrev pub told_ids : (told : ℕ) → List ℕ → List ℕ
 told_ids told ids = take (100 - told) (filter is_some_id ids)
 
-module _ (told id : ℕ) (ids all : List ℕ) (first : all ≡ id ∷ ids) where
-  pub null_id : id ≡ 0 → told_ids told all ≡ told_ids told ids
-  null_id null = ap (told_ids told) first ∙ rw null refl
+-- ---- what was appended to the identifier
 
-  pub some_id : told < 100 → (id ≡ 0 → ⊥) → told_ids told all ≡ id ∷ told_ids (told + 1) ids
-  some_id few other =
-      let not_null : (id == 0) ≡ false = false_from_ne_true (id == 0) (λ yes. other (eqb-true id 0 yes)) in
-      let one : 100 - told ≡ suc (100 - (told + 1)) = omega arith in
-      ap (told_ids told) first ∙ rw (not_null, one) refl
-
-pub no_ids : (told : ℕ) (ids : List ℕ) → ids ≡ [] → told_ids told ids ≡ []
-no_ids told ids none = ap (told_ids told) none ∙ none_taken (100 - told) where
-  none_taken : (n : ℕ) → take n [] ≡ []
-  none_taken zero = refl
-  none_taken (suc n) = refl
-
-pub enough_ids : (told : ℕ) (ids : List ℕ) → told ≡ 100 → told_ids told ids ≡ []
-enough_ids told ids all = rw all refl
-
--- ---- a class
-
-pub class_pushed : (dump : ClassValue) (old one two three four five six : List ℕ) → one ≡ old ++ dump.parent ∷ []
-    → two ≡ one ++ dump.loader ∷ [] → three ≡ two ++ dump.signers ∷ [] → four ≡ three ++ dump.domain ∷ []
-    → five ≡ four ++ constant_referents dump.constants → six ≡ five ++ static_referents dump.statics
-    → six ≡ old ++ class_referents dump
-class_pushed dump old one two three four five six a b c d e f =
-    rw (f, e, d, c, b, a) (simp append_assoc)
+pub shown_pushed : (id : ℕ) (class object none one two three : List ℕ) → none ≡ [] → one ≡ none ++ id ∷ [] → two ≡ one ++ class
+    → three ≡ two ++ object → id ∷ (class ++ object) ≡ three
+shown_pushed id class object none one two three empty own classes objects =
+    sym (objects ∙ ap (λ (l : List ℕ). l ++ object)
+    (classes ∙ ap (λ (l : List ℕ). l ++ class) (own ∙ ap (λ (l : List ℕ). l ++ id ∷ []) empty)))
