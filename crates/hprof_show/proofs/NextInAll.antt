@@ -1,5 +1,5 @@
 -- What the words for an object of a small heap are read from is what they are read from in the whole.
-use Rattle.std.specs.Prelude.{◌⊎◌, IsTrue, codes}
+use Rattle.std.specs.Prelude.{IsTrue, codes}
 use Rattle.std.proofs.Common.{◌≡◌, ℕ, List, [], ◌∷◌, Option, Some, None, inl, inr, subst, sym}
 use Rattle.std.specs.List.{AllByRecursion}
 use Rattle.hprof_values.specs.declared.ids.IdSize.{IdSize}
@@ -39,7 +39,7 @@ module _ (ids : IdSize) (wanted : List ℕ) (all small : List FactValue) (is : I
   fields_in_small agree id among fields are =
       let shown = fields_exist ids small id in
       let same : fields ≡ shown.0 = fields_once ids all id fields shown.0 agree are
-          (fields_in_all ids wanted all small is id among shown.0 shown.1) in
+      (fields_in_all ids wanted all small is id among shown.0 shown.1) in
       subst (AreFields ids small id) (sym same) shown.1
 
   -- ---- the array of a text

@@ -45,12 +45,12 @@ module _ (ids : IdSize) (facts : List FactValue) (id : ℕ) where
     array = λ fields other are of.
         let same = fields_once ids facts id fields text.fields agree are text.are_fields in
         let array_is : other ≡ array =
-            one_array facts text.fields other array (subst (λ (f : FieldsValue). IsValueArray facts f other) same of) text.is in
+        one_array facts text.fields other array (subst (λ (f : FieldsValue). IsValueArray facts f other) same of) text.is in
         inr (subst (λ (n : ℕ). IsTrue (is_among list n)) (sym array_is) (among_of_contains list array has_array));
     name = λ fields other are of.
         let same = fields_once ids facts id fields named.fields agree are named.are_fields in
         let name_is : other ≡ name =
-            one_name_object facts named.fields other name (subst (λ (f : FieldsValue). IsNameObject facts f other) same of) named.is in
+        one_name_object facts named.fields other name (subst (λ (f : FieldsValue). IsNameObject facts f other) same of) named.is in
         inr (subst (λ (n : ℕ). IsTrue (is_among list n)) (sym name_is) (among_of_contains list name has_name));
   }
 
@@ -76,7 +76,7 @@ module _ (ids : IdSize) (facts : List FactValue) (id : ℕ) where
   shown_found agree class object is_class is_object list has = λ fields dump fact are dump_is fact_is shown here.
       let class_is = class_once facts agree id dump (option_map class_value class) dump_is (class_is_found ids facts id class is_class) in
       let object_is = object_once facts agree id fact (option_map fact_of_object object) fact_is
-          (object_is_found ids facts id object is_object) in
+      (object_is_found ids facts id object is_object) in
       has fields are shown
       (subst (λ (o : Option FactValue). Contains (shown_ids id fields (option_map class_value class) o) shown) object_is
       (subst (λ (c : Option ClassValue). Contains (shown_ids id fields c fact) shown) class_is here))

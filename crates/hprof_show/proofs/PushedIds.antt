@@ -1,13 +1,11 @@
 -- Lists that go on with what is left to append.
 use Rattle.std.specs.Prelude.{take}
-use Rattle.std.proofs.Common.{◌≡◌, ◌==◌, ℕ, ◌+◌, ◌-◌, ◌<◌, ◌≤◌, zero, suc, false, List, [], ◌∷◌, ◌++◌, length, get_or, drop}
-use Rattle.std.proofs.Common.{refl, sym, ap, arith, ◌∙◌, add-one, append_assoc, append-nil, drop-cons}
+use Rattle.std.proofs.Common.{◌≡◌, ℕ, ◌+◌, ◌-◌, ◌<◌, ◌≤◌, List, [], ◌∷◌, ◌++◌, length, get_or, drop}
+use Rattle.std.proofs.Common.{refl, sym, ap, ◌∙◌, add-one, append_assoc, append-nil, drop-cons}
 use Rattle.std.specs.List.{filter}
-use Rattle.std.proofs.lemmas.Bool.{eqb-true, false_from_ne_true}
 use Rattle.std.proofs.lemmas.List.{drop_all}
-use Rattle.hprof_heap.specs.Classes.{ClassValue}
 use Rattle.hprof_layouts.specs.declared.field_value.FieldValue.{FieldValue}
-use Rattle.hprof_show.specs.Shown.{class_referents, constant_referents, field_referents, is_some_id, referent, static_referents}
+use Rattle.hprof_show.specs.Shown.{field_referents, is_some_id, referent}
 use Rattle.hprof_show.proofs.ToldFields.{no_field}
 
 -- one more is appended

@@ -21,10 +21,10 @@ use Rattle.hprof_describe.specs.Nodes.{node_text}
 use Rattle.hprof_describe.specs.Values.{value_text}
 use Rattle.hprof_show.specs.ClassLines.{class_text, constant_line, constants_text, equal_line, named_line, own_fields_text, referred_text}
 use Rattle.hprof_show.specs.ClassLines.{static_line, statics_text}
-use Rattle.hprof_show.specs.ElementLines.{Element, element_line, elements_text, more_line, nulls_line, present_from, present_text}
+use Rattle.hprof_show.specs.ElementLines.{Element, element_line, elements_text, more_line, nulls_line, present_from}
 use Rattle.hprof_show.specs.FieldLines.{field_line, fields_from, fields_text, from_line}
 use Rattle.hprof_show.specs.NumberLines.{numbers_text, values_text}
-use Rattle.hprof_show.specs.Shown.{class_referents, constant_referents, element_referents, field_referents, found_class_referents}
+use Rattle.hprof_show.specs.Shown.{class_referents, constant_referents, element_referents, field_referents}
 use Rattle.hprof_show.specs.Shown.{found_object_referents, is_some_id, referent, shown_ids, static_referents}
 use Rattle.hprof_show.specs.ShowText.{contents_text, found_text, object_line, object_text}
 use Rattle.hprof_show.proofs.Among.{all_back, all_front}
@@ -109,7 +109,7 @@ module _ (one : Findings) (object : ℕ → Option FactValue) (text : ℕ → Te
       let statics = all_back Same (constant_referents dump.constants) (static_referents dump.statics) values in
       let node : node_text one dump.id ≡ node_text other dump.id = node_same one object text thread_name dump.id own in
       let referred : referred_text one dump ≡ referred_text other dump =
-          referred_same dump all.0 all.1.0 all.1.1.0 all.1.1.1.0 in
+      referred_same dump all.0 all.1.0 all.1.1.0 all.1.1.1.0 in
       let constant : constants_text one dump ≡ constants_text other dump = constants_same dump constants in
       let fixed : statics_text one dump ≡ statics_text other dump = statics_same dump statics in
       let fields : own_fields_text one dump ≡ own_fields_text other dump = own_same dump in

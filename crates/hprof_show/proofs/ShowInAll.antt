@@ -2,9 +2,8 @@
 use Rattle.std.specs.Prelude.{IsTrue}
 use Rattle.std.proofs.Common.{◌≡◌, ℕ, List, Option, Some, None, refl, ap, arith, ◌∙◌}
 use Rattle.hprof_values.specs.declared.ids.IdSize.{IdSize}
-use Rattle.hprof_items.specs.FactValue.{FactValue, Instance, ObjArray, PrimArray}
+use Rattle.hprof_items.specs.FactValue.{FactValue, PrimArray}
 use Rattle.hprof_rows.specs.Conflict.{IsConsistent}
-use Rattle.hprof_rows.specs.Facts.{AllFit}
 use Rattle.hprof_heap.specs.Classes.{ClassValue}
 use Rattle.hprof_heap.specs.Found.{IsClassFound, IsObjectFound}
 use Rattle.hprof_histogram.specs.Chosen.{is_among}
@@ -86,7 +85,7 @@ module _ (ids : IdSize) (wanted : List ℕ) (all small : List FactValue) (id : �
         let object_is = object_in_all ids wanted all small is id object_there (one.object id) (are.objects id) in
         let fields_are = fields_in_all ids wanted all small is id object_there fields are_fields in
         let each = all_of (Agrees one other.object other.text other.thread_name) (shown_ids id fields (one.class id) (one.object id))
-            (λ node shown. same_of node (has fields (one.class id) (one.object id) fields_are class_is object_is node shown)) in
+        (λ node shown. same_of node (has fields (one.class id) (one.object id) fields_are class_is object_is node shown)) in
         found_same one other.object other.text other.thread_name id fields (one.class id) (one.object id)
         (found_of (one.class id) (one.object id) (are.classes id) (are.objects id)) each
         ∙ ap (λ (o : Option FactValue). found_text (with_others one other.object other.text other.thread_name) id fields (one.class id) o)

@@ -7,7 +7,7 @@ use Rattle.hprof_items.specs.FactValue.{FactValue, Load, Name}
 use Rattle.hprof_rows.specs.declared.table.Table.TheVariants as tables
 use Rattle.hprof_histogram.specs.Chosen.{is_among}
 use Rattle.hprof_layouts.specs.declared.field_value.FieldValue.{FieldValue}
-use Rattle.hprof_layouts.specs.Fields.{AreFields, FieldsValue}
+use Rattle.hprof_layouts.specs.Fields.{FieldsValue}
 use Rattle.hprof_naming.specs.Called.{IsCalled}
 use Rattle.hprof_naming.specs.Texts.{target_of_field}
 use Rattle.hprof_naming.proofs.OneText.{text_exists}
@@ -104,10 +104,10 @@ module _ (ids : IdSize) (wanted : List ℕ) (all small : List FactValue) (is : I
       let target = target_of_field of.field in
       let object : IsNameObject all of.fields target = (of.field, field, refl) in
       let there : (target ≡ 0) ⊎ (IsTrue (is_among wanted target) × HasValueArray ids all target wanted) =
-          elim (has.next.name of.fields target fields object) [
-            | inl zero ↦ inl zero
-            | inr among ↦ elim (has.name_array of.fields target fields object) [ inl zero ↦ inl zero | inr array ↦ inr (among, array) ]
-          ] in
+      elim (has.next.name of.fields target fields object) [
+        | inl zero ↦ inl zero
+        | inr among ↦ elim (has.name_array of.fields target fields object) [ inl zero ↦ inl zero | inr array ↦ inr (among, array) ]
+      ] in
       record {
         fields = of.fields;
         are_fields = fields;

@@ -4,7 +4,7 @@ use Rattle.std.specs.List.{filter}
 use Rattle.hprof_values.specs.declared.basic.Basic.{Basic}
 use Rattle.hprof_values.specs.declared.entry.Entry.{Entry}
 use Rattle.hprof_values.specs.Value.{constant_of, static_of}
-use Rattle.hprof_items.specs.FactValue.{FactValue, Instance, ObjArray, PrimArray}
+use Rattle.hprof_items.specs.FactValue.{FactValue, Instance, ObjArray}
 use Rattle.hprof_heap.specs.Classes.{ClassValue}
 use Rattle.hprof_layouts.specs.declared.field_value.FieldValue.{FieldValue}
 use Rattle.hprof_layouts.specs.Fields.{FieldsValue}

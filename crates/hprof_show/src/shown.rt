@@ -89,12 +89,7 @@ fn push_elements(ids: &mut Vec<u64>, elements: IdList<'_>) -> Result<(), AllocEr
 }
 
 /// Appends what the fields of an instance refer to.
-fn push_fields(
-    alloc: Global,
-    heap: &Heap,
-    id: u64,
-    ids: &mut Vec<u64>,
-) -> Result<(), AllocError>
+fn push_fields(alloc: Global, heap: &Heap, id: u64, ids: &mut Vec<u64>) -> Result<(), AllocError>
     ensures { (shown : FieldsValue) → AreFields (size_of heap.now) (facts_of heap.now) id shown
         → OnOk result (ids.new.items ≡ ids.old.items ++ field_referents (values_of shown)) }
 {

@@ -1,4 +1,4 @@
-use Rattle.std.proofs.Common.{◌≡◌, ◌++◌, ◌∙◌, ℕ, List, [], sym, ap, append-nil}
+use Rattle.std.proofs.Common.{◌≡◌, ◌++◌, ◌∙◌, List, [], sym, ap, append-nil}
 use Rattle.std.proofs.lemmas.Result.{on_ok_weaker}
 use Rattle.hprof_heap.specs.HeapFacts.{facts_of, size_of}
 use Rattle.hprof_layouts.specs.declared.field_value.FieldValue.{FieldValue}
@@ -14,9 +14,9 @@ returns-in-Values c = λ shown are.
     let found = c.in_ok-values.field-0 in
     let old = c.args.ids.now.items in
     let same = fields_once (size_of c.args.heap.now) (facts_of c.args.heap.now) c.args.id shown (fields_value found)
-        c.holds_of_heap.ensures.agree are c.in_ok-values.ensures in
+    c.holds_of_heap.ensures.agree are c.in_ok-values.ensures in
     let values : values_of shown ≡ c.in-Values.values.items =
-        ap values_of (same ∙ ap fields_value c.in-Values.is) in
+    ap values_of (same ∙ ap fields_value c.in-Values.is) in
     on_ok_weaker c.push_values.result
     (λ pushed. pushed ∙ ap (λ (l : List FieldValue). old ++ field_referents l) (c.deref.ensures.value ∙ sym values)) c.push_values.ensures
 
@@ -25,6 +25,6 @@ returns-in_default c = λ shown are.
     let found = c.in_ok-values.field-0 in
     let old = c.args.ids.now.items in
     let same = fields_once (size_of c.args.heap.now) (facts_of c.args.heap.now) c.args.id shown (fields_value found)
-        c.holds_of_heap.ensures.agree are c.in_ok-values.ensures in
+    c.holds_of_heap.ensures.agree are c.in_ok-values.ensures in
     let none : values_of shown ≡ [] = ap values_of same ∙ no_values found c.in_default.not-Values in
     sym (ap (λ (l : List FieldValue). old ++ field_referents l) none ∙ append-nil old)

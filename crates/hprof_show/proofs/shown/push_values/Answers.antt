@@ -1,4 +1,4 @@
-use Rattle.std.proofs.Common.{◌+◌, ◌++◌, get_or, drop, arith}
+use Rattle.std.proofs.Common.{◌+◌, ◌++◌, get_or, drop}
 use Rattle.hprof_show.specs.Shown.{field_referents, referent}
 use Rattle.hprof_show.proofs.PushedIds.{all_pushed, field_next, no_field_next, one_pushed}
 use Rattle.hprof_show.proofs.ToldFields.{no_field}
