@@ -1,7 +1,6 @@
 -- A thread has one name.
-use Rattle.std.specs.Prelude.{if◌then◌else◌, ◌==◌, IfOk}
-use Rattle.std.specs.Option.{option_map}
-use Rattle.std.proofs.Common.{◌≡◌, ℕ, Bool, true, false, List, [], Option, None, Result, Ok, Err, Vec, Global, refl, sym, ap, ◌∙◌, subst}
+use Rattle.std.specs.Prelude.{if◌then◌else◌, ◌==◌}
+use Rattle.std.proofs.Common.{◌≡◌, ℕ, Bool, true, false, List, [], Option, None, Vec, Global, refl, sym, ap, ◌∙◌, subst}
 use Rattle.hprof_values.specs.declared.ids.IdSize.{IdSize}
 use Rattle.hprof_items.specs.FactValue.{FactValue}
 use Rattle.hprof_rows.specs.Conflict.{IsConsistent}
@@ -15,7 +14,7 @@ use Rattle.hprof_naming.specs.declared.text.Text.TheVariants as handed
 use Rattle.hprof_naming.specs.declared.text.Units.{Units}
 use Rattle.hprof_naming.specs.Texts.{IsText, TextValue, target_of_field, text_value}
 use Rattle.hprof_naming.proofs.OneText.{text_exists, text_once}
-use Rattle.hprof_threads.specs.ThreadNames.{IsFirstHolding, IsNameObject, IsNameOf, IsThreadName, units_in, units_value, values_of}
+use Rattle.hprof_threads.specs.ThreadNames.{IsFirstHolding, IsNameObject, IsNameOf, IsThreadName, units_in, values_of}
 use Rattle.hprof_threads.proofs.FirstHolding.{first_exists, first_once}
 
 -- ---- the text of an identifier
@@ -64,7 +63,7 @@ pub no_name_object : (facts : List FactValue) (fields : FieldsValue) → values_
 no_name_object facts fields none = (None, subst (λ (l : List FieldValue). IsFirstHolding facts l None) (sym none) tt, refl)
 
 -- the text of the object that holds the name is the name
-name_of_object : (ids : IdSize) (facts : List FactValue) (object : ℕ) (fields : FieldsValue) → AreFields ids facts object fields
+pub name_of_object : (ids : IdSize) (facts : List FactValue) (object : ℕ) (fields : FieldsValue) → AreFields ids facts object fields
     → (holder : ℕ) → IsNameObject facts fields holder → (name : Option (List ℕ)) → IsNameOf ids facts holder name
     → IsThreadName ids facts object name
 name_of_object ids facts object fields are_fields holder of name is = record {
@@ -74,14 +73,6 @@ name_of_object ids facts object fields are_fields holder of name is = record {
   is_field = of.1;
   is = subst (λ (n : ℕ). IsNameOf ids facts n name) of.2 is;
 }
-
-pub name_of_units : {E : Type 0} (ids : IdSize) (facts : List FactValue) (object : ℕ) (fields : FieldsValue)
-    → AreFields ids facts object fields → (holder : ℕ) → IsNameObject facts fields holder → (units : Result (Option Units) E)
-    → IfOk units (λ name. IsNameOf ids facts holder (option_map units_value name))
-    → IfOk units (λ name. IsThreadName ids facts object (option_map units_value name))
-name_of_units ids facts object fields are_fields holder of (Ok units) is =
-    name_of_object ids facts object fields are_fields holder of (option_map units_value units) is
-name_of_units ids facts object fields are_fields holder of (Err fault) is = is
 
 -- ---- there is one
 
