@@ -76,6 +76,7 @@ kind_reads_again other = false
 abbrev pub node_reads_again : NodeReport → Bool
 node_reads_again nodes.Text = true
 node_reads_again nodes.Object = true
+node_reads_again nodes.Show = true
 node_reads_again other = false
 
 abbrev pub reads_again : ReportWord → Bool

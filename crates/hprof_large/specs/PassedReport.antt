@@ -16,3 +16,4 @@ report_of passed.Classes = reports.Heap heaps.Classes
 report_of (passed.Objects these) = reports.Kind kinds.Objects these
 report_of (passed.Object id) = reports.Node nodes.Object (that.Identifier id)
 report_of (passed.Text id) = reports.Node nodes.Text (that.Identifier id)
+report_of (passed.Show id) = reports.Node nodes.Show (that.Identifier id)

@@ -10,9 +10,9 @@ pub mod Finding
 pub mod SomeRoots
 pub mod Digits
 pub mod WholeDumps
-mod SmallFields
-mod SmallTexts
+pub mod SmallFields
+pub mod SmallTexts
 mod SmallReports
 mod ReportsOver
-mod FoundSo
-mod ValueArrays
+pub mod FoundSo
+pub mod ValueArrays

@@ -28,7 +28,7 @@ nothing_referred target text other zero =
 module _ (ids : IdSize) (wanted : List ℕ) (all small : List FactValue) (is : IsSmall ids wanted all small) where
   -- ---- names
 
-  name_kept : (name : ℕ) (word : List ℕ) → HasName all name word → HasName small name word
+  pub name_kept : (name : ℕ) (word : List ℕ) → HasName all name word → HasName small name word
   name_kept name word has = (has_same ids all small is.whole tables.Names (λ e. cc) (Name name word) refl).1 has
 
   none_named : (word : List ℕ) (values : List FieldValue) → AllByRecursion (λ other. ¬ (HasName small other.name word)) values

@@ -23,7 +23,7 @@ use Rattle.hprof_reports.proofs.SmallTexts.{value_array_in_all}
 
 -- ---- there is one
 
-one_array : (facts : List FactValue) (fields : FieldsValue) (one other : ℕ) → IsValueArray facts fields one
+pub one_array : (facts : List FactValue) (fields : FieldsValue) (one other : ℕ) → IsValueArray facts fields one
     → IsValueArray facts fields other → one ≡ other
 one_array facts (Values values) one other is too =
     is.2 ∙ ap target_of_field (first_once facts (codes "value") values is.0 too.0 is.1 too.1) ∙ sym too.2

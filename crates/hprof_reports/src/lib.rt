@@ -32,5 +32,6 @@ pub use object_over::write_object_over;
 pub use path::{distance_line, write_path};
 pub use place_names::place_name;
 pub use refs::{via_word, write_refs};
+pub use text_objects::value_array;
 pub use text_over::write_text_over;
 pub use text_report::write_text;

@@ -16,7 +16,7 @@ use std::alloc::{AllocError, Global};
 
 /// Returns the identifier to which the first field `value` of an object refers, or 0 if it refers to nothing or there is none. If memory
 /// runs out, the answer is `AllocError`.
-fn value_array(alloc: Global, heap: &Heap, id: u64) -> Result<u64, AllocError>
+pub fn value_array(alloc: Global, heap: &Heap, id: u64) -> Result<u64, AllocError>
     ensures { IfOk result (λ array. (shown : FieldsValue) × AreFields (size_of heap.now) (facts_of heap.now) id shown
         × IsValueArray (facts_of heap.now) shown array) }
 {

@@ -3,3 +3,6 @@ pub mod FieldLines
 pub mod ElementLines
 pub mod NumberLines
 pub mod ShowText
+pub mod Shown
+pub mod ShownObjects
+pub mod Few

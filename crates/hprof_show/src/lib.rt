@@ -6,9 +6,14 @@
 mod class_lines;
 mod element_lines;
 mod entries;
+mod few;
 mod field_lines;
 pub mod laws;
+mod needed;
 mod number_lines;
 mod show;
+mod show_over;
+mod shown;
 
 pub use show::write_show;
+pub use show_over::write_show_over;

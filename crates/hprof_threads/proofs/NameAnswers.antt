@@ -14,7 +14,7 @@ use Rattle.hprof_naming.specs.declared.text.Text.TheVariants as handed
 use Rattle.hprof_naming.specs.declared.text.Units.{Units}
 use Rattle.hprof_naming.specs.Texts.{IsText, TextValue, target_of_field, text_value}
 use Rattle.hprof_naming.proofs.OneText.{text_exists, text_once}
-use Rattle.hprof_threads.specs.ThreadNames.{IsFirstHolding, IsNameOf, IsThreadName, units_in, values_of}
+use Rattle.hprof_threads.specs.ThreadNames.{IsFirstHolding, IsNameObject, IsNameOf, IsThreadName, units_in, values_of}
 use Rattle.hprof_threads.proofs.FirstHolding.{first_exists, first_once}
 
 -- ---- the text of an identifier
@@ -58,17 +58,21 @@ no_values (given.WidthDiffers width) other = refl
 no_values given.NotAnInstance other = refl
 no_values given.NoObject other = refl
 
-module _ (ids : IdSize) (facts : List FactValue) (object : ℕ) (fields : FieldsValue)
-    (are_fields : AreFields ids facts object fields) where
-  -- none without values
-  pub name_of_no_values : values_of fields ≡ [] → IsThreadName ids facts object None
-  name_of_no_values none = record {
-    fields = fields;
-    are_fields = are_fields;
-    field = None;
-    is_field = subst (λ (l : List FieldValue). IsFirstHolding facts l None) (sym none) tt;
-    is = name_of_zero ids facts 0 refl;
-  }
+-- no values hold no name
+pub no_name_object : (facts : List FactValue) (fields : FieldsValue) → values_of fields ≡ [] → IsNameObject facts fields 0
+no_name_object facts fields none = (None, subst (λ (l : List FieldValue). IsFirstHolding facts l None) (sym none) tt, refl)
+
+-- the text of the object that holds the name is the name
+pub name_of_object : (ids : IdSize) (facts : List FactValue) (object : ℕ) (fields : FieldsValue) → AreFields ids facts object fields
+    → (holder : ℕ) → IsNameObject facts fields holder → (name : Option (List ℕ)) → IsNameOf ids facts holder name
+    → IsThreadName ids facts object name
+name_of_object ids facts object fields are_fields holder of name is = record {
+  fields = fields;
+  are_fields = are_fields;
+  field = of.0;
+  is_field = of.1;
+  is = subst (λ (n : ℕ). IsNameOf ids facts n name) of.2 is;
+}
 
 -- ---- there is one
 

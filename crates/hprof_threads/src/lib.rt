@@ -17,7 +17,7 @@ mod thread_stacks;
 pub use frame_lines::frame_line;
 pub use held::{Held, HeldObjects, Place};
 pub use serials::{thread_of_root, thread_serials};
-pub use thread_names::thread_name;
+pub use thread_names::{name_object, thread_name};
 pub use thread_objects::thread_object;
 pub use thread_root::ThreadRoot;
 pub use thread_roots::ThreadRoots;

@@ -4,8 +4,9 @@ ghost use Rattle.std.specs.Prelude.{◌≡◌, true, false, IfOk};
 ghost use Rattle.std.specs.Option.{option_map};
 ghost use Rattle.hprof_heap.specs.HeapFacts.{facts_of, size_of};
 ghost use Rattle.hprof_layouts.specs.declared.field_value.FieldValue.{FieldValue};
+ghost use Rattle.hprof_layouts.specs.Fields.{AreFields, FieldsValue};
 ghost use Rattle.hprof_naming.specs.ClassNames.{AreClassNames};
-ghost use Rattle.hprof_threads.specs.ThreadNames.{HoldsName, IsFirstHolding, IsNameOf, IsThreadName, units_value};
+ghost use Rattle.hprof_threads.specs.ThreadNames.{HoldsName, IsFirstHolding, IsNameObject, IsNameOf, IsThreadName, units_value};
 
 use hprof_heap::Heap;
 use hprof_layouts::{FieldValue, Fields, fields};
@@ -50,6 +51,27 @@ fn units_of_text<'a>(
     }
 }
 
+/// Returns the identifier to which the first field refers that holds the name of a thread, or 0 if none does or it refers to nothing.
+/// `classes` are the names of the heap's classes. If memory runs out, the answer is `AllocError`.
+pub fn name_object(
+    alloc: Global,
+    heap: &Heap,
+    classes: &ClassNames,
+    object: u64,
+) -> Result<u64, AllocError>
+    ensures { AreClassNames (facts_of heap.now) classes.now
+        → IfOk result (λ name. (shown : FieldsValue) × AreFields (size_of heap.now) (facts_of heap.now) object shown
+        × IsNameObject (facts_of heap.now) shown name) }
+{
+    match fields(alloc, heap, object)? {
+        Fields::Values(values) => {
+            let field = first_holding(heap, classes, &values);
+            Ok(target_of_field(field))
+        }
+        _ => Ok(0),
+    }
+}
+
 /// Returns the name of the thread with this object, or `None` if it has none. The units borrow from the heap. If memory runs out, the
 /// answer is `AllocError`.
 ///
@@ -66,11 +88,6 @@ pub fn thread_name<'a>(
     ensures { AreClassNames (facts_of heap.now) classes.now
         → IfOk result (λ name. IsThreadName (size_of heap.now) (facts_of heap.now) object (option_map units_value name)) }
 {
-    match fields(alloc, heap, object)? {
-        Fields::Values(values) => {
-            let field = first_holding(heap, classes, &values);
-            units_of_text(alloc, heap, target_of_field(field))
-        }
-        _ => Ok(None),
-    }
+    let name = name_object(alloc, heap, classes, object)?;
+    units_of_text(alloc, heap, name)
 }

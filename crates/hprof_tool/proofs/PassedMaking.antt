@@ -30,6 +30,7 @@ is_passed passed.Classes = tt
 is_passed (passed.Objects kind) = tt
 is_passed (passed.Object id) = tt
 is_passed (passed.Text id) = tt
+is_passed (passed.Show id) = tt
 
 -- the report is another one than those
 some_passed : (report : Report) → ((p : PassedReport) → report_of p ≢ report) → IsPassed report → ⊥
@@ -43,9 +44,11 @@ some_passed (reports.Kind kinds.Objects these) other is = other (passed.Objects 
 some_passed (reports.Kind kinds.Biggest these) other is = is
 some_passed (reports.Node nodes.Object (that.Identifier id)) other is = other (passed.Object id) refl
 some_passed (reports.Node nodes.Text (that.Identifier id)) other is = other (passed.Text id) refl
+some_passed (reports.Node nodes.Show (that.Identifier id)) other is = other (passed.Show id) refl
 some_passed (reports.Node node (that.Identifier id)) other is = is
 some_passed (reports.Node nodes.Object (that.Named name)) other is = is
 some_passed (reports.Node nodes.Text (that.Named name)) other is = is
+some_passed (reports.Node nodes.Show (that.Named name)) other is = is
 some_passed (reports.Node node (that.Named name)) other is = is
 
 never_true : false ≡ true → ⊥

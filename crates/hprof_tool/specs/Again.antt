@@ -39,6 +39,7 @@ IsPassed (reports.Heap heaps.Classes) = ⊤
 IsPassed (reports.Kind kinds.Objects these) = ⊤
 IsPassed (reports.Node nodes.Object (that.Identifier id)) = ⊤
 IsPassed (reports.Node nodes.Text (that.Identifier id)) = ⊤
+IsPassed (reports.Node nodes.Show (that.Identifier id)) = ⊤
 IsPassed other = ⊥
 
 -- what a report makes of parts; where objects may be read again, memory is taken for each, also for one that is known

@@ -150,9 +150,8 @@ fn node_reads_again(report: NodeReport) -> bool
     ensures { result ≡ node_reads_again report }
 {
     match report {
-        NodeReport::Text | NodeReport::Object => true,
-        NodeReport::Show
-        | NodeReport::Why
+        NodeReport::Show | NodeReport::Text | NodeReport::Object => true,
+        NodeReport::Why
         | NodeReport::Who
         | NodeReport::Keeps
         | NodeReport::Refs
