@@ -1,12 +1,16 @@
 -- Lists of numbers, one behind the other.
 use Rattle.std.specs.Prelude.{◌≡◌, ◌<◌, ◌≤◌, ℕ, length, slice_index}
 use Rattle.hprof_numbers.specs.Ends.{start_at}
-use Rattle.hprof_numbers.specs.Numbers.{items_in}
+use Rattle.hprof_numbers.specs.Numbers.{bound_of, items_in}
 use Rattle.hprof_numbers.specs.declared.lists.Lists.{Lists}
 
 -- how many lists there are
 abbrev pub count_in : Lists → ℕ
 count_in lists = length (items_in lists.ends)
+
+-- each number that can be listed is below it
+abbrev pub bound_in : Lists → ℕ
+bound_in lists = bound_of lists.items
 
 -- where the list of a number begins
 abbrev pub start_in : Lists → ℕ → ℕ
