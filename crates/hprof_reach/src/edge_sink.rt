@@ -94,8 +94,9 @@ impl<'a> EdgeSink<'a> {
             → HasSeen ids facts (objects_among facts) self.entry
             → AreKeptEdges ids facts (fields_of self.entry) (nodes_of self.entry) lists) }
     {
+        let count = self.nodes.len();
         let mut sink = self;
-        sink.end_lists(sink.nodes.len())?;
+        sink.end_lists(count)?;
         let EdgeSink { lists, .. } = sink;
         Ok(lists)
     }
