@@ -25,6 +25,10 @@ abbrev pub IsListed : Lists → ℕ → ℕ → Type 0
 IsListed lists number one =
     (place : ℕ) × (start_in lists number ≤ place) × (place < end_in lists number) × (slice_index (items_in lists.items) place ≡ one)
 
+-- all that is listed is below a bound
+abbrev pub AreListedBelow : Lists → ℕ → Type 0
+AreListedBelow lists bound = (number one : ℕ) → IsListed lists number one → one < bound
+
 -- all that is listed has a list
 abbrev pub LeadsWithin : Lists → Type 0
-LeadsWithin lists = (number one : ℕ) → IsListed lists number one → one < count_in lists
+LeadsWithin lists = AreListedBelow lists (count_in lists)

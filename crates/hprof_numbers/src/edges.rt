@@ -86,7 +86,8 @@ fn put_row(
     targets: &[u64],
 ) -> Result<(), AllocError>
     requires { length (nodes_in nodes.now) ≤ bound_of items.old }
-    ensures items { OnOk result (Appends (IsNumberOf (nodes_in nodes.now) None (Contains targets.now)) (items_in items.old) (items_in items.new)) }
+    ensures items { OnOk result
+        (Appends (IsNumberOf (nodes_in nodes.now) None (Contains targets.now)) (items_in items.old) (items_in items.new)) }
     ensures ends { OnOk result (items_in ends.new ≡ items_in ends.old ++ length (items_in items.new) ∷ []) }
     ensures bound { OnOk result (bound_of items.new ≡ bound_of items.old) }
 {
@@ -96,7 +97,7 @@ fn put_row(
 }
 
 impl Lists {
-    ghost use Rattle.hprof_numbers.specs.Lists.{bound_in};
+    ghost use Rattle.hprof_numbers.specs.Lists.{AreListedBelow, bound_in};
 
     /// Appends one more list: the numbers of those targets that are nodes. If memory runs out, the answer is `AllocError`, and no lists are
     /// left.
@@ -113,6 +114,8 @@ impl Lists {
         ensures last { OnOk result ((one : ℕ) → IsListed self.new (count_in self.old) one
             ↔ ((one < length (nodes_in nodes.now)) × Contains targets.now (slice_index (nodes_in nodes.now) one))) }
         ensures bound { length (nodes_in nodes.now) ≤ bound_in self.new }
+        ensures few { count_in self.new ≤ count_in self.old + 1 }
+        ensures below { AreListedBelow self.old (length (nodes_in nodes.now)) → AreListedBelow self.new (length (nodes_in nodes.now)) }
     {
         match put_row(alloc, &mut self.ends, &mut self.items, nodes, targets) {
             Ok(()) => Ok(()),

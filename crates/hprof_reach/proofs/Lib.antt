@@ -12,3 +12,5 @@ pub mod Froms
 pub mod MadeLists
 pub mod ObjectEdges
 pub mod SeenObjects
+pub mod ClassEdges
+pub mod Wholes

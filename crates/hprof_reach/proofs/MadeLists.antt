@@ -19,7 +19,6 @@ module _ (nodes : List ℕ) (ByClass : ℕ → ℕ → Type 0) where
   pub none_made : (ByObjects : ℕ → ℕ → Type 0) (lists : Lists) (targets : List ℕ) → ((from to : ℕ) → ByObjects from to → ⊥)
       → count_in lists ≡ 0 → targets ≡ [] → AreMade nodes ByClass ByObjects lists targets
   none_made ByObjects lists targets nowhere zero none = record {
-    few = omega (arith, zero);
     ended = λ from to low. absurd (omega (arith, low, zero));
     next = λ more to. (
       λ has. absurd (none_in to (subst (λ (l : List ℕ). Contains l to) none has)),
@@ -29,14 +28,14 @@ module _ (nodes : List ℕ) (ByClass : ℕ → ℕ → Type 0) where
   }
 
   -- other objects lead there from the same nodes
-  pub same_made : (One Other : ℕ → ℕ → Type 0) (lists : Lists) (targets : List ℕ) → AreMade nodes ByClass One lists targets
+  pub same_made : (One Other : ℕ → ℕ → Type 0) (lists : Lists) (targets : List ℕ) → count_in lists ≤ length nodes
+      → AreMade nodes ByClass One lists targets
       → ((number to : ℕ) → number < length nodes → Other (node number) to ↔ One (node number) to)
       → AreMade nodes ByClass Other lists targets
-  same_made One Other lists targets made same = record {
-    few = made.few;
+  same_made One Other lists targets few made same = record {
     ended = λ from to low.
         let is = made.ended from to low in
-        let alike = same from (node to) (omega (arith, low, made.few)) in (
+        let alike = same from (node to) (omega (arith, low, few)) in (
           λ listed. let leads = is.0 listed in (leads.0, elim leads.1 [ inl class ↦ inl class | inr one ↦ inr (alike.1 one) ]),
           λ leads. is.1 (leads.0, elim leads.1 [ inl class ↦ inl class | inr other ↦ inr (alike.0 other) ]),
         );
@@ -70,7 +69,6 @@ module _ (nodes : List ℕ) (ByClass : ℕ → ℕ → Type 0) where
 
     pub list_made : AreMade nodes ByClass ByObjects new left
     list_made = record {
-      few = omega (arith, as_many, within);
       ended = λ from to low. elim (last from (count_in old) (omega (arith, low, as_many))) [
         | inl early ↦
             let same = before from to early in
@@ -99,7 +97,6 @@ module _ (nodes : List ℕ) (ByClass : ℕ → ℕ → Type 0) where
 
     pub object_made : AreMade nodes ByClass Other lists all
     object_made = record {
-      few = made.few;
       ended = λ from to low.
           let is = made.ended from to low in
           let less = less_far nodes ascend from (count_in lists) low within in

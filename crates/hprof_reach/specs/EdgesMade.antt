@@ -8,7 +8,7 @@ use Rattle.hprof_heap.specs.Objects.{IsObject}
 use Rattle.hprof_layouts.specs.Known.{Knows}
 use Rattle.hprof_edges.specs.LeftOut.{IsKept, fields_in}
 use Rattle.hprof_edges.specs.declared.field_place.FieldPlace.{FieldPlace}
-use Rattle.hprof_numbers.specs.Lists.{IsListed, LeadsWithin, count_in}
+use Rattle.hprof_numbers.specs.Lists.{IsListed, count_in}
 use Rattle.hprof_numbers.specs.Numbered.{nodes_in}
 use Rattle.hprof_numbers.specs.declared.lists.Lists.{Lists}
 use Rattle.hprof_reach.specs.EdgesSoFar.{AreMade, LeadsByClass, LeadsByObjects}
@@ -18,7 +18,7 @@ use Rattle.hprof_reach.specs.declared.edge_sink.EdgeSink.{EdgeSink}
 
 -- the nodes whose lists it makes
 abbrev pub nodes_of : EdgeSink → List ℕ
-nodes_of sink = nodes_in sink.nodes.now
+nodes_of sink = nodes_in sink.nodes
 
 -- the fields whose edges it leaves out
 abbrev pub fields_of : EdgeSink → List FieldPlace
@@ -48,8 +48,6 @@ pub record SeesNext (ids : IdSize) (object : FactValue) (old new : EdgeSink) : T
       → HasSeen ids facts (objects ++ object ∷ []) new × EndsBelow new (id + 1)
 
 -- the lists have the edges of these facts between nodes, without those by the fields
-pub record AreKeptEdges (ids : IdSize) (facts : List FactValue) (fields : List FieldPlace) (nodes : List ℕ) (lists : Lists) : Type 0 where
-  pub as_many : count_in lists ≡ length nodes
-  pub leads : LeadsWithin lists
-  pub exact : (from to : ℕ) → from < length nodes → to < length nodes
-      → IsListed lists from to ↔ LeadsBy (IsKept fields facts) ids facts (slice_index nodes from) (slice_index nodes to)
+abbrev pub AreKeptEdges : IdSize → List FactValue → List FieldPlace → List ℕ → Lists → Type 0
+AreKeptEdges ids facts fields nodes lists = (from to : ℕ) → from < length nodes → to < length nodes
+    → IsListed lists from to ↔ LeadsBy (IsKept fields facts) ids facts (slice_index nodes from) (slice_index nodes to)

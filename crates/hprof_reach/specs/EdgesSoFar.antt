@@ -1,5 +1,5 @@
 -- The edges of a heap by numbers, as far as its objects were given; no public contract speaks of it.
-use Rattle.std.specs.Prelude.{◌≡◌, ◌<◌, ◌≤◌, ◌↔◌, ◌⊎◌, ℕ, List, Contains, length, slice_index}
+use Rattle.std.specs.Prelude.{◌≡◌, ◌<◌, ◌↔◌, ◌⊎◌, ℕ, List, Contains, length, slice_index}
 use Rattle.hprof_values.specs.declared.ids.IdSize.{IdSize}
 use Rattle.hprof_items.specs.FactValue.{FactValue}
 use Rattle.hprof_rows.specs.Facts.{Has}
@@ -38,7 +38,6 @@ pub record LeadsByObjects (ids : IdSize) (facts : List FactValue) (fields : List
 
 -- the first nodes have their lists, the targets are what objects lead to from the next node, and they lead nowhere from those behind it
 pub record AreMade (nodes : List ℕ) (ByClass ByObjects : ℕ → ℕ → Type 0) (lists : Lists) (targets : List ℕ) : Type 0 where
-  pub few : count_in lists ≤ length nodes
   pub ended : (from to : ℕ) → from < count_in lists → IsListed lists from to
       ↔ ((to < length nodes) × (ByClass (slice_index nodes from) (slice_index nodes to)
       ⊎ ByObjects (slice_index nodes from) (slice_index nodes to)))

@@ -1,7 +1,7 @@
 //! The edges of a heap by numbers, which are made of its objects as they come.
 
 ghost use Rattle.std.specs.Prelude.{◌≤◌, length};
-ghost use Rattle.hprof_numbers.specs.Lists.{bound_in};
+ghost use Rattle.hprof_numbers.specs.Lists.{AreListedBelow, bound_in, count_in};
 ghost use Rattle.hprof_numbers.specs.Numbered.{nodes_in};
 
 use crate::heap_graph::{HeapGraph, graph_of};
@@ -20,9 +20,11 @@ pub(crate) struct EdgeSink<'a> {
     alloc: Global,
     /// The class dumps of the heap, and the targets of the edges that objects give from the first node without a list.
     graph: HeapGraph<'a>,
-    nodes: &'a Numbered,
+    nodes: Numbered,
     lists: Lists,
-    ghost room: { length (nodes_in nodes.now) ≤ bound_in lists },
+    ghost room: { length (nodes_in nodes) ≤ bound_in lists },
+    ghost few: { count_in lists ≤ length (nodes_in nodes) },
+    ghost below: { AreListedBelow lists (length (nodes_in nodes)) },
 }
 
 impl<'a> EdgeSink<'a> {
@@ -32,7 +34,7 @@ impl<'a> EdgeSink<'a> {
     ghost use Rattle.hprof_rows.specs.Order.{IsCanonicalOrder};
     ghost use Rattle.hprof_heap.specs.HeapFacts.{facts_of, size_of};
     ghost use Rattle.hprof_edges.specs.LeftOut.{fields_in};
-    ghost use Rattle.hprof_numbers.specs.Lists.{count_in};
+    ghost use Rattle.hprof_numbers.specs.Lists.{LeadsWithin};
     ghost use Rattle.hprof_passes.specs.Passing.{IsWhole, objects_among};
     ghost use Rattle.hprof_reach.specs.EdgesMade.{AreKeptEdges, HasSeen, StaysOver, fields_of, nodes_of};
 
@@ -41,9 +43,9 @@ impl<'a> EdgeSink<'a> {
         alloc: Global,
         heap: &'a Heap,
         left_out: &'a LeftOut,
-        nodes: &'a Numbered,
+        nodes: Numbered,
     ) -> Result<Self, AllocError>
-        ensures nodes { IfOk result (λ sink. nodes_of sink ≡ nodes_in nodes.now) }
+        ensures nodes { IfOk result (λ sink. nodes_of sink ≡ nodes_in nodes) }
         ensures left_out { IfOk result (λ sink. fields_of sink ≡ fields_in left_out.now) }
         ensures none { IfOk result (λ sink. count_in sink.lists ≡ 0) }
         ensures seen { IfOk result (λ sink. (all : List FactValue) → IsWhole (size_of heap.now) (facts_of heap.now) all
@@ -59,17 +61,18 @@ impl<'a> EdgeSink<'a> {
         })
     }
 
-    /// Ends the list of the first node without one, which has this number. If memory runs out, the answer is `AllocError`.
-    fn end_list(&mut self, number: usize) -> Result<(), AllocError>
-        requires { number < length (nodes_of self.old) }
+    /// Ends the list of the first node without one. If memory runs out, the answer is `AllocError`.
+    fn end_list(&mut self) -> Result<(), AllocError>
+        requires { count_in self.old.lists < length (nodes_of self.old) }
         ensures stays { StaysOver self.old self.new }
         ensures as_many { OnOk result (count_in self.new.lists ≡ count_in self.old.lists + 1) }
         ensures seen { OnOk result ((ids : IdSize) (facts objects : List FactValue) → HasSeen ids facts objects self.old
-            → count_in self.old.lists ≡ number → HasSeen ids facts objects self.new) }
+            → HasSeen ids facts objects self.new) }
     {
-        self.graph.put_class_targets(self.nodes.node(number))?;
+        let node = self.nodes.node(self.lists.len());
+        self.graph.put_class_targets(node)?;
         self.lists
-            .push(self.alloc, self.nodes, &self.graph.targets.list)?;
+            .push(self.alloc, &self.nodes, &self.graph.targets.list)?;
         self.graph.targets.list.clear();
         Ok(())
     }
@@ -82,23 +85,25 @@ impl<'a> EdgeSink<'a> {
         ensures seen { OnOk result ((ids : IdSize) (facts objects : List FactValue) → HasSeen ids facts objects self.old
             → HasSeen ids facts objects self.new) }
     {
-        for number in self.lists.len()..count {
-            self.end_list(number)?;
+        while self.lists.len() < count {
+            self.end_list()?;
         }
         Ok(())
     }
 
-    /// Returns the lists of all nodes, after the last object. If memory runs out, the answer is `AllocError`.
-    pub(crate) fn finish(self) -> Result<Lists, AllocError>
-        ensures { IfOk result (λ lists. (ids : IdSize) (facts : List FactValue) → IsCanonicalOrder facts
-            → HasSeen ids facts (objects_among facts) self.entry
-            → AreKeptEdges ids facts (fields_of self.entry) (nodes_of self.entry) lists) }
+    /// Returns the nodes with the lists of all of them, after the last object. If memory runs out, the answer is `AllocError`.
+    pub(crate) fn finish(self) -> Result<(Numbered, Lists), AllocError>
+        ensures as_many { IfOk result (λ made. count_in made.1 ≡ length (nodes_in made.0)) }
+        ensures leads { IfOk result (λ made. LeadsWithin made.1) }
+        ensures nodes { IfOk result (λ made. nodes_in made.0 ≡ nodes_of self.entry) }
+        ensures exact { IfOk result (λ made. (ids : IdSize) (facts : List FactValue) → IsCanonicalOrder facts
+            → HasSeen ids facts (objects_among facts) self.entry → AreKeptEdges ids facts (fields_of self.entry) (nodes_in made.0) made.1) }
     {
         let count = self.nodes.len();
         let mut sink = self;
         sink.end_lists(count)?;
-        let EdgeSink { lists, .. } = sink;
-        Ok(lists)
+        let EdgeSink { nodes, lists, .. } = sink;
+        Ok((nodes, lists))
     }
 }
 

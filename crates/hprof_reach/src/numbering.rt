@@ -3,11 +3,12 @@
 ghost use Rattle.std.specs.Prelude.{◌≡◌, ◌↔◌, ℕ, ◌<◌, Contains, IfOk, length, slice_index};
 ghost use Rattle.hprof_edges.specs.LeftOut.{IsKept, fields_in};
 ghost use Rattle.hprof_heap.specs.HeapFacts.{facts_of, size_of};
+ghost use Rattle.hprof_numbers.specs.Lists.{LeadsWithin, count_in};
 ghost use Rattle.hprof_numbers.specs.Numbered.{nodes_in};
 ghost use Rattle.hprof_numbers.specs.Numbers.{items_in};
 ghost use Rattle.hprof_passes.specs.Finding.{Finds};
 ghost use Rattle.hprof_reach.specs.EdgesMade.{AreKeptEdges};
-ghost use Rattle.hprof_reach.specs.NumberedGraph.{IsGraphBy};
+ghost use Rattle.hprof_reach.specs.NumberedGraph.{IsGraphBy, IsNumbered};
 ghost use Rattle.hprof_reach.specs.Reaching.{IsNode, IsRooted};
 
 use crate::edge_sink::EdgeSink;
@@ -41,18 +42,21 @@ fn numbered_over<O: Objects>(
     }
 }
 
-/// Returns the edges between nodes that objects make up with a heap, by numbers, without the edges by the fields in `left_out`.
+/// Returns nodes with the edges between them that objects make up with a heap, by numbers, without the edges by the fields in `left_out`.
 fn edges_over<O: Objects>(
     alloc: Global,
     heap: &Heap,
     objects: &O,
     left_out: &LeftOut,
-    nodes: &Numbered,
-) -> Result<Lists, PassStop<AllocError, O::Fault>>
-    ensures { Finds (O.make_up objects.now (size_of heap.now) (facts_of heap.now))
+    nodes: Numbered,
+) -> Result<(Numbered, Lists), PassStop<AllocError, O::Fault>>
+    ensures as_many { IfOk result (λ made. count_in made.1 ≡ length (nodes_in made.0)) }
+    ensures leads { IfOk result (λ made. LeadsWithin made.1) }
+    ensures exact { Finds (O.make_up objects.now (size_of heap.now) (facts_of heap.now))
         (O.agree objects.now (size_of heap.now) (facts_of heap.now))
         (O.tells objects.now (size_of heap.now) (facts_of heap.now))
-        (λ all. AreKeptEdges (size_of heap.now) all (fields_in left_out.now) (nodes_in nodes.now)) result }
+        (λ all made. (nodes_in made.0 ≡ nodes_in nodes)
+        × AreKeptEdges (size_of heap.now) all (fields_in left_out.now) (nodes_in made.0) made.1) result }
 {
     let mut sink = match EdgeSink::new(alloc, heap, left_out, nodes) {
         Ok(sink) => sink,
@@ -63,7 +67,7 @@ fn edges_over<O: Objects>(
         Err(stop) => return Err(stop),
     }
     match sink.finish() {
-        Ok(lists) => Ok(lists),
+        Ok(made) => Ok(made),
         Err(fault) => Err(PassStop::Sink(fault)),
     }
 }
@@ -92,17 +96,18 @@ pub fn graph_over<O: Objects>(
     objects: &O,
     left_out: &LeftOut,
 ) -> Result<NumberedGraph, PassStop<AllocError, O::Fault>>
-    ensures { Finds (O.make_up objects.now (size_of heap.now) (facts_of heap.now))
+    ensures numbered { IfOk result IsNumbered }
+    ensures graph { Finds (O.make_up objects.now (size_of heap.now) (facts_of heap.now))
         (O.agree objects.now (size_of heap.now) (facts_of heap.now))
         (O.tells objects.now (size_of heap.now) (facts_of heap.now))
         (λ all. IsGraphBy (IsKept (fields_in left_out.now) all) (size_of heap.now) all) result }
 {
-    let nodes = match numbered_over(alloc, heap, objects) {
-        Ok(nodes) => nodes,
+    let numbered = match numbered_over(alloc, heap, objects) {
+        Ok(numbered) => numbered,
         Err(stop) => return Err(stop),
     };
-    let edges = match edges_over(alloc, heap, objects, left_out, &nodes) {
-        Ok(edges) => edges,
+    let (nodes, edges) = match edges_over(alloc, heap, objects, left_out, numbered) {
+        Ok(made) => made,
         Err(stop) => return Err(stop),
     };
     let starts = match numbered_starts(alloc, heap, &nodes) {

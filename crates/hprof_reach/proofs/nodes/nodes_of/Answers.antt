@@ -1,9 +1,0 @@
-use Rattle.hprof_heap.specs.HeapFacts.{facts_of}
-use Rattle.hprof_reach.proofs.Reached.{all_nodes}
-use Rattle.hprof_reach.proofs.nodes.nodes_of.Goals as goal
-
-pub returns-clause-all : goal.returns-clause-all
-returns-clause-all c =
-    all_nodes (facts_of c.args.heap.now) c.in_ok-nodes.nodes.items c.push_classes.new.nodes.items c.push_objects.new.nodes.items
-    c.sort_once.new.nodes.items c.in_ok-nodes.ensures.items c.in_ok-push_classes.ensures c.in_ok-push_objects.ensures
-    c.in_ok-sort_once.ensures.same
