@@ -1,6 +1,6 @@
 -- The targets of the edges that the class dump of an identifier gives.
 use Rattle.std.specs.Prelude.{◌↔◌, Contains, map}
-use Rattle.std.proofs.Common.{◌≡◌, ◌⊎◌, ℕ, List, inl, inr}
+use Rattle.std.proofs.Common.{◌≡◌, ◌⊎◌, ℕ, List, subst, inl, inr}
 use Rattle.hprof_items.specs.FactValue.{FactValue}
 use Rattle.hprof_heap.specs.Classes.{ClassValue, HasDump, HasNoDump}
 use Rattle.hprof_edges.specs.declared.edge.Edge.{Edge}
@@ -59,3 +59,14 @@ module _ (facts others : List FactValue) (same : (dump : ClassValue) → HasDump
       to_is = leads.to_is;
     },
   )
+
+-- so they are put of the one as of the other
+pub put_by_class : (facts others : List FactValue) → ((dump : ClassValue) → HasDump facts dump ↔ HasDump others dump)
+    → (from node : ℕ) → from ≡ node → (old new : List ℕ)
+    → ((to : ℕ) → Contains new to ↔ (Contains old to ⊎ LeadsByClass others from to))
+    → (to : ℕ) → Contains new to ↔ (Contains old to ⊎ LeadsByClass facts node to)
+put_by_class facts others same from node is old new put to =
+    let alike = subst (λ (n : ℕ). LeadsByClass facts n to ↔ LeadsByClass others from to) is (same_by_class facts others same from to) in (
+      λ has. elim ((put to).0 has) [ inl was ↦ inl was | inr leads ↦ inr (alike.1 leads) ],
+      λ either. (put to).1 (elim either [ inl was ↦ inl was | inr leads ↦ inr (alike.0 leads) ]),
+    )
