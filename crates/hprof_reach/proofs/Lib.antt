@@ -14,3 +14,4 @@ pub mod ObjectEdges
 pub mod SeenObjects
 pub mod ClassEdges
 pub mod Wholes
+pub mod TakenObjects
