@@ -27,3 +27,10 @@ returns-clause-graph g c =
                 );
           },
     )
+
+pub returns-clause-numbered : goal.returns-clause-numbered
+returns-clause-numbered g c = record {
+  as_many = c.in-Ok-edges_over.ensures.as_many;
+  leads = c.in-Ok-edges_over.ensures.leads;
+  starts = λ number has. ((c.in-Ok-numbered_starts.ensures number).0 has).0;
+}
