@@ -1,5 +1,5 @@
 use Rattle.std.specs.Prelude.{◌↔◌, Contains, slice_index}
-use Rattle.std.proofs.Common.{◌≡◌, ◌⊎◌, ◌∙◌, ◌<◌, ℕ, List, Bor, length, sym, ap, subst, inl, inr, arith}
+use Rattle.std.proofs.Common.{◌≡◌, ◌∙◌, ◌<◌, ℕ, List, Bor, length, sym, ap, subst, arith}
 use Rattle.hprof_heap.specs.Classes.{ClassValue, HasDump}
 use Rattle.hprof_heap.specs.HeapFacts.{facts_of}
 use Rattle.hprof_heap.specs.declared.heap.Heap.{Heap}

@@ -1,4 +1,3 @@
-use Rattle.std.proofs.Common.{[], sym, ap, ◌∙◌}
 use Rattle.hprof_heap.specs.ClassDump.{class_value}
 use Rattle.hprof_heap.specs.HeapFacts.{facts_of}
 use Rattle.hprof_reach.specs.Graph.{targets_in}
