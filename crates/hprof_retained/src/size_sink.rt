@@ -80,9 +80,10 @@ impl ObjectSink for SizeSink {
             return Ok(());
         };
         let place = self.retained.tree.place_of(number);
-        if place != 0 {
-            self.retained.bytes[place] = bytes_of_dump(&dump, ids) as u128;
+        if place == 0 {
+            return Ok(());
         }
+        self.retained.bytes[place] = bytes_of_dump(&dump, ids) as u128;
         Ok(())
     }
 }

@@ -2,16 +2,17 @@
 
 ghost use Rattle.std.specs.Prelude.{◌≡◌};
 ghost use Rattle.hprof_heap.specs.HeapFacts.{facts_of, size_of};
-ghost use Rattle.hprof_heap.specs.ObjectDump.{fact_of_object};
+ghost use Rattle.hprof_heap.specs.ObjectDump.{ElementsHave, fact_of_object};
 ghost use Rattle.hprof_histogram.specs.Histogram.{size_of_object};
 ghost use Rattle.hprof_retained.specs.Retained.{IsSizeOf};
 
 use hprof_heap::{Finger, Heap, ObjectDump, find_object_near, id_size};
 use hprof_values::IdSize;
 
-/// Returns the bytes of the fields or the elements of an object.
+/// Returns the bytes of the fields or the elements of an object with identifiers of that size.
 #[inline(always)]
 pub(crate) fn bytes_of_dump(dump: &ObjectDump<'_>, ids: IdSize) -> u64
+    requires { ElementsHave ids dump.now }
     ensures { result ≡ size_of_object ids (fact_of_object dump.now) }
 {
     match *dump {
