@@ -1,6 +1,6 @@
 -- The weak fields of a whole are those of the facts without objects.
 use Rattle.std.specs.Prelude.{◌↔◌, codes}
-use Rattle.std.proofs.Common.{◌≡◌, ℕ, List, [], ◌∷◌, Option, Some, None, inl, inr, refl}
+use Rattle.std.proofs.Common.{ℕ, List, [], ◌∷◌, Option, Some, inl, inr, refl}
 use Rattle.hprof_values.specs.declared.ids.IdSize.{IdSize}
 use Rattle.hprof_items.specs.FactValue.{FactValue, Load, Name}
 use Rattle.hprof_rows.specs.declared.table.Table.TheVariants as tables
@@ -17,7 +17,7 @@ use Rattle.hprof_weak.specs.declared.links.Link.{Link}
 use Rattle.hprof_weak.specs.declared.weak_classes.WeakClasses.{WeakClasses}
 use Rattle.hprof_weak.specs.Links.{Leads, NoMore, NoReferent, OneMore, nexts_in}
 use Rattle.hprof_weak.specs.Weak.{IsCleared, IsClearing, IsReferent, IsWeakField}
-use Rattle.hprof_weak.specs.WeakClasses.{AreWeakClasses, IsFirstWeak, first_of}
+use Rattle.hprof_weak.specs.WeakClasses.{AreWeakClasses, IsFirstWeak}
 
 -- the one facts have the class dumps, the names and the called classes of the other
 module _ (facts more : List FactValue) (dumps : (dump : ClassValue) → HasDump facts dump → HasDump more dump)
