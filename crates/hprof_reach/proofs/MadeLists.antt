@@ -73,7 +73,8 @@ module _ (nodes : List ℕ) (ByClass : ℕ → ℕ → Type 0) where
         | inl early ↦
             let same = before from to early in
             let is = made.ended from to early in (λ listed. is.0 (same.0 listed), λ leads. same.1 (is.1 leads))
-        | inr is ↦ subst (λ (n : ℕ). IsListed new n to ↔ ((to < length nodes) × (ByClass (node n) (node to) ⊎ ByObjects (node n) (node to))))
+        | inr is ↦ subst (λ (n : ℕ). IsListed new n to
+            ↔ ((to < length nodes) × (ByClass (node n) (node to) ⊎ ByObjects (node n) (node to))))
             (sym is) (ended_now to)
       ];
       next = λ more to. (

@@ -92,7 +92,8 @@ objects_ascend facts ordered =
 -- ---- nodes
 
 module _ (ids : IdSize) where
-  pub nodes_given : (objects : List FactValue) (old new : NodeSink) → TakesObjects (λ one size object other. TakesNode one size object other)
+  pub nodes_given : (objects : List FactValue) (old new : NodeSink)
+      → TakesObjects (λ one size object other. TakesNode one size object other)
       ids old objects new
       → (node : ℕ) → Contains new.nodes.items node ↔ (Contains old.nodes.items node ⊎ IsGiven GivesObject objects node)
   nodes_given [] old new same node = (

@@ -36,7 +36,8 @@ module _ (ids : IdSize) (facts : List FactValue) (fields : List FieldPlace) (nod
   pub other_taken : count_in lists ≤ length nodes → ((number : ℕ) → number < length nodes → id ≡ slice_index nodes number → ⊥)
       → AreMade nodes (LeadsByClass facts) (LeadsByObjects ids facts fields More) lists targets
   other_taken few apart =
-      same_made nodes (LeadsByClass facts) (LeadsByObjects ids facts fields objects) (LeadsByObjects ids facts fields More) lists targets few
+      same_made nodes (LeadsByClass facts) (LeadsByObjects ids facts fields objects) (LeadsByObjects ids facts fields More) lists targets
+      few
       made
       (λ number to low. (
         λ leads. elim ((more (slice_index nodes number) to).0 leads) [ inl one ↦ one | inr now ↦ absurd (apart number low now.0) ],

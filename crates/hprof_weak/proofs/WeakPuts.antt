@@ -95,7 +95,7 @@ module _ (facts : List FactValue) (agree : IsConsistent facts) (class room : ℕ
         absurd (omega (arith, slots_are, short, le));
   }
 
--- ---- one instance
+-- ---- no class yet
 
 -- nothing was put yet
 pub put_of_none : (facts : List FactValue) (classes : WeakClasses) (fields : List FieldPlace) → fields ≡ []
@@ -111,7 +111,7 @@ abbrev pub class_in : FactValue → ℕ
 class_in (Instance object trace class bytes) = class
 class_in fact = 0
 
--- ---- all instances
+-- ---- all classes
 
 -- a field has one byte at least
 pub no_more_than_bytes : (ids : IdSize) (slots : List Slot) → length slots ≤ width_of_slots ids slots

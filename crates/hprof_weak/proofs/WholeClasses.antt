@@ -112,7 +112,8 @@ module _ (ids : IdSize) (facts all : List FactValue) (whole : IsWhole ids facts 
   pub classes_of_whole : (classes : WeakClasses) → AreWeakClasses facts classes → AreWeakClasses all classes
   classes_of_whole classes are = record {
     right = λ class first e.
-        first_still facts all (λ dump. (dumps_same dump).1) (λ name word. (names_same name word).1) (λ class word. (called_same class word).1)
+        first_still facts all (λ dump. (dumps_same dump).1) (λ name word. (names_same name word).1)
+        (λ class word. (called_same class word).1)
         (referent_stays all facts (λ dump. (dumps_same dump).0) (λ name word. (names_same name word).0)
         (λ class word. (called_same class word).0)) (nexts_in classes.links) class first (are.right class first e);
     all = λ field weak.

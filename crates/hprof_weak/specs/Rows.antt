@@ -48,7 +48,8 @@ pub record PutsRow (facts : List FactValue) (object : FactValue) (old new : RowS
   pub done : IsDoneWith facts new.fields.items object
 
 abbrev pub TakesRow : RowSink → FactValue → RowSink → Type 0
-TakesRow old object new = (facts : List FactValue) → IsConsistent facts → ArePut facts old.left old.fields.items → PutsRow facts object old new
+TakesRow old object new = (facts : List FactValue) → IsConsistent facts → ArePut facts old.left old.fields.items
+    → PutsRow facts object old new
 
 -- the fields are weak, and all that are fields of instances with values are there
 pub record AreWeakRows (ids : IdSize) (facts : List FactValue) (fields : List FieldPlace) : Type 0 where

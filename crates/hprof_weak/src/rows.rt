@@ -73,8 +73,8 @@ const FIELDS_OF_CLASS: u64 = 2;
 /// The number of weak fields for which there is room, however few classes have some.
 const LEAST_ROOM: u64 = 4096;
 
-/// Returns the weak fields of the classes of instances. If there are many, some of a class without instances may be missing: a pass over the
-/// objects then bounds them.
+/// Returns the weak fields of the classes of instances. If there are many, some of a class without instances may be missing: a pass over
+/// the objects then bounds them.
 ///
 /// # Errors
 ///

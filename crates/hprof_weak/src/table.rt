@@ -59,8 +59,8 @@ pub fn weak_fields_over<O: Objects>(
     }
 }
 
-/// Returns the weak fields of the classes of a heap with its objects in memory, as [`weak_fields_over`] does. If memory runs out, the answer
-/// is `AllocError`.
+/// Returns the weak fields of the classes of a heap with its objects in memory, as [`weak_fields_over`] does. If memory runs out, the
+/// answer is `AllocError`.
 pub fn weak_fields(alloc: Global, heap: &Heap) -> Result<LeftOut, AllocError>
     ensures { IfOk result (λ left_out. (edge : Edge) → IsEdge (size_of heap.now) (facts_of heap.now) edge
         → IsLeftOut (fields_in left_out) (facts_of heap.now) edge ↔ IsWeak (facts_of heap.now) edge) }

@@ -35,8 +35,9 @@ returns-clause-seen c = λ ids facts objects seen.
     let nodes = nodes_in old.nodes in
     let graph = c.put_class_targets.new.self in
     let push = c.in_ok-push.ensures in
-    let is_node : c.node-node.result ≡ slice_index nodes (count_in old.lists) = c.node-node.ensures ∙ ap (slice_index nodes) c.len.ensures in
-    let put = put_by_class facts (facts_of old.graph.heap.now) seen.dumps c.node-node.result (slice_index nodes (count_in old.lists)) is_node
+    let node = slice_index nodes (count_in old.lists) in
+    let is_node : c.node-node.result ≡ node = c.node-node.ensures ∙ ap (slice_index nodes) c.len.ensures in
+    let put = put_by_class facts (facts_of old.graph.heap.now) seen.dumps c.node-node.result node is_node
     (targets_in old.graph) (targets_in graph) (c.in_ok-put_class_targets.ensures.put seen.tells) in
     let tells = c.put_class_targets.ensures.tells seen.tells in
     record {

@@ -1,5 +1,6 @@
 use Rattle.std.specs.Prelude.{◌↔◌, Contains, slice_index}
-use Rattle.std.proofs.Common.{◌≡◌, ◌⊎◌, ◌∙◌, ◌<◌, ◌≤◌, ◌∷◌, ◌++◌, [], ℕ, List, Bor, Some, None, length, refl, sym, ap, subst, inl, inr, arith}
+use Rattle.std.proofs.Common.{◌≡◌, ◌⊎◌, ◌∙◌, ◌<◌, ◌≤◌, ◌∷◌, ◌++◌, [], ℕ, List, Bor, Some, None, length}
+use Rattle.std.proofs.Common.{refl, sym, ap, subst, inl, inr, arith}
 use Rattle.hprof_items.specs.FactValue.{FactValue, value_of}
 use Rattle.hprof_heap.specs.Classes.{ClassValue, HasDump}
 use Rattle.hprof_heap.specs.HeapFacts.{facts_of}
@@ -36,7 +37,8 @@ returns-in_default-number_of-clause-takes c =
           dumps = seen.dumps;
           knows = seen.knows;
           tells = seen.tells;
-          made = other_taken c.args.ids facts (fields_of sink) nodes objects object id is sink.lists (targets_in sink.graph) seen.made sink.few
+          made = other_taken c.args.ids facts (fields_of sink) nodes objects object id is sink.lists (targets_in sink.graph) seen.made
+              sink.few
               (λ number low same.
               let found = has_place nodes (slice_index nodes number) sink.nodes.ascend number low refl in
               let there = ap (number_in nodes) (same_object object c.id_of.result id object_is is ∙ same) in

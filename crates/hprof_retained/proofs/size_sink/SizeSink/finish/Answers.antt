@@ -19,7 +19,8 @@ returns c = λ ids facts graph is over sized.
     let tree = retained.tree in
     let sizes = retained.bytes in
     tree_of ids facts graph.edges graph.starts _
-    (subst (λ (nodes : Numbered). IsGraphBy (IsStrong facts) ids facts (record { nodes = nodes; edges = graph.edges; starts = graph.starts }))
+    (subst (λ (nodes : Numbered). IsGraphBy (IsStrong facts) ids facts
+    (record { nodes = nodes; edges = graph.edges; starts = graph.starts }))
     (sym over.nodes) is)
     over.tree_is sizes.items (sym sizes.ok.0 ∙ retained.sized) c.args.self.top
     (λ place some below.

@@ -9,5 +9,6 @@ returns-in_ok-put_weak-clause-takes c = λ facts agree put.
     record {
       put = puts.put;
       keeps = puts.keeps;
-      done = subst (λ (fact : FactValue). IsDoneWith facts c.put_weak.new.fields.items fact) (sym (ap value_of c.in-Instance.is)) puts.within;
+      done = subst (λ (fact : FactValue). IsDoneWith facts c.put_weak.new.fields.items fact) (sym (ap value_of c.in-Instance.is))
+          puts.within;
     }
