@@ -14,7 +14,7 @@ use hprof_reports::value_array;
 use hprof_threads::name_object;
 use std::alloc::{AllocError, Global};
 
-/// Appends an object, what its first field `value` refers to, and the name of the thread that it is the object of, or 0 where there is none.
+/// Appends an object, what its first field `value` refers to, and the name of the thread that it is the object of: 0 where there is none.
 fn push_next(
     alloc: Global,
     heap: &Heap,
