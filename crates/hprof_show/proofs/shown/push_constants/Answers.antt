@@ -12,7 +12,7 @@ pub loop-constant-init : goal.loop-constant-init
 loop-constant-init c =
     let there : entries_left c.into_iter-constant-iterator.result ≡ entries_of c.args.constants =
     ap (λ (it : EntryIterator _ _). entries_left it) c.into_iter-constant-iterator.ensures.into_iter_gives
-        ∙ c.iter-constant-items.ensures.all in
+    ∙ c.iter-constant-items.ensures.all in
     ap (λ (left : List Entry). c.args.ids.now.items ++ constant_referents left) there
 
 pub loop-constant-preserved : goal.loop-constant-preserved

@@ -12,7 +12,7 @@ pub loop-field-init : goal.loop-field-init
 loop-field-init c =
     let there : entries_left c.into_iter-field-iterator.result ≡ entries_of c.args.statics =
     ap (λ (it : EntryIterator _ _). entries_left it) c.into_iter-field-iterator.ensures.into_iter_gives
-        ∙ c.iter-field-items.ensures.all in
+    ∙ c.iter-field-items.ensures.all in
     ap (λ (left : List Entry). c.args.ids.now.items ++ static_referents left) there
 
 pub loop-field-preserved : goal.loop-field-preserved
