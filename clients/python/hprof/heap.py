@@ -144,9 +144,15 @@ def open(*parts: FileName, program: Optional[FileName] = None) -> Heap:
     return Heap(*parts, program=program)
 
 
-def diff(old: FileName, new: FileName, program: Optional[FileName] = None) -> Tuple[Growth, ...]:
-    """What grew from one dump to another, the most bytes first. In a refusal `old` is part 0, and `new` is part 1."""
-    running = Running(program, ["diff"], [old, new], stdin=subprocess.DEVNULL, stdout=subprocess.PIPE)
+def diff(
+    old: FileName, new: FileName, program: Optional[FileName] = None, memory: Optional[str] = None
+) -> Tuple[Growth, ...]:
+    """What grew from one dump to another, the most bytes first, and then what shrank. In a refusal `old` is part 0, and `new` is part 1.
+
+    `memory` is the memory that objects may take, as "512M"; without it the program takes a quarter of what is available.
+    """
+    words = ["diff"] if memory is None else ["diff", f"--memory={memory}"]
+    running = Running(program, words, [old, new], stdin=subprocess.DEVNULL, stdout=subprocess.PIPE)
     pipe = running.process.stdout
     assert pipe is not None
     try:

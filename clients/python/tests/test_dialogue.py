@@ -141,6 +141,12 @@ talk(answer)"""
         with script("print('Hello! Ask me.', end='\\n\\n')") as path, self.assertRaises(hprof.UnexpectedAnswer):
             hprof.open("dump", program=path)
 
+    def test_the_memory_of_diff(self):
+        with script("print('+1 +1', sys.argv[2])") as path:
+            (row,) = hprof.diff("old", "new", program=path, memory="512M")
+            self.assertEqual(row.label, "--memory=512M")
+            self.assertEqual(hprof.diff("old", "new", program=path)[0].label, "old")
+
     def test_much_on_standard_error(self):
         with script("sys.stderr.write('x' * 10000000)\nsys.exit(5)") as path, self.assertRaises(hprof.ProgramEnded) as caught:
             hprof.open("dump", program=path)
