@@ -154,6 +154,13 @@ impl BytesTable {
         self.rows.len()
     }
 
+    /// Returns whether there is no row.
+    pub fn is_empty(&self) -> bool
+        ensures { IsTrue result ↔ (byte_rows self.now ≡ []) }
+    {
+        self.len() == 0
+    }
+
     /// Returns whether both tables have the same rows.
     pub fn same(&self, other: &Self) -> bool
         ensures { IsTrue result ↔ (byte_rows self.now ≡ byte_rows other.now) }

@@ -64,8 +64,10 @@ fn kept_field_edges<C: Collect>(
     Ok(())
 }
 
-/// Puts the edges of an object dump, as [`object_edges`] does, without those by left-out fields.
-pub(crate) fn kept_object_edges<C: Collect>(
+/// Puts the edges of an object dump into `into`, as [`object_edges`] does, without those by the fields in `left_out`.
+///
+/// `references` is scratch space. If memory runs out, the answer is `AllocError` and `into` is unspecified.
+pub fn kept_object_edges<C: Collect>(
     known: &KnownLayouts,
     dump: &ObjectDump<'_>,
     ids: IdSize,

@@ -113,6 +113,21 @@ module _ (nodes : List ℕ) (other : Option ℕ) (targets : List ℕ) where
         ])
         appends
 
+-- the numbers of targets are below the number of nodes
+pub below_more : (nodes ends items then targets : List ℕ) → AreRows ends items
+    → Appends (IsNumberOf nodes None (Contains targets)) items then
+    → ((number one : ℕ) → IsInRow ends items number one → one < length nodes)
+    → (number one : ℕ) → IsInRow (ends ++ length then ∷ []) then number one → one < length nodes
+below_more nodes ends items then targets rows appends below number one listed =
+    let low = row_low (ends ++ length then ∷ []) then number one listed in
+    elim (last number (length ends) (omega (arith, low, length-append ends (length then ∷ [])))) [
+      | inl before ↦ below number one ((row_before _ ends items then rows appends number one before).0 listed)
+      | inr is ↦
+          let of = (row_last _ ends items then rows appends one).0
+          (subst (λ (n : ℕ). IsInRow (ends ++ length then ∷ []) then n one) is listed) in
+          (only_nodes nodes of.0 one of.2).0
+    ]
+
 -- ---- the edges of a node
 
 -- the nodes with numbers below a bound have their lists

@@ -1,8 +1,8 @@
 //! The edges of a graph, as lists of numbers.
 
-ghost use Rattle.std.specs.Prelude.{◌≡◌, ◌↔◌, ◌<◌, ℕ, Contains, IfOk, OnOk, length, slice_index};
+ghost use Rattle.std.specs.Prelude.{◌≡◌, ◌↔◌, ◌<◌, ◌≤◌, ◌+◌, ◌++◌, ◌∷◌, [], ℕ, None, Contains, IfOk, OnOk, length, slice_index};
 ghost use Rattle.hprof_numbers.specs.Appends.{Appends};
-ghost use Rattle.hprof_numbers.specs.Lists.{IsListed, LeadsWithin, count_in};
+ghost use Rattle.hprof_numbers.specs.Lists.{IsListed, count_in};
 ghost use Rattle.hprof_numbers.specs.Numbered.{nodes_in};
 ghost use Rattle.hprof_numbers.specs.Numbers.{bound_of, items_in};
 ghost use Rattle.hprof_numbers.specs.Targets.{AreNumberedEdges, IsNumberOf, number_or};
@@ -75,20 +75,55 @@ pub(crate) fn numbered_edges<G: Graph>(
     Ok(Lists { ends, items })
 }
 
-/// Returns for each node of a graph, by its number, the numbers of the nodes that it leads to, in one pass over all edges. Targets that are
-/// no nodes are left out. If memory runs out, the answer is `AllocError`.
-pub fn edges_of<G: Graph>(
+/// Appends the numbers of those targets that are nodes, and where they end. If memory runs out, the answer is `AllocError`, and `ends` and
+/// `items` are unspecified.
+#[inline(always)]
+fn put_row(
     alloc: Global,
-    graph: &mut G,
+    ends: &mut Numbers,
+    items: &mut Numbers,
     nodes: &Numbered,
-) -> Result<Lists, AllocError>
-    requires { G.stands graph.old }
-    ensures as_many { IfOk result (λ lists. count_in lists ≡ length (nodes_in nodes.now)) }
-    ensures leads { IfOk result LeadsWithin }
-    ensures exact { IfOk result (λ lists. (from to : ℕ) → from < length (nodes_in nodes.now) → to < length (nodes_in nodes.now)
-        → IsListed lists from to ↔ G.leads graph.old (slice_index (nodes_in nodes.now) from) (slice_index (nodes_in nodes.now) to)) }
-    ensures stays { (node to : ℕ) → G.leads graph.new node to ↔ G.leads graph.old node to }
-    ensures stands { G.stands graph.new }
+    targets: &[u64],
+) -> Result<(), AllocError>
+    requires { length (nodes_in nodes.now) ≤ bound_of items.old }
+    ensures items { OnOk result
+        (Appends (IsNumberOf (nodes_in nodes.now) None (Contains targets.now)) (items_in items.old) (items_in items.new)) }
+    ensures ends { OnOk result (items_in ends.new ≡ items_in ends.old ++ length (items_in items.new) ∷ []) }
+    ensures bound { OnOk result (bound_of items.new ≡ bound_of items.old) }
 {
-    numbered_edges(alloc, graph, nodes, None, nodes.len())
+    put_targets(items, nodes, None, targets)?;
+    ends.push_or_widen(alloc, items.len())?;
+    Ok(())
+}
+
+impl Lists {
+    ghost use Rattle.hprof_numbers.specs.Lists.{AreListedBelow, bound_in};
+
+    /// Appends one more list: the numbers of those targets that are nodes. If memory runs out, the answer is `AllocError`, and no lists are
+    /// left.
+    pub fn push(
+        &mut self,
+        alloc: Global,
+        nodes: &Numbered,
+        targets: &[u64],
+    ) -> Result<(), AllocError>
+        requires { length (nodes_in nodes.now) ≤ bound_in self.old }
+        ensures as_many { OnOk result (count_in self.new ≡ count_in self.old + 1) }
+        ensures before { OnOk result ((number one : ℕ) → number < count_in self.old
+            → IsListed self.new number one ↔ IsListed self.old number one) }
+        ensures last { OnOk result ((one : ℕ) → IsListed self.new (count_in self.old) one
+            ↔ ((one < length (nodes_in nodes.now)) × Contains targets.now (slice_index (nodes_in nodes.now) one))) }
+        ensures bound { length (nodes_in nodes.now) ≤ bound_in self.new }
+        ensures few { count_in self.new ≤ count_in self.old + 1 }
+        ensures below { AreListedBelow self.old (length (nodes_in nodes.now)) → AreListedBelow self.new (length (nodes_in nodes.now)) }
+    {
+        match put_row(alloc, &mut self.ends, &mut self.items, nodes, targets) {
+            Ok(()) => Ok(()),
+            Err(fault) => {
+                self.ends = Numbers::empty(alloc, 0);
+                self.items = Numbers::empty(alloc, nodes.len());
+                Err(fault)
+            }
+        }
+    }
 }

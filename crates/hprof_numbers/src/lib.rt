@@ -20,7 +20,7 @@ mod turning;
 
 pub use building::sources_of;
 pub use depth::DepthFirst;
-pub use edges::{edges_of, numbers_of};
+pub use edges::numbers_of;
 pub use graph::Graph;
 pub use lists::Lists;
 pub use numbered::{Numbered, find};

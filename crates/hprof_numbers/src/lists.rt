@@ -20,7 +20,17 @@ pub struct Lists {
 }
 
 impl Lists {
-    ghost use Rattle.hprof_numbers.specs.Lists.{IsListed, count_in, end_in, start_in};
+    ghost use Rattle.hprof_numbers.specs.Lists.{IsListed, bound_in, count_in, end_in, start_in};
+
+    /// Returns no lists, with room for `most` lists of numbers below `most`. If memory runs out, the answer is `AllocError`.
+    pub fn with_room(alloc: Global, most: usize) -> Result<Lists, AllocError>
+        ensures none { IfOk result (λ lists. count_in lists ≡ 0) }
+        ensures bound { IfOk result (λ lists. most ≤ bound_in lists) }
+    {
+        let ends = Numbers::with_capacity(alloc, most, 0)?;
+        let items = Numbers::empty(alloc, most);
+        Ok(Lists { ends, items })
+    }
 
     /// Returns the lists with one more, empty one. If memory runs out, the answer is `AllocError`.
     pub(crate) fn with_empty_list(self, alloc: Global) -> Result<Lists, AllocError>

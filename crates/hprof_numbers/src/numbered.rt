@@ -1,6 +1,6 @@
 //! Nodes and their numbers. The number of a node is its place among all nodes.
 
-ghost use Rattle.std.specs.Prelude.{◌≡◌, ◌<◌, ◌≤◌, ◌↔◌, Contains, IfOk, IsTrue, length, slice_index};
+ghost use Rattle.std.specs.Prelude.{◌≡◌, ◌<◌, ◌≤◌, ◌↔◌, [], Contains, IfOk, IsTrue, length, slice_index};
 ghost use Rattle.std.specs.List.Sorted.{IsStrictlyIncreasing};
 ghost use Rattle.hprof_numbers.specs.Places.{IsMissingAt, number_in};
 
@@ -64,6 +64,13 @@ impl Numbered {
         ensures { result ≡ length (nodes_in self.now) }
     {
         self.nodes.len()
+    }
+
+    /// Returns whether there is no node.
+    pub fn is_empty(&self) -> bool
+        ensures { IsTrue result ↔ (nodes_in self.now ≡ []) }
+    {
+        self.len() == 0
     }
 
     /// Returns the node with this number.

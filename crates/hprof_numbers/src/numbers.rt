@@ -1,6 +1,6 @@
 //! Lists of numbers, of four or eight bytes each.
 
-ghost use Rattle.std.specs.Prelude.{◌≡◌, ◌<◌, ◌≤◌, ◌++◌, ◌∷◌, [], IfOk, OnOk, length, replicate, slice_index, slice_set};
+ghost use Rattle.std.specs.Prelude.{◌≡◌, ◌<◌, ◌≤◌, ◌↔◌, ◌++◌, ◌∷◌, [], IfOk, IsTrue, OnOk, length, replicate, slice_index, slice_set};
 ghost use Rattle.hprof_numbers.specs.Numbers.{items_in, bound_of};
 
 use std::alloc::{AllocError, Global};
@@ -73,6 +73,13 @@ impl Numbers {
             Numbers::Narrow(items) => items.len(),
             Numbers::Wide(items) => items.len(),
         }
+    }
+
+    /// Returns whether there is no number.
+    pub fn is_empty(&self) -> bool
+        ensures { IsTrue result ↔ (items_in self.now ≡ []) }
+    {
+        self.len() == 0
     }
 
     /// Appends a number. If memory runs out, the answer is `AllocError` and the list is unspecified.

@@ -12,8 +12,8 @@ pub struct Keeping {
 }
 
 impl Keeping {
-    /// Returns what the program uses: at most 64 stretches of a part stay, each of a mebibyte or more, or of a quarter of the memory if that
-    /// is less, but not of less than four kibibytes. A stretch is in memory before it stays, and takes more there than its bytes.
+    /// Returns what the program uses: at most 64 stretches of a part stay, each of a mebibyte or more, or of a quarter of the memory if
+    /// that is less, but not of less than four kibibytes. A stretch is in memory before it stays, and takes more there than its bytes.
     pub fn usual(memory: u64) -> Keeping {
         Keeping {
             memory,

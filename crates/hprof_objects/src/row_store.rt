@@ -1,6 +1,6 @@
 //! Rows in memory, and behind them in scratch.
 
-ghost use Rattle.std.specs.Prelude.{◌≡◌, ◌<◌, ◌^◌, [], length, take, IfOk, OnOk, OnErr, IsSome};
+ghost use Rattle.std.specs.Prelude.{◌≡◌, ◌<◌, ◌^◌, ◌↔◌, [], length, take, IfOk, IsTrue, OnOk, OnErr, IsSome};
 ghost use Rattle.hprof_devices.specs.declared.health.Health.TheVariants.{Well};
 ghost use Rattle.hprof_runs.specs.ReadBack.{HoldsNothing};
 ghost use Rattle.hprof_runs.specs.Runs.{HoldsRuns};
@@ -44,6 +44,13 @@ impl<S: Scratch + Drop> RowStore<S> {
         ensures { result ≡ length (rows_of_store self.now) }
     {
         self.rows.len()
+    }
+
+    /// Returns whether there is no row in memory.
+    pub fn is_empty(&self) -> bool
+        ensures { IsTrue result ↔ (rows_of_store self.now ≡ []) }
+    {
+        self.len() == 0
     }
 
     /// Keeps the first `count` rows in memory, and drops the others there.

@@ -9,3 +9,9 @@ pub mod SomeReach
 pub mod RootLists
 pub mod Putting
 pub mod Froms
+pub mod MadeLists
+pub mod ObjectEdges
+pub mod SeenObjects
+pub mod ClassEdges
+pub mod Wholes
+pub mod TakenObjects

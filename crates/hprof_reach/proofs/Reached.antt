@@ -46,30 +46,6 @@ all_class_nodes facts none classes sorted nothing of_classes same id = (
   λ is. (same id).1 ((of_classes id).1 (inr is)),
 )
 
--- what was gathered of class dumps and of object dumps, and then sorted, are the nodes
-pub all_nodes : (facts : List FactValue) (none classes objects sorted : List ℕ) → none ≡ []
-    → ((id : ℕ) → Contains classes id ↔ (Contains none id ⊎ IsClassNode facts id))
-    → ((id : ℕ) → Contains objects id ↔ (Contains classes id ⊎ IsObjectNode facts id))
-    → ((id : ℕ) → Contains sorted id ↔ Contains objects id) → (id : ℕ) → Contains sorted id ↔ IsNode facts id
-all_nodes facts none classes objects sorted nothing of_classes of_objects same id = (there, back) where
-  first : Contains classes id → IsClassNode facts id
-  first has = elim ((of_classes id).0 has) [
-    | inl old ↦ absurd (none_in id (subst (λ (l : List ℕ). Contains l id) nothing old))
-    | inr is ↦ is
-  ]
-
-  there : Contains sorted id → IsNode facts id
-  there has = elim ((of_objects id).0 ((same id).0 has)) [
-    | inl old ↦ (either_dump facts id).1 (inl (first old))
-    | inr is ↦ (either_dump facts id).1 (inr is)
-  ]
-
-  back : IsNode facts id → Contains sorted id
-  back is = elim ((either_dump facts id).0 is) [
-    | inl class ↦ (same id).1 ((of_objects id).1 (inl ((of_classes id).1 (inr class))))
-    | inr object ↦ (same id).1 ((of_objects id).1 (inr object))
-  ]
-
 -- what was gathered of roots, from nothing on
 pub all_starts : (facts : List FactValue) (starts : List ℕ)
     → ((id : ℕ) → Contains starts id ↔ (Contains [] id ⊎ IsRooted facts id)) → (id : ℕ) → Contains starts id ↔ IsRooted facts id

@@ -19,7 +19,7 @@ use Rattle.hprof_heap.specs.Classes.{ClassValue, fact_of_class}
 use Rattle.hprof_heap.specs.Objects.{IsObject}
 use Rattle.hprof_heap.proofs.ClassFacts.{dump_in}
 use Rattle.hprof_layouts.proofs.Walks.{dump_in_table}
-use Rattle.hprof_reach.specs.Nodes.{IsClassNode, IsObjectNode}
+use Rattle.hprof_reach.specs.Nodes.{GivesObject, IsClassNode, IsObjectNode}
 use Rattle.hprof_reach.specs.Reaching.{IsRooted, root_id}
 
 -- ---- facts, one by one
@@ -140,10 +140,6 @@ class_nodes facts id = (
 
 -- ---- object dumps
 
--- the fact is a dump of the object, which is a node
-abbrev pub GivesObject : FactValue → ℕ → Type 0
-GivesObject fact id = (id ≢ 0) × IsObject id fact
-
 pub gives_object : (object : ℕ) (fact : FactValue) → IsObject object fact → (id : ℕ) → GivesObject fact id ↔ ((id ≢ 0) × (object ≡ id))
 gives_object object fact is id = (
   λ gives. (gives.0, let same : Some (keys.Object object) ≡ Some (keys.Object id) = sym is ∙ gives.1 in cc),
@@ -155,7 +151,7 @@ pub no_object_no_node : (fact : FactValue) → ((object : ℕ) → key_of fact �
 no_object_no_node fact none id gives = none id gives.1
 
 -- an object dump stands in the table of objects
-stands_there : (fact : FactValue) (id : ℕ) → IsObject id fact → stands_in (number_of_table tables.Objects) fact ≡ true
+pub stands_there : (fact : FactValue) (id : ℕ) → IsObject id fact → stands_in (number_of_table tables.Objects) fact ≡ true
 stands_there (Instance object trace class bytes) id is = refl
 stands_there (ObjArray object trace class elements) id is = refl
 stands_there (PrimArray object trace elem bytes) id is = refl

@@ -1,10 +1,12 @@
 -- The targets of edges that were put are what the edges lead to.
 use Rattle.std.specs.Prelude.{◌↔◌, map}
-use Rattle.std.proofs.Common.{◌≡◌, ℕ, List, [], ◌∷◌, Contains, refl, sym, subst, inl, inr, arith}
+use Rattle.std.proofs.Common.{◌≡◌, ◌⊎◌, ℕ, List, [], ◌∷◌, ◌++◌, Contains, refl, sym, ap, subst, inl, inr, arith}
 use Rattle.std.proofs.lemmas.List.Elements.{Contains-append_cases, Contains-append_left, Contains-append_right, Contains-push}
 use Rattle.hprof_values.specs.declared.ids.IdSize.{IdSize}
 use Rattle.hprof_items.specs.FactValue.{FactValue}
 use Rattle.hprof_edges.specs.declared.edge.Edge.{Edge}
+use Rattle.hprof_edges.specs.declared.edge.Via.TheVariants as vias
+use Rattle.hprof_edges.specs.Collecting.{PutBehind}
 use Rattle.hprof_edges.specs.Edges.{IsEdge}
 use Rattle.hprof_edges.proofs.EdgeMembers.{one_there}
 use Rattle.hprof_reach.specs.Reaching.{LeadsBy}
@@ -27,6 +29,46 @@ from_target (first ∷ edges) edge has = elim (Contains-append_cases (first ∷ 
       (Contains-append_left (first.to ∷ []) (map (λ (e : Edge). e.to) edges) first.to (Contains-push [] first.to))
   | inr later ↦ Contains-append_right (first.to ∷ []) (map (λ (e : Edge). e.to) edges) edge.to (from_target edges edge later)
 ]
+
+-- an edge to an identifier, whichever
+abbrev edge_to : ℕ → Edge
+edge_to to = record { from = 0; via = vias.Class; position = 0; to = to }
+
+edges_to : (targets : List ℕ) → targets ≡ map (λ (edge : Edge). edge.to) (map edge_to targets)
+edges_to [] = refl
+edges_to (to ∷ targets) = ap (λ (l : List ℕ). to ∷ l) (edges_to targets)
+
+-- behind some targets stand those of the edges that were put
+pub put_behind : (P : Edge → Type 0) (old new : List ℕ)
+    → ((edges : List Edge) → old ≡ map (λ (edge : Edge). edge.to) edges
+    → PutBehind (λ edges. new ≡ map (λ (edge : Edge). edge.to) edges) edges P)
+    → (to : ℕ) → Contains new to ↔ (Contains old to ⊎ ((edge : Edge) × P edge × (edge.to ≡ to)))
+put_behind P old new put to = (there, back) where
+  edges : List Edge
+  edges = map edge_to old
+
+  did : PutBehind (λ edges. new ≡ map (λ (edge : Edge). edge.to) edges) edges P
+  did = put edges (edges_to old)
+
+  one_of : (list : List Edge) (edge : Edge) → Contains list edge → edge.to ≡ to → Contains (map (λ (e : Edge). e.to) list) to
+  one_of list edge has is = subst (λ (n : ℕ). Contains (map (λ (e : Edge). e.to) list) n) is (from_target list edge has)
+
+  there : Contains new to → Contains old to ⊎ ((edge : Edge) × P edge × (edge.to ≡ to))
+  there has =
+      let target = is_target (edges ++ did.more) to (subst (λ (l : List ℕ). Contains l to) did.holds_more has) in
+      elim (Contains-append_cases edges did.more target.0 target.1) [
+        | inl front ↦ inl (subst (λ (l : List ℕ). Contains l to) (sym (edges_to old)) (one_of edges target.0 front target.2))
+        | inr more ↦ inr (target.0, (did.exact target.0).0 more, target.2)
+      ]
+
+  back : Contains old to ⊎ ((edge : Edge) × P edge × (edge.to ≡ to)) → Contains new to
+  back (inl has) =
+      let target = is_target edges to (subst (λ (l : List ℕ). Contains l to) (edges_to old) has) in
+      subst (λ (l : List ℕ). Contains l to) (sym did.holds_more)
+      (one_of (edges ++ did.more) target.0 (Contains-append_left edges did.more target.0 target.1) target.2)
+  back (inr it) =
+      subst (λ (l : List ℕ). Contains l to) (sym did.holds_more)
+      (one_of (edges ++ did.more) it.0 (Contains-append_right edges did.more it.0 ((did.exact it.0).1 it.1)) it.2)
 
 -- the targets of all edges from an identifier of which that holds
 pub led_to : (P : Edge → Type 0) (ids : IdSize) (facts : List FactValue) (from : ℕ) (edges : List Edge) (targets : List ℕ)

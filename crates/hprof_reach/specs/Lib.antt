@@ -2,6 +2,9 @@ pub mod Reaching
 pub mod Nodes
 pub mod Graph
 pub mod NumberedGraph
+pub mod EdgesSoFar
+pub mod EdgesMade
+pub mod NodesSeen
 pub mod KeptTargets
 pub mod Roots
 pub mod Index

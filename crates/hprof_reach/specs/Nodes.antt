@@ -12,3 +12,7 @@ IsClassNode facts id = (id ≢ 0) × ((dump : ClassValue) × HasDump facts dump 
 -- it has an object dump
 abbrev pub IsObjectNode : List FactValue → ℕ → Type 0
 IsObjectNode facts id = (id ≢ 0) × ((fact : FactValue) × Has facts fact × IsObject id fact)
+
+-- the fact is a dump of the object, which is a node
+abbrev pub GivesObject : FactValue → ℕ → Type 0
+GivesObject fact id = (id ≢ 0) × IsObject id fact

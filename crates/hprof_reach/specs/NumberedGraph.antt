@@ -17,6 +17,12 @@ count_of graph = length (nodes_in graph.nodes)
 abbrev pub node_at : NumberedGraph → ℕ → ℕ
 node_at graph number = slice_index (nodes_in graph.nodes) number
 
+-- each number in it is that of a node
+pub record IsNumbered (graph : NumberedGraph) : Type 0 where
+  pub as_many : count_in graph.edges ≡ count_of graph
+  pub leads : LeadsWithin graph.edges
+  pub starts : (number : ℕ) → Contains (items_in graph.starts) number → number < count_of graph
+
 -- it has the nodes of these facts, the chosen edges between them, and the numbers of those that a root keeps alive
 pub record IsGraphBy (P : Edge → Type 0) (ids : IdSize) (facts : List FactValue) (graph : NumberedGraph) : Type 0 where
   pub nodes : (id : ℕ) → Contains (nodes_in graph.nodes) id ↔ IsNode facts id

@@ -5,10 +5,12 @@
 #![tactic(auto)]
 
 mod chosen_edges;
+mod edge_sink;
 mod from_roots;
 mod heap_graph;
 mod index;
 pub mod laws;
+mod node_sink;
 mod nodes;
 mod numbered_graph;
 mod numbering;
@@ -22,6 +24,6 @@ pub use heap_graph::{HeapGraph, graph_of};
 pub use index::{ReferrerIndex, index_referrers};
 pub use nodes::{id_of, nodes_of, push_node, sort_once};
 pub use numbered_graph::NumberedGraph;
-pub use numbering::graph_by_numbers;
+pub use numbering::{graph_by_numbers, graph_over};
 pub use reach::{Reach, reach_of, reach_without};
 pub use roots::roots_of;

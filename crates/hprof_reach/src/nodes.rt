@@ -2,14 +2,16 @@
 
 ghost use Rattle.std.specs.Prelude.{◌≡◌, ◌≢◌, ◌↔◌, ◌⊎◌, ℕ, IfOk, OnOk, Contains};
 ghost use Rattle.std.specs.List.Sorted.{IsStrictlyIncreasing};
-ghost use Rattle.hprof_heap.specs.HeapFacts.{facts_of};
+ghost use Rattle.hprof_heap.specs.HeapFacts.{facts_of, size_of};
 ghost use Rattle.hprof_heap.specs.ObjectDump.{fact_of_object};
 ghost use Rattle.hprof_heap.specs.Objects.{IsObject};
-ghost use Rattle.hprof_reach.specs.Nodes.{IsClassNode, IsObjectNode};
+ghost use Rattle.hprof_passes.specs.Finding.{Finds};
+ghost use Rattle.hprof_reach.specs.Nodes.{IsClassNode};
 ghost use Rattle.hprof_reach.specs.Reaching.{IsNode};
 
-use hprof_heap::{Heap, ObjectDump, Table, table_facts, table_len, to_class_dump, to_object_dump};
-use hprof_items::Fact;
+use crate::node_sink::NodeSink;
+use hprof_heap::{Heap, ObjectDump, Table, holds_of_heap, table_facts, table_len, to_class_dump};
+use hprof_passes::{InHeap, Objects, PassStop};
 use std::alloc::{AllocError, Global};
 
 /// Appends an identifier, unless it is 0. If memory runs out, the answer is `AllocError`.
@@ -46,21 +48,6 @@ fn push_classes(heap: &Heap, nodes: &mut Vec<u64>) -> Result<(), AllocError>
     Ok(())
 }
 
-/// Appends the identifiers that have an object dump.
-fn push_objects(heap: &Heap, nodes: &mut Vec<u64>) -> Result<(), AllocError>
-    ensures { OnOk result ((node : ℕ) → Contains nodes.new.items node
-        ↔ (Contains nodes.old.items node ⊎ IsObjectNode (facts_of heap.now) node)) }
-{
-    let mut facts = table_facts(heap, Table::Objects);
-    let mut fact = Fact::End { thread: 0 };
-    while facts.next_into(&mut fact) {
-        if let Some(dump) = to_object_dump(&fact) {
-            push_node(nodes, id_of(&dump))?;
-        }
-    }
-    Ok(())
-}
-
 /// Sorts numbers, and removes repetitions. The numbers of each table ascend, so this merges two runs. If memory runs out, the answer is
 /// `AllocError`.
 pub fn sort_once(nodes: &mut Vec<u64>) -> Result<(), AllocError>
@@ -83,15 +70,56 @@ pub(crate) fn class_nodes(alloc: Global, heap: &Heap) -> Result<Vec<u64>, AllocE
     Ok(nodes)
 }
 
-/// Returns all nodes of a heap, sorted. If memory runs out, the answer is `AllocError`.
-pub fn nodes_of(alloc: Global, heap: &Heap) -> Result<Vec<u64>, AllocError>
-    ensures ascend { IfOk result (λ nodes. IsStrictlyIncreasing nodes.items) }
-    ensures all { IfOk result (λ nodes. (node : ℕ) → Contains nodes.items node ↔ IsNode (facts_of heap.now) node) }
+/// Returns a sink that has the nodes with a class dump, and room for the objects that the heap has in memory.
+fn begun(alloc: Global, heap: &Heap) -> Result<NodeSink, AllocError>
+    ensures { IfOk result (λ sink. (node : ℕ) → Contains sink.nodes.items node ↔ IsClassNode (facts_of heap.now) node) }
 {
     let most = table_len(heap, Table::Classes).saturating_add(table_len(heap, Table::Objects));
     let mut nodes = Vec::with_capacity(alloc, most)?;
     push_classes(heap, &mut nodes)?;
-    push_objects(heap, &mut nodes)?;
-    sort_once(&mut nodes)?;
-    Ok(nodes)
+    Ok(NodeSink { nodes })
+}
+
+/// Returns the nodes that objects make up with a heap, sorted. The heap has all other facts.
+///
+/// # Errors
+///
+/// - `Sink`: memory ran out.
+/// - `Lost`: the objects cannot be gone through.
+pub(crate) fn nodes_over<O: Objects>(
+    alloc: Global,
+    heap: &Heap,
+    objects: &O,
+) -> Result<Vec<u64>, PassStop<AllocError, O::Fault>>
+    ensures ascend { IfOk result (λ nodes. IsStrictlyIncreasing nodes.items) }
+    ensures all { Finds (O.make_up objects.now (size_of heap.now) (facts_of heap.now))
+        (O.agree objects.now (size_of heap.now) (facts_of heap.now))
+        (O.tells objects.now (size_of heap.now) (facts_of heap.now))
+        (λ all nodes. (node : ℕ) → Contains nodes.items node ↔ IsNode all node) result }
+{
+    let mut sink = match begun(alloc, heap) {
+        Ok(sink) => sink,
+        Err(fault) => return Err(PassStop::Sink(fault)),
+    };
+    match objects.pass(alloc, heap, &mut sink) {
+        Ok(()) => {}
+        Err(stop) => return Err(stop),
+    }
+    let mut nodes = sink.nodes;
+    match sort_once(&mut nodes) {
+        Ok(()) => Ok(nodes),
+        Err(fault) => Err(PassStop::Sink(fault)),
+    }
+}
+
+/// Returns all nodes of a heap with its objects in memory, sorted. If memory runs out, the answer is `AllocError`.
+pub fn nodes_of(alloc: Global, heap: &Heap) -> Result<Vec<u64>, AllocError>
+    ensures ascend { IfOk result (λ nodes. IsStrictlyIncreasing nodes.items) }
+    ensures all { IfOk result (λ nodes. (node : ℕ) → Contains nodes.items node ↔ IsNode (facts_of heap.now) node) }
+{
+    holds_of_heap(heap);
+    match nodes_over(alloc, heap, &InHeap) {
+        Ok(nodes) => Ok(nodes),
+        Err(stop) => Err(stop.of_sink()),
+    }
 }

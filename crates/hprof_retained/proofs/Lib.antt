@@ -12,3 +12,4 @@ pub mod SomeParent
 pub mod BorderLists
 pub mod Crossing
 pub mod Ascending
+pub mod SizedNodes

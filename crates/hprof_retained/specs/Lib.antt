@@ -2,3 +2,4 @@ pub mod Retained
 pub mod Tree
 pub mod Weakly
 pub mod Border
+pub mod Sizing

@@ -9,11 +9,12 @@ mod border;
 pub mod laws;
 mod making;
 mod retained;
+mod size_sink;
 mod sizes;
 mod weakly;
 
 pub use beyond::weakly_held;
-pub use making::retained_of;
+pub use making::{retained_of, retained_over};
 pub use retained::Retained;
 pub use sizes::size_of_node;
 pub use weakly::WeaklyHeld;

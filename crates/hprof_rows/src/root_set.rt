@@ -52,6 +52,13 @@ impl RootSet {
         self.roots.len()
     }
 
+    /// Returns whether there is no root.
+    pub fn is_empty(&self) -> bool
+        ensures { IsTrue result ↔ (roots_of self.now ≡ []) }
+    {
+        self.len() == 0
+    }
+
     /// Returns whether both sets have the same roots.
     pub fn same(&self, other: &Self) -> bool
         ensures { IsTrue result ↔ (roots_of self.now ≡ roots_of other.now) }

@@ -76,7 +76,8 @@ module _ (ids : IdSize) (wanted : List ℕ) (all small : List FactValue) (is : I
     next_in_all : (needed : List ℕ) (id : ℕ) → IsTrue (is_among wanted id) → HasNext ids small needed id → HasNext ids all needed id
     next_in_all needed id among has = record {
       object = has.object;
-      array = λ fields array are of. has.array fields array (fields_in_small agree id among fields are) (value_array_in_small fields array of);
+      array = λ fields array are of.
+          has.array fields array (fields_in_small agree id among fields are) (value_array_in_small fields array of);
       name = λ fields name are of.
           has.name fields name (fields_in_small agree id among fields are) (name_object_in_small ids wanted all small is fields name of);
     }

@@ -185,7 +185,8 @@ module _ (one : Findings) (object : ℕ → Option FactValue) (text : ℕ → Te
       ap (λ (told : List ℕ). told ++ more_line 100 (length (present_from 0 elements))
       ++ nulls_line (length elements - length (present_from 0 elements))) (told_same 0 elements 100 all)
 
-  numbers_same : (elem : Basic) (bytes : List ℕ) → element_type (Some elem) ≡ Ok elem → values_text one elem bytes ≡ values_text other elem bytes
+  numbers_same : (elem : Basic) (bytes : List ℕ) → element_type (Some elem) ≡ Ok elem
+      → values_text one elem bytes ≡ values_text other elem bytes
   unfolding numbers_text value_text
   numbers_same basics.Array bytes of = absurd cc
   numbers_same basics.Object bytes of = absurd cc
@@ -217,7 +218,8 @@ module _ (one : Findings) (object : ℕ → Option FactValue) (text : ℕ → Te
       cc
 
   pub found_same : (id : ℕ) (fields : FieldsValue) (class : Option ClassValue) (found : Option FactValue) → AreFound id class found
-      → AllByRecursion Same (shown_ids id fields class found) → found_text one id fields class found ≡ found_text other id fields class found
+      → AllByRecursion Same (shown_ids id fields class found)
+      → found_text one id fields class found ≡ found_text other id fields class found
   found_same id fields None None are all = refl
   found_same id fields (Some dump) None are all =
       class_same dump (subst Same (sym are) all.0) (all_front Same (class_referents dump) [] all.1)

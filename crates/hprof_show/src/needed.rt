@@ -1,4 +1,5 @@
-//! The objects from which the words for other objects are read: the arrays of their texts, and the names of threads.
+//! The objects from which the words for other objects are read: those that their first fields `value` refer to, which are the arrays of
+//! strings, and the names of threads.
 
 ghost use Rattle.std.specs.Prelude.{◌≡◌, ◌++◌, List, ℕ, IfOk, OnOk};
 ghost use Rattle.std.specs.List.Sorted.{IsStrictlyIncreasing};
@@ -13,7 +14,7 @@ use hprof_reports::value_array;
 use hprof_threads::name_object;
 use std::alloc::{AllocError, Global};
 
-/// Appends an object, the array of its text, and the object that holds its name, or 0 where there is none.
+/// Appends an object, what its first field `value` refers to, and the name of the thread that it is the object of: 0 where there is none.
 fn push_next(
     alloc: Global,
     heap: &Heap,
@@ -34,8 +35,8 @@ fn push_next(
     Ok(())
 }
 
-/// Returns these identifiers, and those of the arrays of their texts and of the objects that hold their names, sorted, each once. If memory
-/// runs out, the answer is `AllocError`.
+/// Returns these identifiers, and those that are read next for their words: what their first fields `value` refer to, and the names of
+/// threads. They are sorted, each once. If memory runs out, the answer is `AllocError`.
 pub(crate) fn needed_for(alloc: Global, heap: &Heap, some: &[u64]) -> Result<Vec<u64>, AllocError>
     ensures ascend { IfOk result (λ needed. IsStrictlyIncreasing needed.items) }
     ensures has { IfOk result (λ needed. HasNextOf (size_of heap.now) (facts_of heap.now) some.now needed.items) }

@@ -16,9 +16,14 @@ use hprof_naming::ClassNames;
 use hprof_passes::{Objects, PassStop};
 use std::alloc::Global;
 
-/// Writes the report `show` on an identifier, as [`write_show`] does. The heap has all facts but the objects, which are gone through once
-/// to four times. Of the objects, memory holds only those that the report is read from: the object; what the class and the object refer to,
-/// of an array its first 100 elements that are not 0; the arrays of texts, and the names of threads.
+/// Writes the report `show` on an identifier, as [`write_show`] does. The heap has all facts but the objects, which are gone through one to
+/// four times. Of the objects, memory holds only a few:
+///
+/// - the object;
+/// - what the class and the object refer to, and of an array its first 100 elements that are not 0;
+/// - what the first field `value` of each of these refers to, as the array of a string;
+/// - the name of each of these that is the object of a thread;
+/// - what the first field `value` of each of those refers to.
 ///
 /// # Errors
 ///

@@ -8,8 +8,8 @@ use hprof_items::{Fact, read_sub_into};
 use hprof_objects::object_id;
 use hprof_values::IdSize;
 
-/// Reads the object that the bytes of a row spell. Returns whether they are the sub-record of one; if they are not, the value of `object` is
-/// unspecified.
+/// Reads the object that the bytes of a row spell. Returns whether they are the sub-record of one; if they are not, the value of `object`
+/// is unspecified.
 #[inline(always)]
 pub(crate) fn read_object<'a>(bytes: &'a [u8], ids: IdSize, object: &mut Fact<'a>) -> bool
     ensures object { IsTrue result → SpellsObject ids bytes.now (value_of object.new) }

@@ -158,6 +158,13 @@ impl<V> HintedMap<V> {
         self.rows.len()
     }
 
+    /// Returns whether there is no key.
+    pub fn is_empty(&self) -> bool
+        ensures { IsTrue result ↔ (rows_in self.now ≡ []) }
+    {
+        self.len() == 0
+    }
+
     /// Returns the keys with their values. Each key is there once.
     pub fn rows(&self) -> &[(u64, V)]
         ensures all { result.now ≡ rows_in self.now }

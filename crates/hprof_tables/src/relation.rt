@@ -168,6 +168,13 @@ impl<V: Content + Drop> Relation<V> {
         self.places.len()
     }
 
+    /// Returns whether there is no row.
+    pub fn is_empty(&self) -> bool
+        ensures { IsTrue result ↔ (rows_of self.now ≡ []) }
+    {
+        self.len() == 0
+    }
+
     /// Returns whether both tables have the same keys with the same contents.
     pub fn same(&self, other: &Self) -> bool
         ensures { IsTrue result ↔ (contents_of V.content (rows_of self.now) ≡ contents_of V.content (rows_of other.now)) }

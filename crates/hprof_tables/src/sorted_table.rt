@@ -1,7 +1,7 @@
 //! A table of rows by key, in pages. A key that is near the one before it is mostly in the same page.
 
 ghost use Rattle.std.specs.Prelude.{◌≡◌, ◌+◌, ◌++◌, ◌≤◌, ◌^◌, ◌⊎◌, ℕ, List, [], length};
-ghost use Rattle.std.specs.Prelude.{IfOk, IfSome, OnOk, OnErr, None, ◌<◌};
+ghost use Rattle.std.specs.Prelude.{IfOk, IfSome, IsTrue, OnOk, OnErr, None, ◌<◌, ◌↔◌};
 ghost use Rattle.std.specs.Prelude.{slice_get, true, vec_capacity, vec_len};
 ghost use Rattle.std.specs.Option.{option_copied};
 ghost use Rattle.std.specs.Ordering.{nat_cmp};
@@ -444,6 +444,13 @@ impl<V> SortedTable<V> {
         ensures { result ≡ length (entries_of self.now) }
     {
         self.len
+    }
+
+    /// Returns whether there is no row.
+    pub fn is_empty(&self) -> bool
+        ensures { IsTrue result ↔ (entries_of self.now ≡ []) }
+    {
+        self.len() == 0
     }
 
     /// Returns an iterator over the rows, in order of key.

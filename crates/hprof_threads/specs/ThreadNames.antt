@@ -29,7 +29,8 @@ values_of other = []
 
 -- an object with these fields has its name in that object, or in none if that is 0: the first field that holds a name refers to it
 abbrev pub IsNameObject : List FactValue → FieldsValue → ℕ → Type 0
-IsNameObject facts fields name = (field : Option FieldValue) × IsFirstHolding facts (values_of fields) field × (name ≡ target_of_field field)
+IsNameObject facts fields name =
+    (field : Option FieldValue) × IsFirstHolding facts (values_of fields) field × (name ≡ target_of_field field)
 
 -- the units of a text, if it is one
 abbrev pub units_in : TextValue → Option (List ℕ)

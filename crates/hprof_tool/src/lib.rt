@@ -1,5 +1,5 @@
-//! The library of this project and its program. A program of your own names this crate alone: it has the calls that read parts, the look-ups
-//! in a heap, the graph of its objects, and a call for each dump and each report. docs/LIBRARY.md has examples.
+//! The library of this project and its program. A program of your own names this crate alone: it has the calls that read parts, the
+//! look-ups in a heap, the graph of its objects, and a call for each dump and each report. docs/LIBRARY.md has examples.
 //!
 //! One begins with [`FactReader`], which gives the facts of a part one after the other, with [`read_heap`], which reads parts into a
 //! [`Heap`], or with [`join_to`] and [`report_to`], which write what the program writes.

@@ -11,3 +11,5 @@ pub mod WeakFirsts
 pub mod WeakPuts
 pub mod ByField
 pub mod WeakEdges
+pub mod WholeClasses
+pub mod RowsTaken

@@ -1,19 +1,11 @@
 -- Weak fields that are put into a table, class by class, and instance by instance.
 use Rattle.std.specs.Prelude.{slice_get, Contains}
 use Rattle.std.proofs.lemmas.Bool.{cases_eq}
-use Rattle.std.proofs.lemmas.List.{append-nil}
-use Rattle.std.proofs.Common.{◌≡◌, ℕ, ◌≤◌, Bool, true, false, List, [], ◌∷◌, ◌++◌, length, Option, Some, None, Bor}
-use Rattle.std.proofs.Common.{refl, sym, ap, subst, ◌∙◌, inl, inr, arith, append_assoc}
+use Rattle.std.proofs.Common.{◌≡◌, ℕ, ◌≤◌, Bool, true, false, List, [], ◌∷◌, length, Option, Some, None}
+use Rattle.std.proofs.Common.{refl, sym, ap, subst, ◌∙◌, inl, inr, arith}
 use Rattle.hprof_values.specs.declared.ids.IdSize.{IdSize}
-use Rattle.hprof_items.specs.declared.fact.Fact.{Fact}
-use Rattle.hprof_items.specs.declared.fact.Fact.TheVariants as facts
-use Rattle.hprof_items.specs.FactValue.{FactValue, Instance, value_of}
+use Rattle.hprof_items.specs.FactValue.{FactValue, Instance}
 use Rattle.hprof_rows.specs.Conflict.{IsConsistent}
-use Rattle.hprof_rows.specs.declared.table.Table.TheVariants as tables
-use Rattle.hprof_rows.specs.Facts.{Has}
-use Rattle.hprof_rows.specs.Tables.{facts_of_table, number_of_table, stands_in}
-use Rattle.hprof_rows.proofs.FactSets.{Has-parts}
-use Rattle.hprof_rows.proofs.Picking.{picked}
 use Rattle.hprof_heap.proofs.ClassFacts.{one_dump_each}
 use Rattle.hprof_layouts.specs.declared.slot.Slot.{Slot}
 use Rattle.hprof_layouts.specs.Fields.{width_of_slots}
@@ -28,7 +20,7 @@ use Rattle.hprof_edges.specs.declared.field_place.FieldPlace.{FieldPlace}
 use Rattle.hprof_weak.specs.declared.links.Link.{Link}
 use Rattle.hprof_weak.specs.declared.weak_classes.WeakClasses.{WeakClasses}
 use Rattle.hprof_weak.specs.Links.{PushesReferents, nexts_in}
-use Rattle.hprof_weak.specs.Rows.{ArePut, AreWeakRows, IsPut, IsPutWithin, PutsWeak}
+use Rattle.hprof_weak.specs.Rows.{ArePut, AreWeakRows, IsPut}
 use Rattle.hprof_weak.specs.Weak.{IsCleared, IsWeakField}
 use Rattle.hprof_weak.specs.WeakClasses.{AreWeakClasses, IsFirstWeak, first_of}
 
@@ -103,15 +95,7 @@ module _ (facts : List FactValue) (agree : IsConsistent facts) (class room : ℕ
         absurd (omega (arith, slots_are, short, le));
   }
 
--- ---- one instance
-
--- the instances that were gone over, and the facts that are left
-pub record RowsSoFar (facts all : List FactValue) (classes : WeakClasses) (fields : List FieldPlace) (left : List FactValue) : Type 0 where
-  pub taken : List FactValue
-  pub parts : all ≡ taken ++ left
-  pub put : ArePut facts classes fields
-  pub done : (object trace class : ℕ) (bytes : List ℕ) → Has taken (Instance object trace class bytes)
-      → IsPutWithin facts class (length bytes) fields
+-- ---- no class yet
 
 -- nothing was put yet
 pub put_of_none : (facts : List FactValue) (classes : WeakClasses) (fields : List FieldPlace) → fields ≡ []
@@ -122,83 +106,12 @@ put_of_none facts classes fields none are = record {
   all = λ field weak out. absurd (are.all field weak out);
 }
 
-pub rows_of_none : (facts all left : List FactValue) (classes : WeakClasses) (fields : List FieldPlace) → left ≡ all
-    → ArePut facts classes fields → RowsSoFar facts all classes fields left
-rows_of_none facts all left classes fields e put = record {
-  taken = [];
-  parts = sym e;
-  put = put;
-  done = λ object trace class bytes has. absurd has;
-}
-
 -- what an instance says
 abbrev pub class_in : FactValue → ℕ
 class_in (Instance object trace class bytes) = class
 class_in fact = 0
 
-abbrev pub bytes_in : FactValue → List ℕ
-bytes_in (Instance object trace class bytes) = bytes
-bytes_in fact = []
-
-module _ (facts all left rest : List FactValue) (classes : WeakClasses) (fields : List FieldPlace) (fact : FactValue)
-    (next : left ≡ fact ∷ rest) (so_far : RowsSoFar facts all classes fields left) where
-  parts_more : all ≡ (so_far.taken ++ fact ∷ []) ++ rest
-  parts_more =
-      so_far.parts ∙ ap (λ (l : List FactValue). so_far.taken ++ l) next ∙ sym (append_assoc so_far.taken (fact ∷ []) rest)
-
-  pub rows_of_more : (object trace class : ℕ) (bytes : List ℕ) (others : WeakClasses) (more : List FieldPlace)
-      → fact ≡ Instance object trace class bytes → IsConsistent facts → PutsWeak facts class (length bytes) classes others fields more
-      → RowsSoFar facts all others more rest
-  rows_of_more object trace class bytes others more is agree puts =
-      let new = puts agree so_far.put in
-      record {
-        taken = so_far.taken ++ fact ∷ [];
-        parts = parts_more;
-        put = new.put;
-        done = λ o t c b has. elim (Has-parts so_far.taken (fact ∷ []) (Instance o t c b) has) [
-          | inl was ↦ λ slots known le field same weak. new.keeps field (so_far.done o t c b was slots known le field same weak)
-          | inr now ↦ elim now [
-            | inr none ↦ absurd none
-            | inl e ↦
-                let class_is : class ≡ c = sym (ap class_in (e ∙ is)) in
-                let bytes_are : bytes ≡ b = sym (ap bytes_in (e ∙ is)) in
-                subst (λ (l : List ℕ). IsPutWithin facts c (length l) more) bytes_are
-                (subst (λ (n : ℕ). IsPutWithin facts n (length bytes) more) class_is new.within)
-          ]
-        ];
-      }
-
-  pub rows_of_same : ((object trace class : ℕ) (bytes : List ℕ) → Instance object trace class bytes ≡ fact → ⊥)
-      → RowsSoFar facts all classes fields rest
-  rows_of_same none = record {
-    taken = so_far.taken ++ fact ∷ [];
-    parts = parts_more;
-    put = so_far.put;
-    done = λ o t c b has. elim (Has-parts so_far.taken (fact ∷ []) (Instance o t c b) has) [
-      | inl was ↦ so_far.done o t c b was
-      | inr now ↦ elim now [ inr no_more ↦ absurd no_more | inl e ↦ absurd (none o t c b e) ]
-    ];
-  }
-
--- a fact in hand that is no instance states none
-pub no_instance : (fact : Fact)
-    → ((id trace class : ℕ) (bytes : Bor (List ℕ)) → fact ≡ facts.Instance id trace class bytes → ⊥)
-    → (object trace class : ℕ) (bytes : List ℕ) → Instance object trace class bytes ≡ value_of fact → ⊥
-no_instance (facts.Instance id trace class bytes) none = λ o t c b e. none id trace class bytes refl
-no_instance (facts.Name id text) none = λ o t c b e. absurd cc
-no_instance (facts.Load serial class trace name) none = λ o t c b e. absurd cc
-no_instance (facts.Unload serial) none = λ o t c b e. absurd cc
-no_instance (facts.Frame id method signature source class_serial line) none = λ o t c b e. absurd cc
-no_instance (facts.Trace serial thread frames) none = λ o t c b e. absurd cc
-no_instance (facts.Start thread object trace id group parent_group) none = λ o t c b e. absurd cc
-no_instance (facts.End thread) none = λ o t c b e. absurd cc
-no_instance (facts.Root root) none = λ o t c b e. absurd cc
-no_instance (facts.Class id trace parent loader signers domain reserved1 reserved2 size constants statics fields) none =
-    λ o t c b e. absurd cc
-no_instance (facts.ObjArray id trace other elements) none = λ o t c b e. absurd cc
-no_instance (facts.PrimArray id trace elem bytes) none = λ o t c b e. absurd cc
-
--- ---- all instances
+-- ---- all classes
 
 -- a field has one byte at least
 pub no_more_than_bytes : (ids : IdSize) (slots : List Slot) → length slots ≤ width_of_slots ids slots
@@ -208,23 +121,6 @@ no_more_than_bytes ids (slot ∷ slots) =
     let one = width_some ids slot.basic in
     let both = width-cons ids slot slots in
     omega (arith, rest, one, both)
-
-pub rows_of_all : (ids : IdSize) (facts left : List FactValue) (classes : WeakClasses) (fields : List FieldPlace) → left ≡ []
-    → RowsSoFar facts (facts_of_table tables.Objects facts) classes fields left → AreWeakRows ids facts fields
-rows_of_all ids facts left classes fields none so_far =
-    let table = facts_of_table tables.Objects facts in
-    let same : table ≡ so_far.taken = so_far.parts ∙ ap (λ (l : List FactValue). so_far.taken ++ l) none ∙ append-nil so_far.taken in
-    record {
-      only = so_far.put.only;
-      all = λ object class bytes slots instance known fills field of_class weak.
-          let stands : Has table (Instance object instance.trace class bytes) =
-          picked (stands_in (number_of_table tables.Objects)) facts (Instance object instance.trace class bytes)
-          (record { has = instance.has; passes = refl }) in
-          let few = no_more_than_bytes ids slots in
-          so_far.done object instance.trace class bytes
-          (subst (λ (l : List FactValue). Has l (Instance object instance.trace class bytes)) same stands)
-          slots known (omega (arith, few, fills)) field of_class weak;
-    }
 
 -- all weak fields of all classes were put
 pub rows_when_all_put : (ids : IdSize) (facts : List FactValue) (classes : WeakClasses) (fields : List FieldPlace)

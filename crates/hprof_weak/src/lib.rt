@@ -7,10 +7,11 @@ mod called;
 mod flags;
 pub mod laws;
 mod links;
+mod row_sink;
 mod rows;
 mod strengths;
 mod subclasses;
 mod table;
 mod weak_classes;
 
-pub use table::weak_fields;
+pub use table::{weak_fields, weak_fields_over};

@@ -1,22 +1,24 @@
 //! The weak fields of the classes of instances.
 
-ghost use Rattle.std.specs.Prelude.{◌≡◌, ◌≤◌, ◌+◌, ◌↔◌, ℕ, IfOk, IfSome, IsSome, IsTrue, OnOk, List, None, length};
+ghost use Rattle.std.specs.Prelude.{◌≡◌, ◌≤◌, ◌+◌, ◌↔◌, ℕ, IfErr, IfOk, IfSome, IsSome, IsTrue, OnOk, List, None, length};
 ghost use Rattle.hprof_items.specs.FactValue.{FactValue};
 ghost use Rattle.hprof_rows.specs.Conflict.{IsConsistent};
 ghost use Rattle.hprof_heap.specs.HeapFacts.{facts_of, size_of};
+ghost use Rattle.hprof_passes.specs.Passing.{IfLost};
 ghost use Rattle.hprof_weak.specs.WeakClasses.{AreWeakClasses, first_of};
 ghost use Rattle.hprof_weak.specs.Rows.{ArePut, AreWeakRows, PutsWeak};
 
+use crate::row_sink::RowSink;
 use crate::weak_classes::WeakClasses;
 use hprof_edges::FieldPlace;
-use hprof_heap::{Heap, Table, holds_of_heap, table_facts};
-use hprof_items::Fact;
+use hprof_heap::Heap;
+use hprof_passes::{Objects, PassStop};
 use std::alloc::{AllocError, Global};
 
 impl WeakClasses {
     /// Appends the weak fields of a class, as far as their places are below `room`. If all are, the class is removed. Returns whether all
     /// are.
-    fn put_weak(
+    pub(crate) fn put_weak(
         &mut self,
         class: u64,
         room: u64,
@@ -46,8 +48,7 @@ impl WeakClasses {
     }
 
     /// Appends the weak fields of the least classes, one class after another, as long as there is room for `most` fields in all. The
-    /// classes
-    /// whose weak fields all are there are removed.
+    /// classes whose weak fields all are there are removed.
     fn put_few(&mut self, most: u64, fields: &mut Vec<FieldPlace>) -> Result<(), AllocError>
         ensures put { OnOk result ((facts : List FactValue) → IsConsistent facts → ArePut facts self.old fields.old.items
             → ArePut facts self.new fields.new.items) }
@@ -72,47 +73,39 @@ const FIELDS_OF_CLASS: u64 = 2;
 /// The number of weak fields for which there is room, however few classes have some.
 const LEAST_ROOM: u64 = 4096;
 
-/// Appends the weak fields of the classes of a heap's instances, in one pass over the object dumps.
+/// Returns the weak fields of the classes of instances. If there are many, some of a class without instances may be missing: a pass over
+/// the objects then bounds them.
 ///
-/// An instance with values has at least as many bytes as fields. So an instance adds no more fields than it has bytes.
-fn put_instances(
-    heap: &Heap,
-    classes: WeakClasses,
-    put: Vec<FieldPlace>,
-) -> Result<Vec<FieldPlace>, AllocError>
-    requires { ArePut (facts_of heap.now) classes put.items }
-    ensures { IfOk result (λ fields. AreWeakRows (size_of heap.now) (facts_of heap.now) fields.items) }
-{
-    holds_of_heap(heap);
-    let mut left = classes;
-    let mut fields = put;
-    for fact in table_facts(heap, Table::Objects) {
-        if let Fact::Instance { class, bytes, .. } = fact {
-            left.put_weak(class, bytes.len() as u64, &mut fields)?;
-        }
-    }
-    Ok(fields)
-}
-
-/// Returns the weak fields of the classes of a heap's instances. If there are many, some of a class without instances may be missing: a
-/// pass over the object dumps then bounds them. If memory runs out, the answer is `AllocError`.
-pub(crate) fn weak_rows(
+/// # Errors
+///
+/// - `Sink`: memory ran out.
+/// - `Lost`: the objects cannot be gone through.
+pub(crate) fn rows_over<O: Objects>(
     alloc: Global,
     heap: &Heap,
+    objects: &O,
     classes: WeakClasses,
-) -> Result<Vec<FieldPlace>, AllocError>
+) -> Result<Vec<FieldPlace>, PassStop<AllocError, O::Fault>>
     requires { AreWeakClasses (facts_of heap.now) classes }
-    ensures { IfOk result (λ fields. AreWeakRows (size_of heap.now) (facts_of heap.now) fields.items) }
+    ensures rows { IfOk result (λ fields. (all : List FactValue)
+        → O.make_up objects.now (size_of heap.now) (facts_of heap.now) all → AreWeakRows (size_of heap.now) all fields.items) }
+    ensures tells { IfErr result (IfLost (O.tells objects.now (size_of heap.now) (facts_of heap.now))) }
 {
-    holds_of_heap(heap);
     let mut left = classes;
     let mut fields = Vec::new(alloc);
     let most = (left.firsts.len() as u64)
         .saturating_mul(FIELDS_OF_CLASS)
         .saturating_add(LEAST_ROOM);
-    left.put_few(most, &mut fields)?;
+    match left.put_few(most, &mut fields) {
+        Ok(()) => {}
+        Err(fault) => return Err(PassStop::Sink(fault)),
+    }
     if left.firsts.is_empty() {
         return Ok(fields);
     }
-    put_instances(heap, left, fields)
+    let mut sink = RowSink { left, fields };
+    match objects.pass(alloc, heap, &mut sink) {
+        Ok(()) => Ok(sink.fields),
+        Err(stop) => Err(stop),
+    }
 }

@@ -1,6 +1,6 @@
 //! Lists of what a heap has most of.
 
-ghost use Rattle.std.specs.Prelude.{◌≡◌};
+ghost use Rattle.std.specs.Prelude.{◌≡◌, ◌↔◌, [], IsTrue};
 ghost use Rattle.hprof_rows.specs.FactsLeft.{facts_left, facts_ids};
 ghost use Rattle.hprof_rows.specs.Order.{IsCanonicalOrder};
 ghost use Rattle.hprof_rows.specs.Tables.{facts_of_table};
@@ -45,5 +45,12 @@ impl Heap {
         ensures ids { facts_ids result ≡ (heap_of self.now).ids }
     {
         self.rows(Table::Objects)
+    }
+
+    /// Returns whether the heap has no fact.
+    pub fn is_empty(&self) -> bool
+        ensures { IsTrue result ↔ ((heap_of self.now).facts ≡ []) }
+    {
+        self.count() == 0
     }
 }

@@ -1,9 +1,8 @@
+use Rattle.std.proofs.Common.{refl}
 use Rattle.hprof_heap.specs.HeapFacts.{facts_of}
-use Rattle.hprof_reach.proofs.Reached.{all_nodes}
 use Rattle.hprof_reach.proofs.nodes.nodes_of.Goals as goal
 
-pub returns-clause-all : goal.returns-clause-all
-returns-clause-all c =
-    all_nodes (facts_of c.args.heap.now) c.in_ok-nodes.nodes.items c.push_classes.new.nodes.items c.push_objects.new.nodes.items
-    c.sort_once.new.nodes.items c.in_ok-nodes.ensures.items c.in_ok-push_classes.ensures c.in_ok-push_objects.ensures
-    c.in_ok-sort_once.ensures.same
+pub returns-in-Ok-clause-all : goal.returns-in-Ok-clause-all
+returns-in-Ok-clause-all c =
+    c.in-Ok.ensures.all.1 (facts_of c.args.heap.now)
+    (record { same = refl; fit = c.holds_of_heap.ensures.fit; ordered = c.holds_of_heap.ensures.ordered })

@@ -29,5 +29,6 @@ returns-clause-has c = λ id among.
     let sorted = c.sort_once.new.nodes.items in
     let has = contains_of_among some id among in
     subst (HasNext ids facts sorted) (get_or_default some has.0 0 id has.1 ∙ has.2)
-    (next_of_more ids facts (get_or some has.0 0) c.loop-id.needed.items sorted (λ node there. (c.in_ok-sort_once.ensures.same node).1 there)
+    (next_of_more ids facts (get_or some has.0 0) c.loop-id.needed.items sorted
+    (λ node there. (c.in_ok-sort_once.ensures.same node).1 there)
     (c.loop-id.invariant has.0 (omega arith)))

@@ -7,5 +7,6 @@ use Rattle.hprof_show.proofs.shown.push_elements.Given as goal
 abbrev pub invariant-loop-id : goal.invariant-loop-id
 invariant-loop-id l = record {
   few : l.told ≤ 100;
-  pushed : l.ids.items ++ told_ids l.told (identifiers_left l.id-iterator) ≡ l.fn.ids.items ++ element_referents (identifiers_of l.fn.elements);
+  pushed : l.ids.items ++ told_ids l.told (identifiers_left l.id-iterator)
+      ≡ l.fn.ids.items ++ element_referents (identifiers_of l.fn.elements);
 }

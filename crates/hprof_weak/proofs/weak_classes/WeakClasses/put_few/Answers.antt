@@ -1,4 +1,4 @@
-use Rattle.std.proofs.Common.{◌≤◌, ◌+◌, ◌-◌, length, arith}
+use Rattle.std.proofs.Common.{arith}
 use Rattle.hprof_weak.proofs.weak_classes.WeakClasses.put_few.Goals as goal
 
 pub loop-preserved : goal.loop-preserved

@@ -1,4 +1,4 @@
-use Rattle.std.proofs.Common.{◌≡◌, true, false, Some, None, refl, sym, subst, ◌∙◌}
+use Rattle.std.proofs.Common.{◌≡◌, Some, None, refl, sym, subst, ◌∙◌}
 use Rattle.hprof_layouts.proofs.Maps.{get-updated}
 use Rattle.hprof_weak.specs.declared.weak_classes.WeakClasses.{WeakClasses}
 use Rattle.hprof_weak.specs.Links.{PushesReferents}
