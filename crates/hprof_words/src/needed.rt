@@ -5,7 +5,7 @@ ghost use Rattle.std.specs.Prelude.{◌≡◌, ◌++◌, List, ℕ, IfOk, OnOk};
 ghost use Rattle.std.specs.List.Sorted.{IsStrictlyIncreasing};
 ghost use Rattle.hprof_heap.specs.HeapFacts.{facts_of, size_of};
 ghost use Rattle.hprof_naming.specs.ClassNames.{AreClassNames};
-ghost use Rattle.hprof_show.specs.ShownObjects.{HasNext, HasNextOf};
+ghost use Rattle.hprof_words.specs.Words.{HasNext, HasNextOf};
 
 use hprof_heap::{Heap, holds_of_heap};
 use hprof_naming::ClassNames;

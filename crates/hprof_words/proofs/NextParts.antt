@@ -1,28 +1,20 @@
 -- What is needed next, from its parts.
 use Rattle.std.specs.Prelude.{Contains, IsTrue}
-use Rattle.std.proofs.Common.{◌≡◌, ℕ, List, ◌++◌, [], ◌∷◌, Option, inl, inr, sym, ap, subst, ◌∙◌, append_assoc}
-use Rattle.std.specs.Option.{option_map}
+use Rattle.std.proofs.Common.{◌≡◌, ℕ, List, ◌++◌, [], ◌∷◌, inl, inr, sym, ap, subst, ◌∙◌, append_assoc}
 use Rattle.std.proofs.lemmas.List.Elements.{Contains-append_left, Contains-push}
 use Rattle.hprof_values.specs.declared.ids.IdSize.{IdSize}
 use Rattle.hprof_items.specs.FactValue.{FactValue}
 use Rattle.hprof_rows.specs.Conflict.{IsConsistent}
-use Rattle.hprof_heap.specs.declared.class_dump.ClassDump.{ClassDump}
-use Rattle.hprof_heap.specs.declared.object_dump.ObjectDump.{ObjectDump}
-use Rattle.hprof_heap.specs.ClassDump.{IsFoundClass, class_value}
-use Rattle.hprof_heap.specs.Classes.{ClassValue}
-use Rattle.hprof_heap.specs.ObjectDump.{IsFoundObject, fact_of_object}
 use Rattle.hprof_histogram.specs.Chosen.{is_among}
 use Rattle.hprof_layouts.specs.Fields.{AreFields, FieldsValue}
 use Rattle.hprof_layouts.proofs.FieldAnswers.{fields_once}
 use Rattle.hprof_naming.specs.Texts.{target_of_field}
-use Rattle.hprof_naming.proofs.Lookups.{class_is_found, class_once, object_is_found, object_once}
 use Rattle.hprof_threads.specs.ThreadNames.{IsNameObject, values_of}
 use Rattle.hprof_threads.proofs.FirstHolding.{first_once}
 use Rattle.hprof_reports.specs.TextObjects.{IsValueArray}
 use Rattle.hprof_reports.proofs.ValueArrays.{one_array}
-use Rattle.hprof_show.specs.Shown.{shown_ids}
-use Rattle.hprof_show.specs.ShownObjects.{HasNext, HasShownIds}
-use Rattle.hprof_show.proofs.Among.{among_of_contains, contains_of_among}
+use Rattle.hprof_words.specs.Words.{HasNext}
+use Rattle.hprof_words.proofs.Among.{among_of_contains, contains_of_among}
 
 -- an object has one object that holds its name
 one_name_object : (facts : List FactValue) (fields : FieldsValue) (one other : ℕ) → IsNameObject facts fields one
@@ -65,21 +57,6 @@ module _ (ids : IdSize) (facts : List FactValue) (id : ℕ) where
     where
       longer : (node : ℕ) → IsTrue (is_among list node) → IsTrue (is_among more node)
       longer node there = among_of_contains more node (into node (contains_of_among list node there))
-
-  -- ---- the identifiers that are shown
-
-  pub shown_found : IsConsistent facts → (class : Option ClassDump) (object : Option ObjectDump) → IsFoundClass ids facts id class
-      → IsFoundObject ids facts id object → (list : List ℕ)
-      → ((fields : FieldsValue) → AreFields ids facts id fields → (shown : ℕ)
-      → Contains (shown_ids id fields (option_map class_value class) (option_map fact_of_object object)) shown → Contains list shown)
-      → HasShownIds ids facts id list
-  shown_found agree class object is_class is_object list has = λ fields dump fact are dump_is fact_is shown here.
-      let class_is = class_once facts agree id dump (option_map class_value class) dump_is (class_is_found ids facts id class is_class) in
-      let object_is = object_once facts agree id fact (option_map fact_of_object object) fact_is
-      (object_is_found ids facts id object is_object) in
-      has fields are shown
-      (subst (λ (o : Option FactValue). Contains (shown_ids id fields (option_map class_value class) o) shown) object_is
-      (subst (λ (c : Option ClassValue). Contains (shown_ids id fields c fact) shown) class_is here))
 
 -- three that were appended, one after the other
 module _ (old one two new : List ℕ) (id array name : ℕ) (first : one ≡ old ++ id ∷ []) (second : two ≡ one ++ array ∷ [])
