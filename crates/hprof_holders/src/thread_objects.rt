@@ -16,8 +16,10 @@ use std::alloc::{AllocError, Global};
 fn push_held(nodes: &mut Vec<u64>, rows: &[Held]) -> Result<(), AllocError>
     ensures { OnOk result (nodes.new.items ≡ nodes.old.items ++ map (λ held. held.object) rows.now) }
 {
-    for held in rows {
+    let mut rest = rows;
+    while let Some((held, after)) = rest.split_first() {
         nodes.push(held.object)?;
+        rest = after;
     }
     Ok(())
 }
@@ -36,7 +38,8 @@ fn push_thread(
     ensures has { OnOk result (HasThreadObjects (facts_of heap.now) nodes.new.items serial) }
 {
     holds_of_heap(heap);
-    nodes.push(thread_object(heap, roots, serial))?;
+    let object = thread_object(heap, roots, serial);
+    nodes.push(object)?;
     push_held(nodes, held.held_by_thread(serial))
 }
 
