@@ -1,5 +1,5 @@
 -- What is needed next, from its parts.
-use Rattle.std.specs.Prelude.{Contains, IsTrue}
+use Rattle.std.specs.Prelude.{Contains, IsTrue, ◌⊎◌}
 use Rattle.std.proofs.Common.{◌≡◌, ℕ, List, ◌++◌, [], ◌∷◌, inl, inr, sym, ap, subst, ◌∙◌, append_assoc}
 use Rattle.std.proofs.lemmas.List.Elements.{Contains-append_left, Contains-push}
 use Rattle.hprof_values.specs.declared.ids.IdSize.{IdSize}
@@ -28,9 +28,18 @@ pub record ReadsOf (ids : IdSize) (facts : List FactValue) (Is : FieldsValue →
   pub are_fields : AreFields ids facts id fields
   pub is : Is fields object
 
+-- the list has the identifier, unless it is 0
+abbrev pub IsSomeIn : List ℕ → ℕ → Type 0
+IsSomeIn list id = (id ≡ 0) ⊎ Contains list id
+
+among_some : (list : List ℕ) (other id : ℕ) → other ≡ id → IsSomeIn list id → (other ≡ 0) ⊎ IsTrue (is_among list other)
+among_some list other id same (inl zero) = inl (same ∙ zero)
+among_some list other id same (inr has) =
+    inr (subst (λ (n : ℕ). IsTrue (is_among list n)) (sym same) (among_of_contains list id has))
+
 module _ (ids : IdSize) (facts : List FactValue) (id : ℕ) where
   pub next_of_parts : IsConsistent facts → (list : List ℕ) (array name : ℕ) → ReadsOf ids facts (IsValueArray facts) id array
-      → ReadsOf ids facts (IsNameObject facts) id name → Contains list id → Contains list array → Contains list name
+      → ReadsOf ids facts (IsNameObject facts) id name → Contains list id → IsSomeIn list array → IsSomeIn list name
       → HasNext ids facts list id
   next_of_parts agree list array name text named has has_array has_name = record {
     object = among_of_contains list id has;
@@ -38,12 +47,12 @@ module _ (ids : IdSize) (facts : List FactValue) (id : ℕ) where
         let same = fields_once ids facts id fields text.fields agree are text.are_fields in
         let array_is : other ≡ array =
         one_array facts text.fields other array (subst (λ (f : FieldsValue). IsValueArray facts f other) same of) text.is in
-        inr (subst (λ (n : ℕ). IsTrue (is_among list n)) (sym array_is) (among_of_contains list array has_array));
+        among_some list other array array_is has_array;
     name = λ fields other are of.
         let same = fields_once ids facts id fields named.fields agree are named.are_fields in
         let name_is : other ≡ name =
         one_name_object facts named.fields other name (subst (λ (f : FieldsValue). IsNameObject facts f other) same of) named.is in
-        inr (subst (λ (n : ℕ). IsTrue (is_among list n)) (sym name_is) (among_of_contains list name has_name));
+        among_some list other name name_is has_name;
   }
 
   -- a longer list has it too
@@ -58,23 +67,25 @@ module _ (ids : IdSize) (facts : List FactValue) (id : ℕ) where
       longer : (node : ℕ) → IsTrue (is_among list node) → IsTrue (is_among more node)
       longer node there = among_of_contains more node (into node (contains_of_among list node there))
 
--- three that were appended, one after the other
-module _ (old one two new : List ℕ) (id array name : ℕ) (first : one ≡ old ++ id ∷ []) (second : two ≡ one ++ array ∷ [])
-    (third : new ≡ two ++ name ∷ []) where
+-- an identifier that was appended, and behind it more, twice
+module _ (old one two new : List ℕ) (id : ℕ) (second third : List ℕ) (first_is : one ≡ old ++ id ∷ []) (second_is : two ≡ one ++ second)
+    (third_is : new ≡ two ++ third) where
   in_new : (node : ℕ) → Contains two node → Contains new node
-  in_new node has = subst (λ (l : List ℕ). Contains l node) (sym third) (Contains-append_left two (name ∷ []) node has)
+  in_new node has = subst (λ (l : List ℕ). Contains l node) (sym third_is) (Contains-append_left two third node has)
 
   in_two : (node : ℕ) → Contains one node → Contains two node
-  in_two node has = subst (λ (l : List ℕ). Contains l node) (sym second) (Contains-append_left one (array ∷ []) node has)
+  in_two node has = subst (λ (l : List ℕ). Contains l node) (sym second_is) (Contains-append_left one second node has)
 
   pub has_first : Contains new id
-  has_first = in_new id (in_two id (subst (λ (l : List ℕ). Contains l id) (sym first) (Contains-push old id)))
+  has_first = in_new id (in_two id (subst (λ (l : List ℕ). Contains l id) (sym first_is) (Contains-push old id)))
 
-  pub has_second : Contains new array
-  has_second = in_new array (subst (λ (l : List ℕ). Contains l array) (sym second) (Contains-push one array))
+  pub has_second : (node : ℕ) → IsSomeIn two node → IsSomeIn new node
+  has_second node some = elim some [ inl zero ↦ inl zero | inr has ↦ inr (in_new node has) ]
 
-  pub has_third : Contains new name
-  has_third = subst (λ (l : List ℕ). Contains l name) (sym third) (Contains-push two name)
-
-  pub three_more : (more : List ℕ) × (new ≡ old ++ more)
-  three_more = (id ∷ array ∷ name ∷ [], rw (third, second, first) (simp append_assoc))
+  pub grown : (more : List ℕ) × (new ≡ old ++ more)
+  grown = (
+    (id ∷ second) ++ third,
+    third_is ∙ ap (λ (l : List ℕ). l ++ third)
+        (second_is ∙ ap (λ (l : List ℕ). l ++ second) first_is ∙ append_assoc old (id ∷ []) second)
+        ∙ append_assoc old (id ∷ second) third,
+  )
