@@ -1,10 +1,10 @@
 -- The report `threads` of two findings that say the same of each object which it names.
-use Rattle.std.specs.Prelude.{Contains, ◌==◌, ◌⊎◌, if◌then◌else◌}
+use Rattle.std.specs.Prelude.{◌==◌, ◌⊎◌, if◌then◌else◌}
 use Rattle.std.proofs.Common.{◌≡◌, ℕ, ◌+◌, Bool, List, [], ◌∷◌, ◌++◌, length, codes, inl, inr, refl, sym, ap, ◌∙◌}
 use Rattle.std.specs.Fmt.{decimal}
 use Rattle.std.specs.List.{All, filter, flat_map}
 use Rattle.std.proofs.lemmas.Bool.{eq-eqb}
-use Rattle.std.proofs.lemmas.List.Elements.{All-contains_itself, All-filter, All-head, All-tail}
+use Rattle.std.proofs.lemmas.List.Elements.{All-filter, All-head, All-tail}
 use Rattle.hprof_threads.specs.declared.held.Held.{Held}
 use Rattle.hprof_threads.specs.declared.held.Place.{Place}
 use Rattle.hprof_describe.specs.Findings.{Findings}
@@ -17,7 +17,7 @@ module _ (one other : Findings) (threads : ThreadFindings) where
   abbrev pub SameNode : ℕ → Type 0
   SameNode node = node_text one node ≡ node_text other node
 
-  abbrev SameHeld : Held → Type 0
+  abbrev pub SameHeld : Held → Type 0
   SameHeld held = SameNode held.object
 
   -- ---- what is held

@@ -12,11 +12,11 @@ use Rattle.hprof_passes.proofs.Tables.{has_same}
 use Rattle.hprof_threads.specs.declared.held.Held.{Held}
 use Rattle.hprof_threads.specs.declared.stack_frame.StackFrame.{StackFrame}
 use Rattle.hprof_threads.specs.declared.thread_root.ThreadRoot.{ThreadRoot}
-use Rattle.hprof_threads.specs.Frames.{HasFrame, IsClassOfFrame, IsFrameFound, IsFrameLine, IsLoadFound, IsLoaded}
+use Rattle.hprof_threads.specs.Frames.{HasFrame, IsClassOfFrame, IsFrameFound, IsFrameLine, IsLoadFound}
 use Rattle.hprof_threads.specs.Held.{AreHeldBy, IsHeld}
 use Rattle.hprof_threads.specs.Serials.{AreSerials, IsThread}
 use Rattle.hprof_threads.specs.Threads.{HasThreadRoot, IsRootOfThread, IsStartFound, IsStarted, IsThreadObject, IsThreadStack}
-use Rattle.hprof_threads.specs.Threads.{IsTraceFound, IsTraceOfRoot, IsTraced, fact_of_root}
+use Rattle.hprof_threads.specs.Threads.{IsTraceFound, IsTraceOfRoot, fact_of_root}
 use Rattle.hprof_holders.specs.ThreadFindings.{AreThreadFindings, ThreadFindings}
 
 module _ (ids : IdSize) (facts all : List FactValue) (whole : IsWhole ids facts all) where

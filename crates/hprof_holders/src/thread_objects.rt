@@ -40,7 +40,8 @@ fn push_thread(
     holds_of_heap(heap);
     let object = thread_object(heap, roots, serial);
     nodes.push(object)?;
-    push_held(nodes, held.held_by_thread(serial))
+    push_held(nodes, held.held_by_thread(serial))?;
+    Ok(())
 }
 
 /// Returns the objects of all threads, and all that threads hold, sorted, each once. 0 is among them if a thread has no object. If memory

@@ -42,7 +42,8 @@ fn push_next(
     let name = name_object(alloc, heap, classes, id)?;
     needed.push(id)?;
     push_some(needed, array)?;
-    push_some(needed, name)
+    push_some(needed, name)?;
+    Ok(())
 }
 
 /// Returns these identifiers, and those that are read next for their words: what their first fields `value` refer to, and the names of

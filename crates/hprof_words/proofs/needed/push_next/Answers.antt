@@ -5,7 +5,7 @@ use Rattle.hprof_words.proofs.needed.push_next.Goals as goal
 pub returns-clause-grows : goal.returns-clause-grows
 returns-clause-grows c =
     let second = c.in_ok-push_some.ensures.grows in
-    let third = c.push_some-2.ensures.grows in
+    let third = c.in_ok-push_some-2.ensures.grows in
     grown c.args.needed.now.items c.push.new.self.items c.push_some.new.ids.items c.push_some-2.new.ids.items c.args.id second.0 third.0
     c.in_ok-push.ensures.items second.1 third.1
 
@@ -22,9 +22,9 @@ returns-clause-has c =
     let new = c.push_some-2.new.ids.items in
     let first = c.in_ok-push.ensures.items in
     let second = c.in_ok-push_some.ensures.grows in
-    let third = c.push_some-2.ensures.grows in
+    let third = c.in_ok-push_some-2.ensures.grows in
     next_of_parts (size_of c.args.heap.now) (facts_of c.args.heap.now) id c.holds_of_heap.ensures.agree new array name
     (record { fields = text.0; are_fields = text.1; is = text.2 }) (record { fields = named.0; are_fields = named.1; is = named.2 })
     (has_first old one two new id second.0 third.0 first second.1 third.1)
     (has_second old one two new id second.0 third.0 first second.1 third.1 array c.in_ok-push_some.ensures.has)
-    c.push_some-2.ensures.has
+    c.in_ok-push_some-2.ensures.has

@@ -7,8 +7,8 @@ pub returns-in-Ok-few_next-2 : goal.returns-in-Ok-few_next-2
 returns-in-Ok-few_next-2 g c = (
   c.in-Ok-few_next-2.ensures.0,
   λ all make.
-      let named = c.in-Ok-few_next.ensures.1 all make in
+      let named = c.in-Ok.ensures.1 all make in
       let last = c.in-Ok-few_next-2.ensures.1 all make in
       words_heap_of (heap_of c.args.heap.now).millis (size_of c.args.heap.now) all c.in-Ok-few_next-2.words.heap
-      c.args.few.wanted.items c.in-Ok-few_next.named.wanted.items c.in-Ok-few_next-2.words.wanted.items named.1 last.1 last.0,
+      c.args.few.wanted.items c.in-Ok.named.wanted.items c.in-Ok-few_next-2.words.wanted.items named.1 last.1 last.0,
 )
