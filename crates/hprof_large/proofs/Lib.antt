@@ -1,2 +1,1 @@
 mod NamedKind
-mod NamedDumps

@@ -17,4 +17,4 @@ report_of passed.Threads = reports.Heap heaps.Threads
 report_of (passed.Objects these) = reports.Kind kinds.Objects these
 report_of (passed.Object id) = reports.Node nodes.Object (that.Identifier id)
 report_of (passed.Text id) = reports.Node nodes.Text (that.Identifier id)
-report_of (passed.Show node) = reports.Node nodes.Show node
+report_of (passed.Show id) = reports.Node nodes.Show (that.Identifier id)

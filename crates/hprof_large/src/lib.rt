@@ -6,6 +6,5 @@
 mod checked;
 mod named;
 mod passed_report;
-mod shown;
 
 pub use passed_report::PassedReport;

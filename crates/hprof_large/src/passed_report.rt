@@ -4,7 +4,6 @@ ghost use Rattle.std.specs.Prelude.{◌≡◌};
 
 use crate::checked::write_check;
 use crate::named::write_objects;
-use crate::shown::write_show;
 use hprof_ask::Reporting;
 use hprof_devices::Target;
 use hprof_engine::{Summaries, WriteStop};
@@ -15,6 +14,7 @@ use hprof_making::PassProduct;
 use hprof_passes::{Objects, PassStop};
 use hprof_questions::{HeapReport, KindReport, Kinds, Node, NodeReport, Report};
 use hprof_reports::{write_classes_over, write_histogram_over, write_object_over, write_text_over};
+use hprof_show::write_show_over;
 use hprof_stream::PartSummary;
 use std::alloc::{AllocError, Global};
 
@@ -35,8 +35,8 @@ pub enum PassedReport<'a> {
     Object(u64),
     /// `text`: the text of a string, or of an array of chars or bytes.
     Text(u64),
-    /// `show`: the contents of a class, an instance or an array, decoded, or of the class that a name means.
-    Show(Node<'a>),
+    /// `show`: the contents of a class, an instance or an array, decoded.
+    Show(u64),
 }
 
 impl<'a> PassedReport<'a> {
@@ -59,7 +59,7 @@ impl<'a> PassedReport<'a> {
                 Some(PassedReport::Object(id))
             }
             Report::Node(NodeReport::Text, Node::Identifier(id)) => Some(PassedReport::Text(id)),
-            Report::Node(NodeReport::Show, node) => Some(PassedReport::Show(node)),
+            Report::Node(NodeReport::Show, Node::Identifier(id)) => Some(PassedReport::Show(id)),
             Report::Heap(HeapReport::Suspects | HeapReport::Retained)
             | Report::Kind(KindReport::Biggest, _)
             | Report::Node(_, _) => None,
@@ -78,7 +78,7 @@ impl<'a> PassedReport<'a> {
             PassedReport::Objects(kinds) => Report::Kind(KindReport::Objects, kinds),
             PassedReport::Object(id) => Report::Node(NodeReport::Object, Node::Identifier(id)),
             PassedReport::Text(id) => Report::Node(NodeReport::Text, Node::Identifier(id)),
-            PassedReport::Show(node) => Report::Node(NodeReport::Show, node),
+            PassedReport::Show(id) => Report::Node(NodeReport::Show, Node::Identifier(id)),
         }
     }
 
@@ -146,7 +146,7 @@ impl PassProduct for PassedReport<'_> {
             PassedReport::Objects(kinds) => write_objects(alloc, heap, objects, kinds, target),
             PassedReport::Object(id) => write_object_over(alloc, heap, objects, id, target),
             PassedReport::Text(id) => write_text_over(alloc, heap, objects, id, target),
-            PassedReport::Show(node) => write_show(alloc, heap, objects, node, target),
+            PassedReport::Show(id) => write_show_over(alloc, heap, objects, id, target),
         }
     }
 }

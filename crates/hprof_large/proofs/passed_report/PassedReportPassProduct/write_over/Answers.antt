@@ -8,13 +8,14 @@ use Rattle.hprof_reports.specs.ClassesText.{IsClassesText}
 use Rattle.hprof_reports.specs.HistogramText.{IsHistogramText}
 use Rattle.hprof_reports.specs.ObjectText.{IsObjectText}
 use Rattle.hprof_reports.specs.TextReport.{IsTextLine}
+use Rattle.hprof_show.specs.ShowText.{IsShowText}
 use Rattle.hprof_holders.specs.ThreadsText.{IsThreadsText}
 use Rattle.hprof_ask.specs.Summarised.{Holds}
 use Rattle.hprof_ask.specs.Report.{IsReportText, RefusesReport}
 use Rattle.hprof_making.specs.Over.{EndsOver, heap_with}
 use Rattle.hprof_making.proofs.Passed.{ends_fewer, ends_over}
 use Rattle.hprof_large.specs.declared.passed_report.PassedReport.{PassedReport}
-use Rattle.hprof_large.specs.declared.passed_report.PassedReport.TheVariants.{Objects, Show}
+use Rattle.hprof_large.specs.declared.passed_report.PassedReport.TheVariants.{Objects}
 use Rattle.hprof_large.specs.PassedReport.{report_of}
 use Rattle.hprof_large.proofs.passed_report.PassedReportPassProduct.write_over.Goals as goal
 
@@ -154,15 +155,16 @@ returns-in-Show g c = λ summaries holds.
     let ids = size_of c.args.heap.now in
     let facts = facts_of c.args.heap.now in
     let objects = c.args.objects.now in
+    let report = report_of c.args.self.now in
     let MakeUp = g.O.Objects.make_up objects ids facts in
-    let Made = MadeUpWith MakeUp ids c.args.known in
     let agree = g.O.Objects.agree objects ids facts in
     let tells = g.O.Objects.tells objects ids facts in
-    subst (λ (p : PassedReport). EndsOver Made agree tells
-    (λ all. IsReportText (report_of p) summaries (heap_with (heap_of c.args.heap.now) all))
-    (λ refusal all. RefusesReport all (report_of p) refusal) g.W.Target.written g.W.Target.health c.args.target.now
-    c.write_show.new.target c.write_show.result) (sym c.in-Show.is)
-    (ends_fewer MakeUp Made agree tells
-    (λ all. IsReportText (report_of (Show c.in-Show.node)) summaries (heap_with (heap_of c.args.heap.now) all))
-    (λ refusal all. RefusesReport all (report_of (Show c.in-Show.node)) refusal) g.W.Target.written g.W.Target.health
-    c.args.target.now c.write_show.new.target (λ all made. made.0) c.write_show.result (c.write_show.ensures summaries))
+    ends_fewer MakeUp (MadeUpWith MakeUp ids c.args.known) agree tells
+    (λ all. IsReportText report summaries (heap_with (heap_of c.args.heap.now) all)) (λ refusal all. RefusesReport all report refusal)
+    g.W.Target.written g.W.Target.health c.args.target.now c.write_show_over.new.target (λ all made. made.0) c.write_show_over.result
+    (ends_over MakeUp agree tells (λ all. IsShowText ids all c.in-Show.id)
+    (λ all. IsReportText report summaries (heap_with (heap_of c.args.heap.now) all)) g.W.Target.written g.W.Target.health
+    c.args.target.now c.write_show_over.new.target (λ all text make is. subst
+    (λ (p : PassedReport). IsReportText (report_of p) summaries (heap_with (heap_of c.args.heap.now) all) text)
+    (sym c.in-Show.is) is)
+    (λ refusal all. RefusesReport all report refusal) c.write_show_over.result c.write_show_over.ensures)
