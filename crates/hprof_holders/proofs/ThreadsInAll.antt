@@ -1,7 +1,6 @@
 -- The report `threads` of a small heap that has all objects which it is read from is that of the whole.
 use Rattle.std.specs.Prelude.{Contains, ◌⊎◌}
 use Rattle.std.proofs.Common.{◌≡◌, ℕ, List, inl, inr, subst, ◌∙◌}
-use Rattle.std.specs.List.{All}
 use Rattle.std.proofs.lemmas.List.Elements.{All-contains_itself, All-weaker}
 use Rattle.hprof_values.specs.declared.ids.IdSize.{IdSize}
 use Rattle.hprof_items.specs.FactValue.{FactValue}
@@ -11,9 +10,7 @@ use Rattle.hprof_heap.specs.declared.heap.Heap.{Heap}
 use Rattle.hprof_heap.specs.HeapFacts.{facts_of, size_of}
 use Rattle.hprof_passes.specs.Passing.{IsWhole}
 use Rattle.hprof_small.specs.Small.{IsSmall}
-use Rattle.hprof_threads.specs.declared.held.Held.{Held}
 use Rattle.hprof_describe.specs.Findings.{AreFindings, Findings}
-use Rattle.hprof_describe.specs.Nodes.{node_text}
 use Rattle.hprof_describe.proofs.OneFinding.{findings_exist}
 use Rattle.hprof_words.specs.Words.{HasWords, IsWordsHeap}
 use Rattle.hprof_words.proofs.Among.{among_of_contains}

@@ -1,5 +1,5 @@
 use Rattle.std.proofs.Common.{◌++◌}
-use Rattle.hprof_holders.proofs.PushedThreads.{all_appended, objects_in, one_appended}
+use Rattle.hprof_holders.proofs.PushedThreads.{objects_in, one_appended}
 use Rattle.hprof_holders.proofs.thread_objects.push_held.Goals as goal
 
 pub loop-held-preserved : goal.loop-held-preserved
