@@ -6,8 +6,8 @@ use Rattle.hprof_show.specs.ShownObjects.{IsShownHeap}
 use Rattle.hprof_show.proofs.FewHeaps.{shown_heap}
 use Rattle.hprof_show.proofs.few.show_heap.Goals as goal
 
-pub returns-in-Ok : goal.returns-in-Ok
-returns-in-Ok g c =
+pub returns : goal.returns
+returns g c =
     let ids = size_of c.args.heap.now in
     let facts = facts_of c.args.heap.now in
     let millis = (heap_of c.args.heap.now).millis in
