@@ -9,6 +9,7 @@ use Rattle.hprof_reports.specs.HistogramText.{IsHistogramText}
 use Rattle.hprof_reports.specs.ObjectText.{IsObjectText}
 use Rattle.hprof_reports.specs.TextReport.{IsTextLine}
 use Rattle.hprof_show.specs.ShowText.{IsShowText}
+use Rattle.hprof_holders.specs.ThreadsText.{IsThreadsText}
 use Rattle.hprof_ask.specs.Summarised.{Holds}
 use Rattle.hprof_ask.specs.Report.{IsReportText, RefusesReport}
 use Rattle.hprof_making.specs.Over.{EndsOver, heap_with}
@@ -68,6 +69,26 @@ returns-in-Classes g c = λ summaries holds.
     (λ (p : PassedReport). IsReportText (report_of p) summaries (heap_with (heap_of c.args.heap.now) all) text)
     (sym c.in-Classes.is) is)
     (λ refusal all. RefusesReport all report refusal) c.write_classes_over.result c.write_classes_over.ensures
+
+pub returns-in-Threads : goal.returns-in-Threads
+unfolding facts_of size_of
+returns-in-Threads g c = λ summaries holds.
+    let ids = size_of c.args.heap.now in
+    let facts = facts_of c.args.heap.now in
+    let objects = c.args.objects.now in
+    let report = report_of c.args.self.now in
+    let MakeUp = g.O.Objects.make_up objects ids facts in
+    let agree = g.O.Objects.agree objects ids facts in
+    let tells = g.O.Objects.tells objects ids facts in
+    ends_fewer MakeUp (MadeUpWith MakeUp ids c.args.known) agree tells
+    (λ all. IsReportText report summaries (heap_with (heap_of c.args.heap.now) all)) (λ refusal all. RefusesReport all report refusal)
+    g.W.Target.written g.W.Target.health c.args.target.now c.write_threads_over.new.target (λ all made. made.0) c.write_threads_over.result
+    (ends_over MakeUp agree tells (IsThreadsText ids)
+    (λ all. IsReportText report summaries (heap_with (heap_of c.args.heap.now) all)) g.W.Target.written g.W.Target.health
+    c.args.target.now c.write_threads_over.new.target (λ all text make is. subst
+    (λ (p : PassedReport). IsReportText (report_of p) summaries (heap_with (heap_of c.args.heap.now) all) text)
+    (sym c.in-Threads.is) is)
+    (λ refusal all. RefusesReport all report refusal) c.write_threads_over.result c.write_threads_over.ensures)
 
 pub returns-in-Objects : goal.returns-in-Objects
 unfolding facts_of size_of

@@ -19,7 +19,7 @@ use Rattle.hprof_threads.specs.ThreadNames.{HoldsName, IsFirstHolding, IsNameObj
 use Rattle.hprof_reports.specs.TextObjects.{HasValueArray}
 use Rattle.hprof_reports.proofs.SmallFields.{fields_in_all}
 use Rattle.hprof_reports.proofs.SmallTexts.{name_kept, text_in_all}
-use Rattle.hprof_show.specs.ShownObjects.{HasWords}
+use Rattle.hprof_words.specs.Words.{HasWords}
 
 module _ (ids : IdSize) (wanted : List ℕ) (all small : List FactValue) (is : IsSmall ids wanted all small) where
   -- ---- the field that holds a name

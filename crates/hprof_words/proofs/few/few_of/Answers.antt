@@ -3,7 +3,7 @@ use Rattle.std.proofs.Common.{ℕ, List, refl, subst, sym}
 use Rattle.hprof_heap.specs.Heap.{heap_of}
 use Rattle.hprof_heap.specs.HeapFacts.{size_of}
 use Rattle.hprof_small.specs.Small.{IsSmallHeap}
-use Rattle.hprof_show.proofs.few.few_of.Goals as goal
+use Rattle.hprof_words.proofs.few.few_of.Goals as goal
 
 pub small_heap-requires : goal.small_heap-requires
 small_heap-requires g c = subst IsStrictlyIncreasing (sym c.deref.ensures.value) c.requires

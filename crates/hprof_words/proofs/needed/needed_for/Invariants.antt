@@ -1,7 +1,7 @@
 use Rattle.std.proofs.Common.{ℕ, ◌<◌, get_or}
 use Rattle.hprof_heap.specs.HeapFacts.{facts_of, size_of}
-use Rattle.hprof_show.specs.ShownObjects.{HasNext}
-use Rattle.hprof_show.proofs.needed.needed_for.Given as goal
+use Rattle.hprof_words.specs.Words.{HasNext}
+use Rattle.hprof_words.proofs.needed.needed_for.Given as goal
 
 abbrev pub invariant-loop-id : goal.invariant-loop-id
 invariant-loop-id l =

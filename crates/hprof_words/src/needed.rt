@@ -1,11 +1,11 @@
 //! The objects from which the words for other objects are read: those that their first fields `value` refer to, which are the arrays of
 //! strings, and the names of threads.
 
-ghost use Rattle.std.specs.Prelude.{◌≡◌, ◌++◌, List, ℕ, IfOk, OnOk};
+ghost use Rattle.std.specs.Prelude.{◌≡◌, ◌⊎◌, ◌++◌, List, ℕ, Contains, IfOk, OnOk};
 ghost use Rattle.std.specs.List.Sorted.{IsStrictlyIncreasing};
 ghost use Rattle.hprof_heap.specs.HeapFacts.{facts_of, size_of};
 ghost use Rattle.hprof_naming.specs.ClassNames.{AreClassNames};
-ghost use Rattle.hprof_show.specs.ShownObjects.{HasNext, HasNextOf};
+ghost use Rattle.hprof_words.specs.Words.{HasNext, HasNextOf};
 
 use hprof_heap::{Heap, holds_of_heap};
 use hprof_naming::ClassNames;
@@ -14,7 +14,18 @@ use hprof_reports::value_array;
 use hprof_threads::name_object;
 use std::alloc::{AllocError, Global};
 
-/// Appends an object, what its first field `value` refers to, and the name of the thread that it is the object of: 0 where there is none.
+/// Appends an identifier, unless it is 0.
+fn push_some(ids: &mut Vec<u64>, id: u64) -> Result<(), AllocError>
+    ensures grows { OnOk result ((more : List ℕ) × (ids.new.items ≡ ids.old.items ++ more)) }
+    ensures has { OnOk result ((id ≡ 0) ⊎ Contains ids.new.items id) }
+{
+    if id != 0 {
+        ids.push(id)?;
+    }
+    Ok(())
+}
+
+/// Appends an object, what its first field `value` refers to, and the name of the thread that it is the object of.
 fn push_next(
     alloc: Global,
     heap: &Heap,
@@ -30,8 +41,8 @@ fn push_next(
     let array = value_array(alloc, heap, id)?;
     let name = name_object(alloc, heap, classes, id)?;
     needed.push(id)?;
-    needed.push(array)?;
-    needed.push(name)?;
+    push_some(needed, array)?;
+    push_some(needed, name)?;
     Ok(())
 }
 

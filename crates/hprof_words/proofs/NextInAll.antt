@@ -18,23 +18,22 @@ use Rattle.hprof_small.proofs.SmallHas.{dump_kept, object_kept, small_has}
 use Rattle.hprof_reports.specs.TextObjects.{IsValueArray}
 use Rattle.hprof_reports.proofs.SmallFields.{fields_in_all}
 use Rattle.hprof_reports.proofs.SmallTexts.{name_kept}
-use Rattle.hprof_show.specs.ShownObjects.{HasNext, HasNextOf, HasShown, HasShownIds, HasWords}
-use Rattle.hprof_show.proofs.Among.{among_of_contains}
-use Rattle.hprof_show.proofs.SmallNames.{name_object_in_small}
+use Rattle.hprof_words.specs.Words.{HasNext, HasNextOf, HasWords, HasWordsOf}
+use Rattle.hprof_words.proofs.SmallNames.{name_object_in_small}
 
 module _ (ids : IdSize) (wanted : List ℕ) (all small : List FactValue) (is : IsSmall ids wanted all small) where
   -- ---- what is found
 
-  class_in_small : (id : ℕ) (class : Option ClassValue) → IsClassFound all id class → IsClassFound small id class
+  pub class_in_small : (id : ℕ) (class : Option ClassValue) → IsClassFound all id class → IsClassFound small id class
   class_in_small id (Some dump) found = (dump_kept ids wanted all small is dump found.0, found.1)
   class_in_small id None none = λ dump has. none dump (small_has ids wanted all small is (fact_of_class dump) has)
 
-  object_in_small : (id : ℕ) → IsTrue (is_among wanted id) → (object : Option FactValue) → IsObjectFound all id object
+  pub object_in_small : (id : ℕ) → IsTrue (is_among wanted id) → (object : Option FactValue) → IsObjectFound all id object
       → IsObjectFound small id object
   object_in_small id among (Some fact) found = (object_kept ids wanted all small is id among fact found.1 found.0, found.1)
   object_in_small id among None none = λ fact has. none fact (small_has ids wanted all small is fact has)
 
-  fields_in_small : IsConsistent all → (id : ℕ) → IsTrue (is_among wanted id) → (fields : FieldsValue) → AreFields ids all id fields
+  pub fields_in_small : IsConsistent all → (id : ℕ) → IsTrue (is_among wanted id) → (fields : FieldsValue) → AreFields ids all id fields
       → AreFields ids small id fields
   fields_in_small agree id among fields are =
       let shown = fields_exist ids small id in
@@ -67,12 +66,6 @@ module _ (ids : IdSize) (wanted : List ℕ) (all small : List FactValue) (is : I
   -- ---- lists that have it all
 
   module _ (agree : IsConsistent all) where
-    pub shown_in_all : (id : ℕ) → IsTrue (is_among wanted id) → (shown : List ℕ) → HasShownIds ids small id shown
-        → HasShownIds ids all id shown
-    shown_in_all id among shown has = λ fields class object are class_is object_is.
-        has fields class object (fields_in_small agree id among fields are) (class_in_small id class class_is)
-        (object_in_small id among object object_is)
-
     next_in_all : (needed : List ℕ) (id : ℕ) → IsTrue (is_among wanted id) → HasNext ids small needed id → HasNext ids all needed id
     next_in_all needed id among has = record {
       object = has.object;
@@ -86,9 +79,9 @@ module _ (ids : IdSize) (wanted : List ℕ) (all small : List FactValue) (is : I
     next_of_in_all needed has = λ id among. next_in_all needed id among (has id among)
 
 -- what is needed next of what is needed next is all that the words are read from
-words_of_two : (ids : IdSize) (facts : List FactValue) (some next last : List ℕ) → HasNextOf ids facts some next
-    → HasNextOf ids facts next last → (id : ℕ) → IsTrue (is_among some id) → HasWords ids facts last id
-words_of_two ids facts some next last one two id among =
+pub words_of_two : (ids : IdSize) (facts : List FactValue) (some next last : List ℕ) → HasNextOf ids facts some next
+    → HasNextOf ids facts next last → HasWordsOf ids facts some last
+words_of_two ids facts some next last one two = λ id among.
     let first = one id among in
     record {
       next = two id first.object;
@@ -97,9 +90,3 @@ words_of_two ids facts some next last one two id among =
         | inr there ↦ inr (two name there).array
       ];
     }
-
-pub has_shown_of : (ids : IdSize) (facts : List FactValue) (id : ℕ) (some next last : List ℕ) → HasShownIds ids facts id some
-    → HasNextOf ids facts some next → HasNextOf ids facts next last → HasShown ids facts id last
-has_shown_of ids facts id some next last has one two = λ fields class object are class_is object_is shown here.
-    words_of_two ids facts some next last one two shown
-    (among_of_contains some shown (has fields class object are class_is object_is shown here))

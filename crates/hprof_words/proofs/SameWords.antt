@@ -2,8 +2,6 @@
 use Rattle.std.specs.Prelude.{◌==◌, bytes_eq, if◌then◌else◌}
 use Rattle.std.proofs.Common.{◌≡◌, ℕ, List, ◌++◌, Option, Some, None, refl, ap, codes, ◌∙◌}
 use Rattle.hprof_text.specs.Identifier.{id_digits}
-use Rattle.hprof_values.specs.declared.basic.Basic.{Basic}
-use Rattle.hprof_values.specs.declared.basic.Basic.TheVariants as basics
 use Rattle.hprof_items.specs.FactValue.{FactValue, Instance}
 use Rattle.hprof_heap.specs.Classes.{ClassValue}
 use Rattle.hprof_naming.specs.Texts.{TextValue}
@@ -12,8 +10,6 @@ use Rattle.hprof_describe.specs.Findings.{Findings}
 use Rattle.hprof_describe.specs.Nodes.{kind_of, kind_text, name_of_node, node_text}
 use Rattle.hprof_describe.specs.Quoted.{behind_label}
 use Rattle.hprof_describe.specs.References.{object_words, reference_text, reference_words, text_of_instance}
-use Rattle.hprof_describe.specs.Values.{value_text}
-use Rattle.hprof_show.specs.Shown.{referent}
 
 -- the findings with other objects, texts and names of threads
 abbrev pub with_others : Findings → (ℕ → Option FactValue) → (ℕ → TextValue) → (ℕ → Option (List ℕ)) → Findings
@@ -61,7 +57,7 @@ module _ (one : Findings) (object : ℕ → Option FactValue) (text : ℕ → Te
     reference_same =
         ap (λ (w : List ℕ). if id == 0 then codes "null" else id_digits id ++ codes " " ++ w) (words_same (one.class id))
 
-    kind_same : kind_text one id ≡ kind_text other id
+    pub kind_same : kind_text one id ≡ kind_text other id
     unfolding kind_text
     kind_same = ap (λ (o : Option FactValue). kind_of one.naming id (one.class id) o) agrees.object_is
 
@@ -71,16 +67,3 @@ module _ (one : Findings) (object : ℕ → Option FactValue) (text : ℕ → Te
         ap (λ (k : List ℕ). id_digits id ++ codes " " ++ k ++ behind_label (name_of_node (one.class id) (one.thread_name id))) kind_same
         ∙ ap (λ (n : Option (List ℕ)). id_digits id ++ codes " " ++ kind_text other id ++ behind_label (name_of_node (one.class id) n))
         agrees.name_is
-
-  pub value_same : (basic : Basic) (bits : ℕ) → Agrees (referent basic bits) → value_text one basic bits ≡ value_text other basic bits
-  unfolding value_text
-  value_same basics.Array bits agrees = reference_same bits agrees
-  value_same basics.Object bits agrees = reference_same bits agrees
-  value_same basics.Boolean bits agrees = refl
-  value_same basics.Char bits agrees = refl
-  value_same basics.Float bits agrees = refl
-  value_same basics.Double bits agrees = refl
-  value_same basics.Byte bits agrees = refl
-  value_same basics.Short bits agrees = refl
-  value_same basics.Int bits agrees = refl
-  value_same basics.Long bits agrees = refl

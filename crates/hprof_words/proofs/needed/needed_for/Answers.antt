@@ -3,10 +3,10 @@ use Rattle.std.proofs.Common.{ℕ, List, get_or, below_more, sym, subst, arith, 
 use Rattle.std.proofs.lemmas.List.{get_or_default}
 use Rattle.std.proofs.lemmas.List.Elements.{Contains-append_left}
 use Rattle.hprof_heap.specs.HeapFacts.{facts_of, size_of}
-use Rattle.hprof_show.specs.ShownObjects.{HasNext}
-use Rattle.hprof_show.proofs.Among.{contains_of_among}
-use Rattle.hprof_show.proofs.NextParts.{next_of_more}
-use Rattle.hprof_show.proofs.needed.needed_for.Goals as goal
+use Rattle.hprof_words.specs.Words.{HasNext}
+use Rattle.hprof_words.proofs.Among.{contains_of_among}
+use Rattle.hprof_words.proofs.NextParts.{next_of_more}
+use Rattle.hprof_words.proofs.needed.needed_for.Goals as goal
 
 pub loop-id-preserved : goal.loop-id-preserved
 loop-id-preserved c =

@@ -2,10 +2,10 @@ use Rattle.std.proofs.Common.{◌≡◌, ℕ, List, subst, sym}
 use Rattle.hprof_heap.specs.Heap.{heap_of}
 use Rattle.hprof_heap.specs.HeapFacts.{facts_of, size_of}
 use Rattle.hprof_reports.proofs.FoundSo.{found_so}
-use Rattle.hprof_show.specs.Few.{IsFew}
-use Rattle.hprof_show.specs.ShownObjects.{HasNextOf}
-use Rattle.hprof_show.proofs.FewHeaps.{next_read}
-use Rattle.hprof_show.proofs.few.few_next.Goals as goal
+use Rattle.hprof_words.specs.Few.{IsFew}
+use Rattle.hprof_words.specs.Words.{HasNextOf}
+use Rattle.hprof_words.proofs.WordsHeaps.{next_read}
+use Rattle.hprof_words.proofs.few.few_next.Goals as goal
 
 pub returns-in-Ok : goal.returns-in-Ok
 returns-in-Ok g c =
