@@ -3,7 +3,7 @@ use Rattle.std.proofs.Common.{ap, arith, inl, inr, refl, ◌∙◌}
 use Rattle.hprof_numbers.specs.Lists.{IsListed, start_in}
 use Rattle.hprof_numbers.specs.Numbers.{items_in}
 use Rattle.hprof_reach.specs.NumberedGraph.{node_at}
-use Rattle.hprof_reach.proofs.NumberedTargets.{IsPassed, puts_more, puts_none}
+use Rattle.hprof_reach.proofs.NumberedTargets.{puts_more, puts_none}
 use Rattle.hprof_reach.proofs.numbered_edges.push_targets.Goals as goal
 
 pub loop-place-init : goal.loop-place-init

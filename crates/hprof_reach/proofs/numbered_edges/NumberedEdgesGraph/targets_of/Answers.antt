@@ -1,5 +1,5 @@
 use Rattle.std.specs.Prelude.{Contains}
-use Rattle.std.proofs.Common.{ℕ, List, Some, None, [], inl, inr, sym, ap, subst, arith, ◌≡◌, ◌∙◌}
+use Rattle.std.proofs.Common.{ℕ, List, Some, [], inl, inr, sym, subst, arith, ◌≡◌, ◌∙◌}
 use Rattle.hprof_numbers.specs.Lists.{IsListed}
 use Rattle.hprof_numbers.specs.Numbered.{nodes_in}
 use Rattle.hprof_numbers.proofs.Placed.{has_place, nowhere, stands}
