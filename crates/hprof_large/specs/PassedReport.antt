@@ -18,3 +18,5 @@ report_of (passed.Objects these) = reports.Kind kinds.Objects these
 report_of (passed.Object id) = reports.Node nodes.Object (that.Identifier id)
 report_of (passed.Text id) = reports.Node nodes.Text (that.Identifier id)
 report_of (passed.Show id) = reports.Node nodes.Show (that.Identifier id)
+report_of (passed.Refs id) = reports.Node nodes.Refs (that.Identifier id)
+report_of (passed.Path id) = reports.Node nodes.Path (that.Identifier id)

@@ -13,7 +13,10 @@ use hprof_holders::write_threads_over;
 use hprof_making::PassProduct;
 use hprof_passes::{Objects, PassStop};
 use hprof_questions::{HeapReport, KindReport, Kinds, Node, NodeReport, Report};
-use hprof_reports::{write_classes_over, write_histogram_over, write_object_over, write_text_over};
+use hprof_reports::{
+    write_classes_over, write_histogram_over, write_object_over, write_path_over, write_refs_over,
+    write_text_over,
+};
 use hprof_show::write_show_over;
 use hprof_stream::PartSummary;
 use std::alloc::{AllocError, Global};
@@ -37,6 +40,10 @@ pub enum PassedReport<'a> {
     Text(u64),
     /// `show`: the contents of a class, an instance or an array, decoded.
     Show(u64),
+    /// `refs`: each reference to an identifier.
+    Refs(u64),
+    /// `path`: the shortest path from a GC root to an identifier.
+    Path(u64),
 }
 
 impl<'a> PassedReport<'a> {
@@ -60,6 +67,8 @@ impl<'a> PassedReport<'a> {
             }
             Report::Node(NodeReport::Text, Node::Identifier(id)) => Some(PassedReport::Text(id)),
             Report::Node(NodeReport::Show, Node::Identifier(id)) => Some(PassedReport::Show(id)),
+            Report::Node(NodeReport::Refs, Node::Identifier(id)) => Some(PassedReport::Refs(id)),
+            Report::Node(NodeReport::Path, Node::Identifier(id)) => Some(PassedReport::Path(id)),
             Report::Heap(HeapReport::Suspects | HeapReport::Retained)
             | Report::Kind(KindReport::Biggest, _)
             | Report::Node(_, _) => None,
@@ -79,6 +88,8 @@ impl<'a> PassedReport<'a> {
             PassedReport::Object(id) => Report::Node(NodeReport::Object, Node::Identifier(id)),
             PassedReport::Text(id) => Report::Node(NodeReport::Text, Node::Identifier(id)),
             PassedReport::Show(id) => Report::Node(NodeReport::Show, Node::Identifier(id)),
+            PassedReport::Refs(id) => Report::Node(NodeReport::Refs, Node::Identifier(id)),
+            PassedReport::Path(id) => Report::Node(NodeReport::Path, Node::Identifier(id)),
         }
     }
 
@@ -147,6 +158,8 @@ impl PassProduct for PassedReport<'_> {
             PassedReport::Object(id) => write_object_over(alloc, heap, objects, id, target),
             PassedReport::Text(id) => write_text_over(alloc, heap, objects, id, target),
             PassedReport::Show(id) => write_show_over(alloc, heap, objects, id, target),
+            PassedReport::Refs(id) => write_refs_over(alloc, heap, objects, id, target),
+            PassedReport::Path(id) => write_path_over(alloc, heap, objects, id, target),
         }
     }
 }
