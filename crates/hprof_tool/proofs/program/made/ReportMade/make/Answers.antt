@@ -21,11 +21,6 @@ returns-in-Some-again g c =
     (passed_makes g.R.Source.left g.R.Source.health g.R.Source.pulls usual_limits g.W.Target.written g.W.Target.health c.args.readers.now
     c.make_again.new.readers c.args.target.now c.make_again.new.target (fault_of c.make_again.result) c.in-Some.passed c.make_again.ensures)
 
-pub returns-in-None : goal.returns-in-None
-returns-in-None g c = heap_makes g.R.Source.left g.R.Source.health g.R.Source.pulls usual_limits g.W.Target.written g.W.Target.health
-    c.args.readers.now c.make_of_heap.new.readers c.args.target.now c.make_of_heap.new.target (fault_of c.make_of_heap.result)
-    c.args.self.now c.make_of_heap.ensures
-
 -- references are found while parts are read
 
 pub returns-in-Node-Refs-Identifier : goal.returns-in-Node-Refs-Identifier
