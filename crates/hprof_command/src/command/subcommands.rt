@@ -130,10 +130,8 @@ fn heap_reads_again(report: HeapReport) -> bool
     ensures { result ≡ heap_reads_again report }
 {
     match report {
-        HeapReport::Check
-        | HeapReport::Histogram
-        | HeapReport::Classes
-        | HeapReport::Threads => true,
+        HeapReport::Check | HeapReport::Histogram | HeapReport::Classes | HeapReport::Threads =>
+            true,
         HeapReport::Suspects | HeapReport::Retained => false,
     }
 }

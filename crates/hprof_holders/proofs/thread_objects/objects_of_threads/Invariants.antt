@@ -5,4 +5,4 @@ use Rattle.hprof_holders.proofs.thread_objects.objects_of_threads.Given as goal
 
 abbrev pub invariant-loop-serial : goal.invariant-loop-serial
 invariant-loop-serial l =
-    (k : ℕ) → k < l.serial-index → HasThreadObjects (facts_of l.heap) l.nodes.items (get_or l.serials.items k 0)
+    (k : ℕ) → k < l.serial-index → HasThreadObjects (facts_of l.heap) l.nodes.items (get_or l.serial-items k 0)
