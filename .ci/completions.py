@@ -12,7 +12,7 @@ COMMAND = re.compile(r'word: "(\w+)",\s+about: "([^"]*)",\s+help: [\w:]+,\s+argu
 # Which commands take the option --memory: each in its row, but reports in an arm of their own.
 TAKES_MEMORY = re.compile(r'word: "(\w+)",[^}]*takes_memory: true')
 REPORT_ROW = re.compile(r'(\w+Report::\w+) => ReportRow \{\s+word: "(\w+)"')
-READS_AGAIN = re.compile(r"(?m)^\s+((?:\w+Report::\w+(?:\s+\| )?)+) => true,$")
+READS_AGAIN = re.compile(r"(?m)^\s+((?:\w+Report::\w+(?:\s+\| )?)+) =>\s+true,$")
 # The list that a completion has a command in, by what the command takes before dumps.
 TAKES = {
     "Nothing": "heaps",
