@@ -1,5 +1,6 @@
 mod Noting
 mod Facts
+mod FrontRead
 mod Ended
 mod Fresh
 mod Read
