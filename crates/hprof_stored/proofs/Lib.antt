@@ -23,3 +23,7 @@ pub mod StoredMakes
 mod JoinMakes
 pub mod AgainMakes
 pub mod Untold
+mod SavedRows
+mod SavedMore
+mod Saved
+mod SalvageAgain
