@@ -5,6 +5,7 @@
 
 mod kind_numbers;
 mod kinds;
+mod label_sink;
 mod labelling;
 mod labels;
 pub mod laws;
@@ -15,5 +16,5 @@ mod row;
 mod rows;
 mod texts;
 
-pub use labels::{NodeLabels, labels_of};
-pub use report::write_retained;
+pub use labels::{NodeLabels, labels_of, labels_over};
+pub use report::{write_retained, write_retained_over};
