@@ -35,18 +35,18 @@ IsLabelling facts labelling = (kind : Kind) (number : ℕ) → IsKept labelling.
 
 -- ---- labels of nodes
 
--- the number is that of the label that these objects give a node
+-- the number is that of the label of what was found of a node
 --   facts: they tell the names of classes
-abbrev pub IsNumberSoFar : (facts objects : List FactValue) → Labelling → ℕ → ℕ → Type 0
-IsNumberSoFar facts objects labelling node number = (text : List ℕ) × ((object : Option FactValue) × IsObjectFound objects node object
-    × IsFoundLabel facts object text) × IsTextIn labelling.texts.texts.items number text
+abbrev pub IsNumberOfFound : List FactValue → Labelling → ℕ → Option FactValue → Type 0
+IsNumberOfFound facts labelling number found =
+    (text : List ℕ) × IsFoundLabel facts found text × IsTextIn labelling.texts.texts.items number text
 
--- each node with a place has there the number of its label, and its size
+-- these objects give each node with a place the label with the number there, and the size
 module _ (ids : IdSize) (facts objects : List FactValue) (retained : Retained) (labelling : Labelling) (of_places sizes : List ℕ) where
   pub record AreLabelled : Type 0 where
     pub labels : (number : ℕ) → number < length (nodes_in retained.nodes) → 0 < tree.place_of retained.tree number
-        → IsNumberSoFar facts objects labelling (slice_index (nodes_in retained.nodes) number)
-        (slice_index of_places (tree.place_of retained.tree number))
+        → (found : Option FactValue) × IsObjectFound objects (slice_index (nodes_in retained.nodes) number) found
+        × IsNumberOfFound facts labelling (slice_index of_places (tree.place_of retained.tree number)) found
     pub sizes : (number : ℕ) → number < length (nodes_in retained.nodes) → 0 < tree.place_of retained.tree number
         → IsSizeOf ids objects (slice_index (nodes_in retained.nodes) number) (slice_index sizes (tree.place_of retained.tree number))
 

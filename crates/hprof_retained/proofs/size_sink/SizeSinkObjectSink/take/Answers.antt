@@ -1,6 +1,6 @@
 use Rattle.std.specs.Prelude.{slice_index}
-use Rattle.std.proofs.Common.{◌≡◌, ◌<◌, ◌∙◌, ℕ, Some, None, length, refl, sym, ap, subst, arith}
-use Rattle.hprof_items.specs.FactValue.{FactValue, value_of}
+use Rattle.std.proofs.Common.{◌≡◌, ◌<◌, ◌∙◌, Some, None, refl, sym, ap, subst, arith}
+use Rattle.hprof_items.specs.FactValue.{value_of}
 use Rattle.hprof_heap.specs.Objects.{IsObject}
 use Rattle.hprof_histogram.specs.Histogram.{size_of_object}
 use Rattle.hprof_dominators.specs.Tree.{place_of}
