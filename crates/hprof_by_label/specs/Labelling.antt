@@ -1,6 +1,5 @@
 -- How far the labels of nodes have come; no public contract speaks of it.
 use Rattle.std.specs.Prelude.{◌≡◌, ◌<◌, ℕ, List, [], ◌∷◌, ◌++◌, Option, All, length, slice_index, vec_len}
-use Rattle.std.proofs.Props.{le_prop, props}
 use Rattle.hprof_values.specs.declared.ids.IdSize.{IdSize}
 use Rattle.hprof_items.specs.FactValue.{FactValue}
 use Rattle.hprof_heap.specs.Found.{IsObjectFound}
@@ -18,11 +17,6 @@ use Rattle.hprof_by_label.specs.declared.labelling.Labelling.{Labelling}
 use Rattle.hprof_by_label.specs.declared.label_sink.LabelSink.{LabelSink}
 
 -- ---- labels of kinds
-
--- each label has its number, and each kind that came up the number of a label
-pub record IsSound (labelling : Labelling) : Type 0 where
-  pub numbered : AreNumbered labelling.texts
-  pub within : (kind : Kind) (number : ℕ) → IsKept labelling.kinds kind number → number < length labelling.texts.texts.items
 
 -- the number is that of the label of a kind
 abbrev pub IsNumberOfKind : List FactValue → Labelling → Kind → ℕ → Type 0
@@ -62,7 +56,3 @@ pub record TakesLabel (ids : IdSize) (object : FactValue) (old new : LabelSink) 
   pub retained : new.retained.now ≡ old.retained.now
   pub so_far : AreClassNames (facts_of old.heap.now) old.names.now → (objects : List FactValue) → IsSoFar ids objects old
       → IsSoFar ids (objects ++ object ∷ []) new
-
--- each of these has at most one proof
-pub IsSound-prop : (labelling : Labelling) → IsProp (IsSound labelling)
-IsSound-prop labelling = hlevel (props, le_prop)

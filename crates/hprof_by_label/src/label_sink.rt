@@ -2,7 +2,7 @@
 
 ghost use Rattle.std.specs.Prelude.{◌≡◌, ◌<◌, All, length, vec_len};
 ghost use Rattle.hprof_retained.specs.Tree.{count_of};
-ghost use Rattle.hprof_by_label.specs.Labelling.{IsSound, IsSound-prop};
+ghost use Rattle.hprof_by_label.specs.Sound.{IsSound, IsSound-prop};
 
 use crate::kinds::{Kind, kind_of};
 use crate::labelling::Labelling;

@@ -21,7 +21,8 @@ impl Labelling {
     ghost use Rattle.hprof_heap.specs.HeapFacts.{facts_of};
     ghost use Rattle.hprof_items.specs.FactValue.{FactValue};
     ghost use Rattle.hprof_naming.specs.ClassNames.{AreClassNames};
-    ghost use Rattle.hprof_by_label.specs.Labelling.{IsLabelling, IsNumberOfKind, IsSound};
+    ghost use Rattle.hprof_by_label.specs.Labelling.{IsLabelling, IsNumberOfKind};
+    ghost use Rattle.hprof_by_label.specs.Sound.{IsSound};
     ghost use Rattle.hprof_by_label.specs.Texts.{StaysIn};
 
     /// Returns no labels. Allocates nothing.
