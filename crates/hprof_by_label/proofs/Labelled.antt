@@ -30,7 +30,7 @@ use Rattle.hprof_by_label.specs.Texts.{IsTextIn, StaysIn, text_in}
 use Rattle.hprof_by_label.specs.declared.kinds.Kind.{Kind}
 use Rattle.hprof_by_label.specs.declared.label_sink.LabelSink.{LabelSink}
 use Rattle.hprof_by_label.specs.declared.labelling.Labelling.{Labelling}
-use Rattle.hprof_by_label.specs.declared.labels.NodeLabels.{NodeLabels}
+use Rattle.hprof_by_label.specs.declared.node_labels.NodeLabels.{NodeLabels}
 
 module _ (retained : Retained) where
   -- the node with a number, and its place

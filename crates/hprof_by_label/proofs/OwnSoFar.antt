@@ -16,7 +16,7 @@ use Rattle.hprof_by_label.specs.LabelRows.{IsHeldWith}
 use Rattle.hprof_by_label.specs.Labels.{AreNodeLabels, label_at, label_count, label_text}
 use Rattle.hprof_by_label.specs.NodeLabel.{IsNodeLabel}
 use Rattle.hprof_by_label.specs.Sums.{AreOwnSums}
-use Rattle.hprof_by_label.specs.declared.labels.NodeLabels.{NodeLabels}
+use Rattle.hprof_by_label.specs.declared.node_labels.NodeLabels.{NodeLabels}
 use Rattle.hprof_by_label.proofs.Joined.{both, sum_of_none, sum_of_one, sums_alike, sums_joined}
 use Rattle.hprof_by_label.proofs.Labelled.{numbered_node, numbered_place, one_number}
 use Rattle.hprof_by_label.proofs.OneLabel.{one_node_label}
@@ -165,7 +165,7 @@ module _ (ids : IdSize) (facts : List FactValue) (retained : Retained) (labels :
       (so : AreOwnTo bytes counts done) (some : 0 < numbered_place retained done)
       (within : label_at labels (numbered_place retained done) < label_count labels)
       (is_size : IsSizeOf ids facts (numbered_node retained done) size) where
-    here : ℕ
+    abbrev here : ℕ
     here = label_at labels (numbered_place retained done)
 
     abbrev sum_of : ℕ → Sum
@@ -176,7 +176,6 @@ module _ (ids : IdSize) (facts : List FactValue) (retained : Retained) (labels :
 
     pub own_more : AreOwnTo (new_bytes labels bytes counts done counted (label_at labels (numbered_place retained done)) size within)
         (new_counts labels bytes counts done counted (label_at labels (numbered_place retained done)) size within) (done + 1)
-    unfolding here
     own_more label low = elim (cases_eq label here) [
       | inl same ↦
           subst (λ l. IsSumOver ids facts (IsOwnTo retained labels l (done + 1)) (sum_of l)) (sym same)

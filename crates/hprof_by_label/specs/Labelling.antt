@@ -36,13 +36,13 @@ IsNumberOfFound facts labelling number found =
     (text : List ℕ) × IsFoundLabel facts found text × IsTextIn labelling.texts.texts.items number text
 
 -- these objects give each node with a place the label with the number there, and the size
-module _ (ids : IdSize) (facts objects : List FactValue) (retained : Retained) (labelling : Labelling) (of_places sizes : List ℕ) where
+module _ (ids : IdSize) (facts objects : List FactValue) (retained : Retained) (labelling : Labelling) (labels_at sizes_at : List ℕ) where
   pub record AreLabelled : Type 0 where
     pub labels : (number : ℕ) → number < length (nodes_in retained.nodes) → 0 < tree.place_of retained.tree number
         → (found : Option FactValue) × IsObjectFound objects (slice_index (nodes_in retained.nodes) number) found
-        × IsNumberOfFound facts labelling (slice_index of_places (tree.place_of retained.tree number)) found
+        × IsNumberOfFound facts labelling (slice_index labels_at (tree.place_of retained.tree number)) found
     pub sizes : (number : ℕ) → number < length (nodes_in retained.nodes) → 0 < tree.place_of retained.tree number
-        → IsSizeOf ids objects (slice_index (nodes_in retained.nodes) number) (slice_index sizes (tree.place_of retained.tree number))
+        → IsSizeOf ids objects (slice_index (nodes_in retained.nodes) number) (slice_index sizes_at (tree.place_of retained.tree number))
 
 -- the sink has labelled the nodes with these objects, if it knows the names of the heap's classes
 pub record IsSoFar (ids : IdSize) (objects : List FactValue) (sink : LabelSink) : Type 0 where

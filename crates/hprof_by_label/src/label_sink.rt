@@ -6,7 +6,7 @@ ghost use Rattle.hprof_by_label.specs.Sound.{IsSound, IsSound-prop};
 
 use crate::kinds::{Kind, kind_of};
 use crate::labelling::Labelling;
-use crate::labels::NodeLabels;
+use crate::node_labels::NodeLabels;
 use hprof_heap::{Heap, to_object_dump};
 use hprof_items::Fact;
 use hprof_naming::ClassNames;
@@ -71,9 +71,9 @@ impl<'a> LabelSink<'a> {
 
     /// Returns the labels and sizes, after the last object.
     pub(crate) fn finish(self) -> NodeLabels
-        ensures texts { result.texts ≡ self.labelling.texts.texts }
-        ensures of_places { result.of_places ≡ self.of_places }
-        ensures sizes { result.sizes ≡ self.sizes }
+        ensures texts { result.texts ≡ self.entry.labelling.texts.texts }
+        ensures of_places { result.of_places ≡ self.entry.of_places }
+        ensures sizes { result.sizes ≡ self.entry.sizes }
     {
         let LabelSink {
             labelling,

@@ -1,79 +1,19 @@
 //! The labels of the nodes of a tree of dominators.
 
-ghost use Rattle.std.specs.Prelude.{◌≡◌, ◌<◌, All, IfOk, length, vec_len};
+ghost use Rattle.std.specs.Prelude.{◌≡◌, IfOk};
 ghost use Rattle.hprof_heap.specs.HeapFacts.{facts_of, size_of};
 ghost use Rattle.hprof_naming.specs.ClassNames.{AreClassNames};
 ghost use Rattle.hprof_passes.specs.Finding.{Finds};
 ghost use Rattle.hprof_retained.specs.Tree.{count_of};
 ghost use Rattle.hprof_by_label.specs.Labels.{AreNodeLabels, HaveSizes, place_count};
-ghost use Rattle.hprof_by_label.specs.Texts.{AreApart};
 
 use crate::label_sink::LabelSink;
+use crate::node_labels::NodeLabels;
 use hprof_heap::{Heap, holds_of_heap};
 use hprof_naming::ClassNames;
 use hprof_passes::{InHeap, Objects, PassStop};
 use hprof_retained::Retained;
 use std::alloc::{AllocError, Global};
-
-/// The labels of the nodes of a tree of dominators, each label with a number, and the sizes of the nodes.
-#[derive(Drop)]
-pub struct NodeLabels {
-    /// For each number its label.
-    pub(crate) texts: Vec<String>,
-    /// For each place the number of its node's label. That of place 0 is unspecified.
-    pub(crate) of_places: Vec<u32>,
-    /// For each place the bytes of its node's fields or elements.
-    pub(crate) sizes: Vec<u64>,
-    ghost within: { All (λ label. label < length texts.items) of_places.items },
-    ghost apart: { AreApart texts.items },
-    ghost sized: { vec_len sizes ≡ vec_len of_places },
-}
-
-impl NodeLabels {
-    ghost use Rattle.std.specs.Prelude.{◌↔◌, [], IsTrue};
-    ghost use Rattle.hprof_by_label.specs.Labels.{label_at, label_count, label_text, size_at};
-
-    /// Returns the number of labels.
-    pub fn len(&self) -> usize
-        ensures { result ≡ label_count self.now }
-    {
-        self.texts.len()
-    }
-
-    /// Returns whether there is no label.
-    pub fn is_empty(&self) -> bool
-        ensures { IsTrue result ↔ (label_count self.now ≡ 0) }
-    {
-        self.len() == 0
-    }
-
-    /// Returns the label with a number.
-    pub fn text(&self, number: usize) -> &str
-        requires { number < label_count self.now }
-        ensures { result.now ≡ label_text self.now number }
-    {
-        self.texts[number].as_str()
-    }
-
-    /// Returns the number of the label of the node at a place. That of place 0 is unspecified.
-    #[inline(always)]
-    pub fn number(&self, place: usize) -> usize
-        requires { place < place_count self.now }
-        ensures value { result ≡ label_at self.now place }
-        ensures within { result < label_count self.now }
-    {
-        self.of_places[place] as usize
-    }
-
-    /// Returns the bytes of the fields or the elements of the node at a place, or 0 of what is no object.
-    #[inline(always)]
-    pub fn size(&self, place: usize) -> u64
-        requires { place < place_count self.now }
-        ensures { result ≡ size_at self.now place }
-    {
-        self.sizes[place]
-    }
-}
 
 /// Returns the labels and the sizes of the nodes of a tree that objects make up with a heap. The heap has all facts but objects, which are
 /// gone through once.

@@ -9,6 +9,7 @@ mod label_sink;
 mod labelling;
 mod labels;
 pub mod laws;
+mod node_labels;
 mod own_sums;
 mod report;
 mod retained_sums;
@@ -16,5 +17,6 @@ mod row;
 mod rows;
 mod texts;
 
-pub use labels::{NodeLabels, labels_of, labels_over};
+pub use labels::{labels_of, labels_over};
+pub use node_labels::NodeLabels;
 pub use report::{write_retained, write_retained_over};

@@ -8,7 +8,7 @@ ghost use Rattle.hprof_retained.specs.Tree.{IsTreeOf, count_of};
 ghost use Rattle.hprof_by_label.specs.Labels.{AreNodeLabels, HaveSizes, label_count, place_count};
 ghost use Rattle.hprof_by_label.specs.Sums.{AreOwnSums};
 
-use crate::labels::NodeLabels;
+use crate::node_labels::NodeLabels;
 use hprof_retained::Retained;
 use std::alloc::{AllocError, Global};
 

@@ -16,7 +16,8 @@ ghost use Rattle.hprof_by_label.specs.Labels.{AreNodeLabels, HaveSizes, place_co
 ghost use Rattle.hprof_by_label.specs.RetainedText.{IsRetainedText, row_line};
 ghost use Rattle.hprof_by_label.specs.RowValues.{row_value};
 
-use crate::labels::{NodeLabels, labels_of, labels_over};
+use crate::labels::{labels_of, labels_over};
+use crate::node_labels::NodeLabels;
 use crate::row::Row;
 use crate::rows::rows_in;
 use hprof_devices::Target;

@@ -4,7 +4,7 @@ ghost use Rattle.std.specs.Prelude.{◌≡◌, ◌<◌, IfOk, length, map};
 ghost use Rattle.hprof_by_label.specs.Labels.{label_count};
 ghost use Rattle.hprof_by_label.specs.RowValues.{AreRowsTo, row_at, row_value};
 
-use crate::labels::NodeLabels;
+use crate::node_labels::NodeLabels;
 use crate::own_sums::OwnSums;
 use std::alloc::{AllocError, Global};
 

@@ -11,7 +11,7 @@ ghost use Rattle.hprof_by_label.specs.LabelRows.{AreRows, row_cmp};
 ghost use Rattle.hprof_by_label.specs.Labels.{AreNodeLabels, HaveSizes, place_count};
 ghost use Rattle.hprof_by_label.specs.RowValues.{row_value, same_label};
 
-use crate::labels::NodeLabels;
+use crate::node_labels::NodeLabels;
 use crate::own_sums::own_sums;
 use crate::retained_sums::retained_sums;
 use crate::row::{Row, rows_of};
