@@ -1,13 +1,13 @@
 //! Labelling the nodes of a tree, as the objects come.
 
-ghost use Rattle.std.specs.Prelude.{◌≡◌, ◌<◌, All, length, vec_len};
+ghost use Rattle.std.specs.Prelude.{◌≡◌, ◌<◌, All, false, length, vec_len};
 ghost use Rattle.hprof_retained.specs.Tree.{count_of};
-ghost use Rattle.hprof_by_label.specs.Sound.{IsSound, IsSound-prop};
+ghost use Rattle.hprof_by_label.specs.Sound.{IsSound};
 
 use crate::kinds::{Kind, kind_of};
 use crate::labelling::Labelling;
 use crate::node_labels::NodeLabels;
-use hprof_heap::{Heap, to_object_dump};
+use hprof_heap::{Heap, ObjectDump, to_object_dump};
 use hprof_items::Fact;
 use hprof_naming::ClassNames;
 use hprof_passes::ObjectSink;
@@ -28,8 +28,9 @@ pub(crate) struct LabelSink<'a> {
     of_places: Vec<u32>,
     /// For each place the bytes of the fields or the elements.
     sizes: Vec<u64>,
-    ghost sound: { IsSound labelling } by { IsSound-prop labelling },
-    ghost within: { All (λ label. label < length labelling.texts.texts.items) of_places.items },
+    /// Whether an object was refused. The labels are unspecified then.
+    failed: bool,
+    ghost sound: { failed ≡ false → IsSound labelling × All (λ label. label < length labelling.texts.texts.items) of_places.items },
     ghost as_many: { vec_len of_places ≡ count_of retained.now },
     ghost sized: { vec_len sizes ≡ count_of retained.now },
 }
@@ -55,8 +56,11 @@ impl<'a> LabelSink<'a> {
         ensures so_far { IfOk result (λ sink. AreClassNames (facts_of heap.now) names.now → (ids : IdSize) → IsSoFar ids [] sink) }
     {
         let mut labelling = Labelling::new(alloc);
-        labelling.number_of_kind(alloc, heap, names, Kind::ClassDump)?;
-        let of_places = vec![in alloc; 0; retained.len()]?;
+        let number = labelling.number_of_kind(alloc, heap, names, Kind::ClassDump)?;
+        let Ok(label) = u32::try_from(number) else {
+            return Err(AllocError);
+        };
+        let of_places = vec![in alloc; label; retained.len()]?;
         let sizes = vec![in alloc; 0; retained.len()]?;
         Ok(LabelSink {
             alloc,
@@ -66,26 +70,44 @@ impl<'a> LabelSink<'a> {
             labelling,
             of_places,
             sizes,
+            failed: false,
         })
     }
 
-    /// Returns the labels and sizes, after the last object.
-    pub(crate) fn finish(self) -> NodeLabels
-        ensures texts { result.texts ≡ self.entry.labelling.texts.texts }
-        ensures of_places { result.of_places ≡ self.entry.of_places }
-        ensures sizes { result.sizes ≡ self.entry.sizes }
+    /// Returns the number of the label of an object. If memory runs out, or there are more than 2^32 labels, the answer is `AllocError` and
+    /// the labels are unspecified.
+    fn label_of(&mut self, dump: &ObjectDump<'_>) -> Result<u32, AllocError> {
+        let kind = kind_of(dump);
+        let number = self
+            .labelling
+            .number_of_kind(self.alloc, self.heap, self.names, kind)?;
+        match u32::try_from(number) {
+            Ok(label) => Ok(label),
+            Err(_) => Err(AllocError),
+        }
+    }
+
+    /// Returns the labels and sizes, after the last object. If one was refused, the answer is `AllocError`.
+    pub(crate) fn finish(self) -> Result<NodeLabels, AllocError>
+        ensures texts { IfOk result (λ labels. labels.texts ≡ self.entry.labelling.texts.texts) }
+        ensures of_places { IfOk result (λ labels. labels.of_places ≡ self.entry.of_places) }
+        ensures sizes { IfOk result (λ labels. labels.sizes ≡ self.entry.sizes) }
     {
         let LabelSink {
             labelling,
             of_places,
             sizes,
+            failed,
             ..
         } = self;
-        NodeLabels {
+        if failed {
+            return Err(AllocError);
+        }
+        Ok(NodeLabels {
             texts: labelling.texts.texts,
             of_places,
             sizes,
-        }
+        })
     }
 }
 
@@ -113,15 +135,14 @@ impl ObjectSink for LabelSink<'_> {
         if place == 0 {
             return Ok(());
         }
-        let kind = kind_of(&dump);
-        let label = self
-            .labelling
-            .number_of_kind(self.alloc, self.heap, self.names, kind)?;
-        let Ok(label) = u32::try_from(label) else {
+        if self.failed {
             return Err(AllocError);
-        };
+        }
+        self.failed = true;
+        let label = self.label_of(&dump)?;
         self.of_places[place] = label;
         self.sizes[place] = bytes_of_dump(&dump, ids);
+        self.failed = false;
         Ok(())
     }
 }

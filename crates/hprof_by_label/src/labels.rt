@@ -45,8 +45,12 @@ pub fn labels_over<O: Objects>(
         Err(fault) => return Err(PassStop::Sink(fault)),
     };
     match objects.pass(alloc, heap, &mut sink) {
-        Ok(()) => Ok(sink.finish()),
-        Err(stop) => Err(stop),
+        Ok(()) => {}
+        Err(stop) => return Err(stop),
+    }
+    match sink.finish() {
+        Ok(labels) => Ok(labels),
+        Err(fault) => Err(PassStop::Sink(fault)),
     }
 }
 
