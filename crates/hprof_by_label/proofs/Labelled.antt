@@ -93,21 +93,20 @@ module _ (ids : IdSize) (facts objects : List FactValue) (object : FactValue) (i
 
 -- no object has come: each node is a class dump, without a size
 pub labelled_none : (ids : IdSize) (facts : List FactValue) (retained : Retained) (labelling : Labelling) (of_places sizes : List ℕ)
-    → of_places ≡ replicate (count_of retained) 0 → sizes ≡ replicate (count_of retained) 0
-    → IsNumberOfFound facts labelling 0 None → AreLabelled ids facts [] retained labelling of_places sizes
-labelled_none ids facts retained labelling of_places sizes labels_are sizes_are first =
-    let zero_at : (l : List ℕ) → l ≡ replicate (count_of retained) 0 → (number : ℕ) → 0 < place_in retained number
-    → slice_index l (place_in retained number) ≡ 0 =
-    λ l are number placed. ap (λ (k : List ℕ). slice_index k (place_in retained number)) are
-    ∙ get_or-replicate (count_of retained) (place_in retained number) 0 0 (retained.numbered.new number placed).0 in
-    record {
-      labels = λ number low placed. (
-        None,
-        λ fact has of. absurd has,
-        subst (λ n. IsNumberOfFound facts labelling n None) (sym (zero_at of_places labels_are number placed)) first,
-      );
-      sizes = λ number low placed. (None, λ fact has of. absurd has, zero_at sizes sizes_are number placed);
-    }
+    (first : ℕ) → of_places ≡ replicate (count_of retained) first → sizes ≡ replicate (count_of retained) 0
+    → IsNumberOfFound facts labelling first None → AreLabelled ids facts [] retained labelling of_places sizes
+labelled_none ids facts retained labelling of_places sizes first labels_are sizes_are is = record {
+  labels = λ number low placed. (
+    None,
+    λ fact has of. absurd has,
+    subst (λ n. IsNumberOfFound facts labelling n None) (sym (value_at of_places first labels_are number placed)) is,
+  );
+  sizes = λ number low placed. (None, λ fact has of. absurd has, value_at sizes 0 sizes_are number placed);
+} where
+  value_at : (l : List ℕ) (value : ℕ) → l ≡ replicate (count_of retained) value → (number : ℕ) → 0 < place_in retained number
+      → slice_index l (place_in retained number) ≡ value
+  value_at l value are number placed = ap (λ (k : List ℕ). slice_index k (place_in retained number)) are
+      ∙ get_or-replicate (count_of retained) (place_in retained number) value 0 (retained.numbered.new number placed).0
 
 -- ---- all objects
 
