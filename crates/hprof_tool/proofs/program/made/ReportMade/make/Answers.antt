@@ -56,8 +56,8 @@ returns-in-Node-Who-Identifier g c =
     (are_usual c.usual-in-Node-Who-Identifier.result usual.item usual.reads usual.bytes) c.who_to.ensures))
 
 -- all other reports are made of a heap
-pub returns : goal.returns
-returns g c =
+pub returns-in_default-self : goal.returns-in_default-self
+returns-in_default-self g c =
     let made = c.make_of_heap in
     heap_makes g.R.Source.left g.R.Source.health g.R.Source.pulls usual_limits g.W.Target.written g.W.Target.health
     c.args.readers.now made.new.readers c.args.target.now made.new.target (fault_of made.result) c.args.self.now made.ensures
