@@ -12,7 +12,7 @@ COMMAND = re.compile(r'word: "(\w+)",\s+about: "([^"]*)",\s+help: [\w:]+,\s+argu
 # Which commands take the option --memory: each in its row, but reports in an arm of their own.
 TAKES_MEMORY = re.compile(r'word: "(\w+)",[^}]*takes_memory: true')
 REPORT_ROW = re.compile(r'(\w+Report::\w+) => ReportRow \{\s+word: "(\w+)"')
-READS_AGAIN = re.compile(r"(?m)^\s+((?:\w+Report::\w+(?: \| )?)+) => true,$")
+READS_AGAIN = re.compile(r"(?m)^\s+((?:\w+Report::\w+(?:\s+\| )?)+) =>\s+true,$")
 # The list that a completion has a command in, by what the command takes before dumps.
 TAKES = {
     "Nothing": "heaps",
@@ -43,7 +43,7 @@ def commands():
 def sized():
     """The commands that take the option for the memory."""
     words, table = dict(REPORT_ROW.findall(REPORTS.read_text())), COMMANDS.read_text()
-    reports = {words[report] for arm in READS_AGAIN.findall(table) for report in arm.split(" | ")}
+    reports = {words[report] for arm in READS_AGAIN.findall(table) for report in re.split(r"\s+\| ", arm)}
     return reports | set(TAKES_MEMORY.findall(table))
 
 

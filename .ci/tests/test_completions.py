@@ -259,7 +259,8 @@ class Words(unittest.TestCase):
             self.assertEqual({line.split(":")[1] for line in lines}, {" biggest", " retained"}, name)
 
     def test_commands_with_the_option_for_the_memory(self):
-        self.assertEqual(completions.sized(), {"check", "histo", "classes", "objects", "object", "show", "text", "diff", "join", "join101"})
+        words = "check histo classes threads objects object show text refs path diff join join101"
+        self.assertEqual(completions.sized(), set(words.split()))
         for name in ("hprof.bash", "_hprof", "hprof.fish"):
             faults = self.faults(name, "join join101 check histo", "join check path histo")
             self.assertEqual(faults, [f"{name}: join101 with --memory", f"{name}: path with --memory"])

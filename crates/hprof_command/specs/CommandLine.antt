@@ -67,6 +67,7 @@ abbrev pub heap_reads_again : HeapReport → Bool
 heap_reads_again heaps.Check = true
 heap_reads_again heaps.Histogram = true
 heap_reads_again heaps.Classes = true
+heap_reads_again heaps.Threads = true
 heap_reads_again other = false
 
 abbrev pub kind_reads_again : KindReport → Bool
@@ -77,6 +78,8 @@ abbrev pub node_reads_again : NodeReport → Bool
 node_reads_again nodes.Text = true
 node_reads_again nodes.Object = true
 node_reads_again nodes.Show = true
+node_reads_again nodes.Refs = true
+node_reads_again nodes.Path = true
 node_reads_again other = false
 
 abbrev pub reads_again : ReportWord → Bool

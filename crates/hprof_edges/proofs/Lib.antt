@@ -11,6 +11,7 @@ pub mod EdgeSets
 pub mod KeptEdges
 pub mod OnlyDumps
 pub mod TableEdges
+pub mod SeenReferrers
 pub mod WantedEdges
 pub mod LeastEdges
 pub mod PlacesAscend

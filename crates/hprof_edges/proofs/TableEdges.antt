@@ -46,6 +46,20 @@ module _ (P : FactValue → Edge → Type 0) where
     back (inl is) = record { fact = is.fact; has = Has-front facts (fact ∷ []) is.fact is.has; gives = is.gives }
     back (inr gives) = record { fact = fact; has = Has-back facts (fact ∷ []) fact (inl refl); gives = gives }
 
+  -- the first fact gives it, or one of the others does
+  pub given_first : (fact : FactValue) (facts : List FactValue) (edge : Edge)
+      → IsGiven (fact ∷ facts) edge ↔ (P fact edge ⊎ IsGiven facts edge)
+  given_first fact facts edge = (there, back) where
+    there : IsGiven (fact ∷ facts) edge → P fact edge ⊎ IsGiven facts edge
+    there is = elim is.has [
+      | inl same ↦ inl (subst (λ (f : FactValue). P f edge) same is.gives)
+      | inr later ↦ inr (record { fact = is.fact; has = later; gives = is.gives })
+    ]
+
+    back : P fact edge ⊎ IsGiven facts edge → IsGiven (fact ∷ facts) edge
+    back (inl gives) = record { fact = fact; has = inl refl; gives = gives }
+    back (inr is) = record { fact = is.fact; has = inr is.has; gives = is.gives }
+
   -- the edges of what came were put, and the rest of the facts is left
   pub record GoneOver (holds : List Edge → Type 0) (edges : List Edge) (all left : List FactValue) : Type 0 where
     pub came : List FactValue

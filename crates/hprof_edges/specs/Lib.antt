@@ -5,6 +5,7 @@ pub mod LeftOut
 pub mod Collecting
 pub mod KeptMembers
 pub mod EdgeSet
+pub mod ReferrersSeen
 pub mod EdgeLists
 pub mod LeastEdge
 pub mod KeptLeast

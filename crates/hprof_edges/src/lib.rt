@@ -16,6 +16,7 @@ mod of_class;
 mod of_identifier;
 mod of_object;
 mod putting;
+mod referrer_sink;
 mod sorting;
 mod to_identifier;
 
@@ -31,4 +32,4 @@ pub use of_class::class_edges;
 pub use of_identifier::edges_of;
 pub use of_object::{array_edges, edge_to_class, field_edges, object_edges};
 pub use sorting::sort_edges;
-pub use to_identifier::referrers;
+pub use to_identifier::{referrers, referrers_over};

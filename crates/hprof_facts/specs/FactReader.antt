@@ -68,7 +68,7 @@ reads_to_come reader = reads_by reader.part reader.reads_left
 -- while there is a part to read, the source is well, the queue was begun with the size of the part, and there is room for a piece
 abbrev pub CanReadOn : {R : Type 0} → (R → Health) → Option PartReader → R → Option IdSize → ℕ → Type 0
 CanReadOn health None source begun room = Unit {0}
-CanReadOn health (Some part) source begun room = (health source ≡ Well) × IsReady part begun × (room ≡ 65536)
+CanReadOn health (Some part) source begun room = (health source ≡ Well) × IsReady part begun × (room ≡ 16384)
 
 -- it can be asked for the next fact
 abbrev pub CanAdvance : {R : Type 0} → (R → Health) → FactReader R → Type 0

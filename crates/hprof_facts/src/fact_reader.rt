@@ -10,8 +10,8 @@ use hprof_items::{Fact, IdSize};
 use hprof_stream::{Limits, PartFault, PartPlace, PartReader, PartSummary};
 use std::alloc::Global;
 
-/// The number of bytes that a read asks for.
-const PIECE_LEN: usize = 65_536;
+/// The number of bytes that a read asks for. The facts of a piece take many times as much, and of many stretches each has a reader.
+const PIECE_LEN: usize = 16_384;
 
 /// Reads the facts of a part one after the other. It holds the facts of one piece, and an item that is not whole.
 #[derive(Drop)]
@@ -150,7 +150,7 @@ impl<R: Source + Drop> FactReader<R> {
         requires ready { IsReady part (begun_with self.old.queue) }
         requires empty { Holds self.old.queue [] }
         requires none { self.old.part ≡ None }
-        requires room { length self.old.piece.items ≡ 65536 }
+        requires room { length self.old.piece.items ≡ 16384 }
         ensures can { CanAdvance R.health self.new }
         ensures given { (origin : Origin) (was : R) (facts : List FactValue)
             → IsReading R.left R.health R.pulls origin was part self.old.source self.old.reads_left facts

@@ -7,6 +7,10 @@ pub mod SomeHeld
 pub mod SomeSerials
 pub mod ThreadTexts
 pub mod SomeThreads
+mod WholeThreads
+mod SameThreads
+mod ThreadsInAll
+mod PushedThreads
 pub mod LeftOutSteps
 pub mod EdgeNames
 pub mod StepWords

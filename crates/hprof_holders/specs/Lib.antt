@@ -7,6 +7,7 @@ pub mod Steps
 pub mod SumCounts
 pub mod Sums
 pub mod ThreadFindings
+pub mod ThreadObjects
 pub mod ThreadsText
 pub mod Views
 pub mod WhoText

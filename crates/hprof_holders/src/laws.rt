@@ -4,6 +4,8 @@ ghost use Rattle.std.specs.Prelude.{◌≡◌, ℕ, List};
 ghost use Rattle.hprof_values.specs.declared.ids.IdSize.{IdSize};
 ghost use Rattle.hprof_items.specs.FactValue.{FactValue};
 ghost use Rattle.hprof_rows.specs.Conflict.{IsConsistent};
+ghost use Rattle.hprof_small.specs.Small.{IsSmall};
+ghost use Rattle.hprof_holders.specs.ThreadObjects.{HasAllThreadWords};
 ghost use Rattle.hprof_holders.specs.ThreadsText.{IsThreadsText};
 ghost use Rattle.hprof_holders.specs.WhoText.{IsWhoText};
 
@@ -12,6 +14,13 @@ pub fn one_threads_text()
     ensures exists { (ids : IdSize) (facts : List FactValue) → IsConsistent facts → (text : List ℕ) × IsThreadsText ids facts text }
     ensures once { (ids : IdSize) (facts : List FactValue) (one other : List ℕ) → IsThreadsText ids facts one
         → IsThreadsText ids facts other → one ≡ other }
+{}
+
+/// The report `threads` depends on few objects: those of threads, those that threads hold, and those that the words for them are read from.
+/// A heap that has of all objects only some, and these among them, has the same report.
+pub fn threads_depend_on_few_objects()
+    ensures { (ids : IdSize) (wanted : List ℕ) (all small : List FactValue) (text : List ℕ) → IsConsistent all
+        → IsSmall ids wanted all small → HasAllThreadWords ids all wanted → IsThreadsText ids small text → IsThreadsText ids all text }
 {}
 
 /// If facts agree, the report `who` on an identifier has exactly one text.

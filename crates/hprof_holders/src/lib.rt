@@ -10,12 +10,15 @@ mod root_line;
 mod root_lines;
 mod steps;
 mod sums;
+mod thread_objects;
+mod threads_over;
 mod threads_report;
 mod view;
 mod who_report;
 
 pub use root_lines::write_roots;
 pub use steps::{Step, step_kind, step_of, step_text};
+pub use threads_over::write_threads_over;
 pub use threads_report::write_threads;
 pub use view::HeapView;
 pub use who_report::write_who;

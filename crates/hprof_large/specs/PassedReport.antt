@@ -13,7 +13,10 @@ abbrev pub report_of : PassedReport → Report
 report_of passed.Check = reports.Heap heaps.Check
 report_of passed.Histogram = reports.Heap heaps.Histogram
 report_of passed.Classes = reports.Heap heaps.Classes
+report_of passed.Threads = reports.Heap heaps.Threads
 report_of (passed.Objects these) = reports.Kind kinds.Objects these
 report_of (passed.Object id) = reports.Node nodes.Object (that.Identifier id)
 report_of (passed.Text id) = reports.Node nodes.Text (that.Identifier id)
 report_of (passed.Show id) = reports.Node nodes.Show (that.Identifier id)
+report_of (passed.Refs id) = reports.Node nodes.Refs (that.Identifier id)
+report_of (passed.Path id) = reports.Node nodes.Path (that.Identifier id)

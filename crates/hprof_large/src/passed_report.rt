@@ -9,10 +9,14 @@ use hprof_devices::Target;
 use hprof_engine::{Summaries, WriteStop};
 use hprof_heap::Heap;
 use hprof_histogram::CountedKinds;
+use hprof_holders::write_threads_over;
 use hprof_making::PassProduct;
 use hprof_passes::{Objects, PassStop};
 use hprof_questions::{HeapReport, KindReport, Kinds, Node, NodeReport, Report};
-use hprof_reports::{write_classes_over, write_histogram_over, write_object_over, write_text_over};
+use hprof_reports::{
+    write_classes_over, write_histogram_over, write_object_over, write_path_over, write_refs_over,
+    write_text_over,
+};
 use hprof_show::write_show_over;
 use hprof_stream::PartSummary;
 use std::alloc::{AllocError, Global};
@@ -26,6 +30,8 @@ pub enum PassedReport<'a> {
     Histogram,
     /// `classes`: each class dump, with the objects of the class.
     Classes,
+    /// `threads`: each thread, its stack, and the objects that its frames hold.
+    Threads,
     /// `objects`: the objects of a class or a type, or of all classes that a name means, the largest first.
     Objects(Kinds<'a>),
     /// `object`: the contents of a class and an object.
@@ -34,6 +40,10 @@ pub enum PassedReport<'a> {
     Text(u64),
     /// `show`: the contents of a class, an instance or an array, decoded.
     Show(u64),
+    /// `refs`: each reference to an identifier.
+    Refs(u64),
+    /// `path`: the shortest path from a GC root to an identifier.
+    Path(u64),
 }
 
 impl<'a> PassedReport<'a> {
@@ -50,13 +60,16 @@ impl<'a> PassedReport<'a> {
             Report::Heap(HeapReport::Check) => Some(PassedReport::Check),
             Report::Heap(HeapReport::Histogram) => Some(PassedReport::Histogram),
             Report::Heap(HeapReport::Classes) => Some(PassedReport::Classes),
+            Report::Heap(HeapReport::Threads) => Some(PassedReport::Threads),
             Report::Kind(KindReport::Objects, kinds) => Some(PassedReport::Objects(kinds)),
             Report::Node(NodeReport::Object, Node::Identifier(id)) => {
                 Some(PassedReport::Object(id))
             }
             Report::Node(NodeReport::Text, Node::Identifier(id)) => Some(PassedReport::Text(id)),
             Report::Node(NodeReport::Show, Node::Identifier(id)) => Some(PassedReport::Show(id)),
-            Report::Heap(HeapReport::Threads | HeapReport::Suspects | HeapReport::Retained)
+            Report::Node(NodeReport::Refs, Node::Identifier(id)) => Some(PassedReport::Refs(id)),
+            Report::Node(NodeReport::Path, Node::Identifier(id)) => Some(PassedReport::Path(id)),
+            Report::Heap(HeapReport::Suspects | HeapReport::Retained)
             | Report::Kind(KindReport::Biggest, _)
             | Report::Node(_, _) => None,
         }
@@ -70,10 +83,13 @@ impl<'a> PassedReport<'a> {
             PassedReport::Check => Report::Heap(HeapReport::Check),
             PassedReport::Histogram => Report::Heap(HeapReport::Histogram),
             PassedReport::Classes => Report::Heap(HeapReport::Classes),
+            PassedReport::Threads => Report::Heap(HeapReport::Threads),
             PassedReport::Objects(kinds) => Report::Kind(KindReport::Objects, kinds),
             PassedReport::Object(id) => Report::Node(NodeReport::Object, Node::Identifier(id)),
             PassedReport::Text(id) => Report::Node(NodeReport::Text, Node::Identifier(id)),
             PassedReport::Show(id) => Report::Node(NodeReport::Show, Node::Identifier(id)),
+            PassedReport::Refs(id) => Report::Node(NodeReport::Refs, Node::Identifier(id)),
+            PassedReport::Path(id) => Report::Node(NodeReport::Path, Node::Identifier(id)),
         }
     }
 
@@ -137,10 +153,13 @@ impl PassProduct for PassedReport<'_> {
             PassedReport::Check => write_check(alloc, kept, heap, objects, target),
             PassedReport::Histogram => write_histogram_over(alloc, heap, objects, known, target),
             PassedReport::Classes => write_classes_over(alloc, heap, objects, known, target),
+            PassedReport::Threads => write_threads_over(alloc, heap, objects, target),
             PassedReport::Objects(kinds) => write_objects(alloc, heap, objects, kinds, target),
             PassedReport::Object(id) => write_object_over(alloc, heap, objects, id, target),
             PassedReport::Text(id) => write_text_over(alloc, heap, objects, id, target),
             PassedReport::Show(id) => write_show_over(alloc, heap, objects, id, target),
+            PassedReport::Refs(id) => write_refs_over(alloc, heap, objects, id, target),
+            PassedReport::Path(id) => write_path_over(alloc, heap, objects, id, target),
         }
     }
 }

@@ -99,8 +99,8 @@ fn put_row(
 impl Lists {
     ghost use Rattle.hprof_numbers.specs.Lists.{AreListedBelow, bound_in};
 
-    /// Appends one more list: the numbers of those targets that are nodes. If memory runs out, the answer is `AllocError`, and no lists are
-    /// left.
+    /// Appends one more list: the numbers of those targets that are nodes. If memory runs out, the answer is `AllocError`, and
+    /// the lists are unspecified.
     pub fn push(
         &mut self,
         alloc: Global,

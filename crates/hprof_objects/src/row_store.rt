@@ -76,8 +76,7 @@ impl<S: Scratch + Drop> RowStore<S> {
     }
 
     /// Adds a row behind those in memory. Where these would take more than they may, or memory is refused, they go to scratch before.
-    /// Returns
-    /// whether they did.
+    /// Returns whether they did.
     ///
     /// After an error no row is added.
     #[inline(always)]

@@ -15,3 +15,5 @@ pub mod SeenObjects
 pub mod ClassEdges
 pub mod Wholes
 pub mod TakenObjects
+pub mod NumberedWalks
+pub mod NumberedTargets

@@ -17,7 +17,7 @@ use Rattle.hprof_numbers.specs.declared.sources.Sources.{Sources}
 use Rattle.hprof_numbers.specs.Sources.{end_of, nodes_of, number_at}
 use Rattle.hprof_reach.specs.Referring.{PutSoFar, StandsAt}
 
-earlier : (before place : ℕ) → before < place + 1 → (before < place) ⊎ (before ≡ place)
+pub earlier : (before place : ℕ) → before < place + 1 → (before < place) ⊎ (before ≡ place)
 earlier before place few = by (ltb before place) refl where
   by : (test : Bool) → ltb before place ≡ test → (before < place) ⊎ (before ≡ place)
   by true e = inl (ltb-true before place e)

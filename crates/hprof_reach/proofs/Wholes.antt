@@ -6,22 +6,19 @@ use Rattle.hprof_values.specs.declared.root.Root.{Root}
 use Rattle.hprof_items.specs.FactValue.{FactValue, Rooted}
 use Rattle.hprof_rows.specs.declared.table.Table.TheVariants as tables
 use Rattle.hprof_rows.specs.Facts.{Has}
-use Rattle.hprof_heap.specs.Classes.{ClassValue, HasDump, fact_of_class}
 use Rattle.hprof_passes.specs.Passing.{IsWhole, objects_among}
 use Rattle.hprof_passes.proofs.Tables.{has_same}
+use Rattle.hprof_edges.proofs.SeenReferrers.{dumps_same}
 use Rattle.hprof_reach.specs.Nodes.{GivesObject, IsClassNode}
 use Rattle.hprof_reach.specs.Reaching.{IsNode, IsRooted}
 use Rattle.hprof_reach.proofs.Reached.{either_dump}
 use Rattle.hprof_reach.proofs.TableNodes.{IsGiven, object_nodes}
 
 module _ (ids : IdSize) (facts all : List FactValue) (whole : IsWhole ids facts all) where
-  pub dumps_same : (dump : ClassValue) → HasDump all dump ↔ HasDump facts dump
-  dumps_same dump = has_same ids facts all whole tables.Classes (λ e. cc) (fact_of_class dump) refl
-
   classes_same : (id : ℕ) → IsClassNode all id ↔ IsClassNode facts id
   classes_same id = (
-    λ is. (is.0, (is.1.0, (dumps_same is.1.0).0 is.1.1, is.1.2)),
-    λ is. (is.0, (is.1.0, (dumps_same is.1.0).1 is.1.1, is.1.2)),
+    λ is. (is.0, (is.1.0, (dumps_same ids facts all whole is.1.0).0 is.1.1, is.1.2)),
+    λ is. (is.0, (is.1.0, (dumps_same ids facts all whole is.1.0).1 is.1.1, is.1.2)),
   )
 
   roots_same : (root : Root) → Has all (Rooted root) ↔ Has facts (Rooted root)

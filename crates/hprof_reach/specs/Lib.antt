@@ -2,6 +2,7 @@ pub mod Reaching
 pub mod Nodes
 pub mod Graph
 pub mod NumberedGraph
+pub mod NumberedEdges
 pub mod EdgesSoFar
 pub mod EdgesMade
 pub mod NodesSeen

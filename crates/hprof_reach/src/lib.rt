@@ -4,6 +4,7 @@
 //! Begin with [`reach_of`], [`index_referrers`] and [`graph_by_numbers`].
 #![tactic(auto)]
 
+mod by_passes;
 mod chosen_edges;
 mod edge_sink;
 mod from_roots;
@@ -12,6 +13,7 @@ mod index;
 pub mod laws;
 mod node_sink;
 mod nodes;
+mod numbered_edges;
 mod numbered_graph;
 mod numbering;
 mod reach;
@@ -19,6 +21,7 @@ mod roots;
 mod starts;
 mod targets;
 
+pub use by_passes::reach_over;
 pub use chosen_edges::{AllEdges, ChosenEdges, KeptEdges};
 pub use heap_graph::{HeapGraph, graph_of};
 pub use index::{ReferrerIndex, index_referrers};

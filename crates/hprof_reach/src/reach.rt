@@ -21,7 +21,7 @@ use std::alloc::{AllocError, Global};
 /// The distances of the classes and objects of a heap from its GC roots, and the paths to them.
 #[derive(Drop)]
 pub struct Reach {
-    search: Search,
+    pub(crate) search: Search,
 }
 
 impl Reach {

@@ -9,34 +9,29 @@ use Rattle.hprof_heap.specs.HeapFacts.{facts_of, size_of}
 use Rattle.hprof_histogram.specs.Chosen.{is_among}
 use Rattle.hprof_passes.specs.Passing.{IsWhole}
 use Rattle.hprof_small.specs.Small.{IsSmallHeap}
-use Rattle.hprof_show.specs.ShownObjects.{HasNextOf, HasShownIds, IsShownHeap}
+use Rattle.hprof_words.specs.Words.{IsWordsHeap}
+use Rattle.hprof_show.specs.ShownObjects.{HasShownIds, IsShownHeap}
 use Rattle.hprof_show.specs.ShowText.{IsShowText}
-use Rattle.hprof_show.proofs.NextInAll.{has_shown_of, next_of_in_all, shown_in_all}
+use Rattle.hprof_show.proofs.ShownFound.{has_shown_of, shown_in_all}
 use Rattle.hprof_show.proofs.ShowInAll.{show_in_all}
 
 module _ (millis : ℕ) (ids : IdSize) (facts all : List FactValue) (whole : IsWhole ids facts all) (heap : Heap) where
   -- what was read of a small heap is so of the whole
-  pub next_read : (some : List ℕ) → IsSmallHeap millis ids some all heap → (needed : List ℕ)
-      → HasNextOf (size_of heap) (facts_of heap) some needed → HasNextOf ids all some needed
-  next_read some is needed has =
-      next_of_in_all ids some all (facts_of heap) is.facts (order_agrees all whole.ordered) needed
-      (subst (λ (i : IdSize). HasNextOf i (facts_of heap) some needed) is.size has)
-
   pub shown_read : (some : List ℕ) → IsSmallHeap millis ids some all heap → (id : ℕ) → IsTrue (is_among some id) → (shown : List ℕ)
       → HasShownIds (size_of heap) (facts_of heap) id shown → HasShownIds ids all id shown
   shown_read some is id among shown has =
       shown_in_all ids some all (facts_of heap) is.facts (order_agrees all whole.ordered) id among shown
       (subst (λ (i : IdSize). HasShownIds i (facts_of heap) id shown) is.size has)
 
-  -- the last heap
-  pub shown_heap : (id : ℕ) (some next last : List ℕ) → HasShownIds ids all id some → HasNextOf ids all some next
-      → HasNextOf ids all next last → IsSmallHeap millis ids last all heap → IsShownHeap ids id all heap
-  shown_heap id some next last has one two is = record {
-    size = is.size;
-    wanted = last;
-    facts = is.facts;
-    has = has_shown_of ids all id some next last has one two;
-  }
+-- the last heap
+pub shown_heap : (millis : ℕ) (ids : IdSize) (all : List FactValue) (heap : Heap) (id : ℕ) (some : List ℕ) → HasShownIds ids all id some
+    → IsWordsHeap millis ids some all heap → IsShownHeap ids id all heap
+shown_heap millis ids all heap id some has is = record {
+  size = is.is_small.size;
+  wanted = is.wanted;
+  facts = is.is_small.facts;
+  has = has_shown_of ids all id some is.wanted has is.has;
+}
 
 -- a text that is that of such a heap is that of the whole
 pub show_over : (ids : IdSize) (facts all : List FactValue) → IsWhole ids facts all → (small : Heap) (id : ℕ) (P : List ℕ → Type 0)

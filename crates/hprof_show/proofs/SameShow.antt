@@ -27,8 +27,8 @@ use Rattle.hprof_show.specs.NumberLines.{numbers_text, values_text}
 use Rattle.hprof_show.specs.Shown.{class_referents, constant_referents, element_referents, field_referents}
 use Rattle.hprof_show.specs.Shown.{found_object_referents, is_some_id, referent, shown_ids, static_referents}
 use Rattle.hprof_show.specs.ShowText.{contents_text, found_text, object_line, object_text}
-use Rattle.hprof_show.proofs.Among.{all_back, all_front}
-use Rattle.hprof_show.proofs.SameWords.{Agrees, node_same, object_words_same, reference_same, value_same, with_others}
+use Rattle.hprof_words.proofs.Among.{all_back, all_front}
+use Rattle.hprof_words.proofs.SameWords.{Agrees, node_same, object_words_same, reference_same, with_others}
 
 -- an array of numbers has elements of such a type
 abbrev pub IsArrayOfNumbers : FactValue → Type 0
@@ -49,6 +49,21 @@ module _ (one : Findings) (object : ℕ → Option FactValue) (text : ℕ → Te
   abbrev Same : ℕ → Type 0
   Same id = Agrees one object text thread_name id
 
+  -- ---- a value
+
+  value_same : (basic : Basic) (bits : ℕ) → Same (referent basic bits) → value_text one basic bits ≡ value_text other basic bits
+  unfolding value_text
+  value_same basics.Array bits same = reference_same one object text thread_name bits same
+  value_same basics.Object bits same = reference_same one object text thread_name bits same
+  value_same basics.Boolean bits same = refl
+  value_same basics.Char bits same = refl
+  value_same basics.Float bits same = refl
+  value_same basics.Double bits same = refl
+  value_same basics.Byte bits same = refl
+  value_same basics.Short bits same = refl
+  value_same basics.Int bits same = refl
+  value_same basics.Long bits same = refl
+
   -- ---- a class
 
   named_same : (word : List ℕ) (id : ℕ) → Same id → named_line one word id ≡ named_line other word id
@@ -68,13 +83,13 @@ module _ (one : Findings) (object : ℕ → Option FactValue) (text : ℕ → Te
       → constant_line one place constant ≡ constant_line other place constant
   constant_same place constant same =
       ap (λ (value : List ℕ). equal_line (codes "constant " ++ decimal place) value)
-      (value_same one object text thread_name constant.value.basic constant.value.bits same)
+      (value_same constant.value.basic constant.value.bits same)
 
   static_same : (place : ℕ) (field : Static) → Same (referent field.value.basic field.value.bits)
       → static_line one place field ≡ static_line other place field
   static_same place field same =
       ap (λ (value : List ℕ). equal_line (codes "static " ++ decimal place ++ codes " " ++ one.naming.name_text field.name) value)
-      (value_same one object text thread_name field.value.basic field.value.bits same)
+      (value_same field.value.basic field.value.bits same)
 
   constants_same : (dump : ClassValue) → AllByRecursion Same (constant_referents dump.constants)
       → constants_text one dump ≡ constants_text other dump
@@ -121,7 +136,7 @@ module _ (one : Findings) (object : ℕ → Option FactValue) (text : ℕ → Te
       → field_line one place value ≡ field_line other place value
   value_line_same place value same =
       ap (λ (told : List ℕ). equal_line (codes "field " ++ decimal place ++ codes " " ++ one.naming.name_text value.name) told)
-      (value_same one object text thread_name value.basic value.bits same)
+      (value_same value.basic value.bits same)
 
   values_same : (before place : ℕ) (values : List FieldValue) → AllByRecursion Same (field_referents values)
       → fields_from one before place values ≡ fields_from other before place values

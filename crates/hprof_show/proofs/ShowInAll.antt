@@ -9,23 +9,19 @@ use Rattle.hprof_heap.specs.Found.{IsClassFound, IsObjectFound}
 use Rattle.hprof_histogram.specs.Chosen.{is_among}
 use Rattle.hprof_layouts.specs.Fields.{AreFields, FieldsValue}
 use Rattle.hprof_layouts.proofs.FieldAnswers.{fields_exist}
-use Rattle.hprof_lines.proofs.WholeNames.{naming_same}
-use Rattle.hprof_naming.proofs.Lookups.{class_exists, object_exists, object_once}
-use Rattle.hprof_naming.proofs.OneText.{text_once}
+use Rattle.hprof_naming.proofs.Lookups.{class_exists, object_exists}
 use Rattle.hprof_small.specs.Small.{IsSmall}
 use Rattle.hprof_small.proofs.SmallHas.{class_in_all, object_in_all}
-use Rattle.hprof_threads.proofs.NameAnswers.{thread_name_once}
 use Rattle.hprof_describe.specs.Findings.{AreFindings, Findings}
 use Rattle.hprof_describe.proofs.OneFinding.{findings_exist}
 use Rattle.hprof_reports.proofs.SmallFields.{fields_in_all}
-use Rattle.hprof_reports.proofs.SmallTexts.{text_in_all}
+use Rattle.hprof_words.proofs.Among.{all_of}
+use Rattle.hprof_words.proofs.SameWords.{Agrees, with_others}
+use Rattle.hprof_words.proofs.WordsInAll.{are_others, same_of}
 use Rattle.hprof_show.specs.Shown.{shown_ids}
-use Rattle.hprof_show.specs.ShownObjects.{HasShown, HasWords}
+use Rattle.hprof_show.specs.ShownObjects.{HasShown}
 use Rattle.hprof_show.specs.ShowText.{IsShowText, found_text}
-use Rattle.hprof_show.proofs.Among.{all_of}
 use Rattle.hprof_show.proofs.SameShow.{AreFound, IsArrayOfNumbers, found_same}
-use Rattle.hprof_show.proofs.SameWords.{Agrees, with_others}
-use Rattle.hprof_show.proofs.SmallNames.{thread_name_in_all}
 
 module _ (ids : IdSize) (wanted : List ℕ) (all small : List FactValue) (id : ℕ) (agree : IsConsistent all)
     (is : IsSmall ids wanted all small) (has : HasShown ids all id wanted) where
@@ -40,29 +36,6 @@ module _ (ids : IdSize) (wanted : List ℕ) (all small : List FactValue) (id : �
   -- ---- two findings
 
   module _ (one other : Findings) (are : AreFindings ids small one) (are_too : AreFindings ids all other) where
-    -- those of the whole, with the names of the small heap
-    pub are_others : AreFindings ids all (with_others one other.object other.text other.thread_name)
-    are_others = record {
-      ids_are = are.ids_are;
-      is_naming = naming_same ids all small is.whole one.naming are.is_naming;
-      classes = λ node. class_in_all ids wanted all small is node (one.class node) (are.classes node);
-      objects = are_too.objects;
-      texts = are_too.texts;
-      thread_names = are_too.thread_names;
-    }
-
-    same_of : (node : ℕ) → HasWords ids all wanted node → Agrees one other.object other.text other.thread_name node
-    same_of node words = record {
-      object_is = object_once all agree node (one.object node) (other.object node)
-          (object_in_all ids wanted all small is node words.next.object (one.object node) (are.objects node)) (are_too.objects node);
-      text_is = text_once all agree ids node (one.text node) (other.text node)
-          (text_in_all ids wanted all small is node (one.text node) words.next.object words.next.array (are.texts node))
-          (are_too.texts node);
-      name_is = thread_name_once all agree ids node (one.thread_name node) (other.thread_name node)
-          (thread_name_in_all ids wanted all small is node (one.thread_name node) words (are.thread_names node))
-          (are_too.thread_names node);
-    }
-
     -- ---- the dumps
 
     numbers_of : (fact : FactValue) → IsObjectFound small id (Some fact) → IsArrayOfNumbers fact
@@ -85,11 +58,11 @@ module _ (ids : IdSize) (wanted : List ℕ) (all small : List FactValue) (id : �
         let object_is = object_in_all ids wanted all small is id object_there (one.object id) (are.objects id) in
         let fields_are = fields_in_all ids wanted all small is id object_there fields are_fields in
         let each = all_of (Agrees one other.object other.text other.thread_name) (shown_ids id fields (one.class id) (one.object id))
-        (λ node shown. same_of node (has fields (one.class id) (one.object id) fields_are class_is object_is node shown)) in
+        (λ node shown. same_of ids wanted all small agree is one other are are_too node (has fields (one.class id) (one.object id) fields_are class_is object_is node shown)) in
         found_same one other.object other.text other.thread_name id fields (one.class id) (one.object id)
         (found_of (one.class id) (one.object id) (are.classes id) (are.objects id)) each
         ∙ ap (λ (o : Option FactValue). found_text (with_others one other.object other.text other.thread_name) id fields (one.class id) o)
-        (same_of id (has fields (one.class id) (one.object id) fields_are class_is object_is id (0, omega arith, refl))).object_is
+        (same_of ids wanted all small agree is one other are are_too id (has fields (one.class id) (one.object id) fields_are class_is object_is id (0, omega arith, refl))).object_is
 
   pub show_in_all : (text : List ℕ) → IsShowText ids small id text → IsShowText ids all id text
   show_in_all text of =
@@ -97,7 +70,7 @@ module _ (ids : IdSize) (wanted : List ℕ) (all small : List FactValue) (id : �
       record {
         agree = agree;
         found = with_others of.found whole.0.object whole.0.text whole.0.thread_name;
-        are_found = are_others of.found whole.0 of.are_found whole.1;
+        are_found = are_others ids wanted all small agree is of.found whole.0 of.are_found whole.1;
         fields = of.fields;
         are_fields = fields_in_all ids wanted all small is id object_there of.fields of.are_fields;
         is = of.is ∙ text_same of.found whole.0 of.are_found whole.1 of.fields of.are_fields;

@@ -5,4 +5,3 @@ pub mod NumberLines
 pub mod ShowText
 pub mod Shown
 pub mod ShownObjects
-pub mod Few

@@ -9,7 +9,6 @@ mod entries;
 mod few;
 mod field_lines;
 pub mod laws;
-mod needed;
 mod number_lines;
 mod show;
 mod show_over;

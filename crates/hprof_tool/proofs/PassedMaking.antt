@@ -31,6 +31,9 @@ is_passed (passed.Objects kind) = tt
 is_passed (passed.Object id) = tt
 is_passed (passed.Text id) = tt
 is_passed (passed.Show id) = tt
+is_passed (passed.Refs id) = tt
+is_passed (passed.Path id) = tt
+is_passed passed.Threads = tt
 
 -- the report is another one than those
 some_passed : (report : Report) → ((p : PassedReport) → report_of p ≢ report) → IsPassed report → ⊥
@@ -39,16 +42,20 @@ some_passed (reports.Heap heaps.Histogram) other is = other passed.Histogram ref
 some_passed (reports.Heap heaps.Classes) other is = other passed.Classes refl
 some_passed (reports.Heap heaps.Suspects) other is = is
 some_passed (reports.Heap heaps.Retained) other is = is
-some_passed (reports.Heap heaps.Threads) other is = is
+some_passed (reports.Heap heaps.Threads) other is = other passed.Threads refl
 some_passed (reports.Kind kinds.Objects these) other is = other (passed.Objects these) refl
 some_passed (reports.Kind kinds.Biggest these) other is = is
 some_passed (reports.Node nodes.Object (that.Identifier id)) other is = other (passed.Object id) refl
 some_passed (reports.Node nodes.Text (that.Identifier id)) other is = other (passed.Text id) refl
 some_passed (reports.Node nodes.Show (that.Identifier id)) other is = other (passed.Show id) refl
+some_passed (reports.Node nodes.Refs (that.Identifier id)) other is = other (passed.Refs id) refl
+some_passed (reports.Node nodes.Path (that.Identifier id)) other is = other (passed.Path id) refl
 some_passed (reports.Node node (that.Identifier id)) other is = is
 some_passed (reports.Node nodes.Object (that.Named name)) other is = is
 some_passed (reports.Node nodes.Text (that.Named name)) other is = is
 some_passed (reports.Node nodes.Show (that.Named name)) other is = is
+some_passed (reports.Node nodes.Refs (that.Named name)) other is = is
+some_passed (reports.Node nodes.Path (that.Named name)) other is = is
 some_passed (reports.Node node (that.Named name)) other is = is
 
 never_true : false ≡ true → ⊥

@@ -36,10 +36,13 @@ abbrev pub IsPassed : Report → Type 0
 IsPassed (reports.Heap heaps.Check) = ⊤
 IsPassed (reports.Heap heaps.Histogram) = ⊤
 IsPassed (reports.Heap heaps.Classes) = ⊤
+IsPassed (reports.Heap heaps.Threads) = ⊤
 IsPassed (reports.Kind kinds.Objects these) = ⊤
 IsPassed (reports.Node nodes.Object (that.Identifier id)) = ⊤
 IsPassed (reports.Node nodes.Text (that.Identifier id)) = ⊤
 IsPassed (reports.Node nodes.Show (that.Identifier id)) = ⊤
+IsPassed (reports.Node nodes.Refs (that.Identifier id)) = ⊤
+IsPassed (reports.Node nodes.Path (that.Identifier id)) = ⊤
 IsPassed other = ⊥
 
 -- what a report makes of parts; where objects may be read again, memory is taken for each, also for one that is known

@@ -21,7 +21,7 @@ use std::alloc::Global;
 ///
 /// The first of these that applies is the fault.
 ///
-/// - `Part`: a part was refused, or its reader failed.
+/// - `Part`: a part was refused, its reader failed, or memory ran out while it was read.
 /// - `NoParts`, `IdSizes`: there are no parts, or they have two sizes of identifiers.
 /// - `Conflict`: two facts have one key and different contents. This is the least such key.
 pub fn read_heap<R: Source>(

@@ -130,8 +130,9 @@ fn heap_reads_again(report: HeapReport) -> bool
     ensures { result ≡ heap_reads_again report }
 {
     match report {
-        HeapReport::Check | HeapReport::Histogram | HeapReport::Classes => true,
-        HeapReport::Threads | HeapReport::Suspects | HeapReport::Retained => false,
+        HeapReport::Check | HeapReport::Histogram | HeapReport::Classes | HeapReport::Threads =>
+            true,
+        HeapReport::Suspects | HeapReport::Retained => false,
     }
 }
 
@@ -150,12 +151,12 @@ fn node_reads_again(report: NodeReport) -> bool
     ensures { result ≡ node_reads_again report }
 {
     match report {
-        NodeReport::Show | NodeReport::Text | NodeReport::Object => true,
-        NodeReport::Why
-        | NodeReport::Who
-        | NodeReport::Keeps
+        NodeReport::Show
+        | NodeReport::Text
+        | NodeReport::Object
         | NodeReport::Refs
-        | NodeReport::Path => false,
+        | NodeReport::Path => true,
+        NodeReport::Why | NodeReport::Who | NodeReport::Keeps => false,
     }
 }
 

@@ -232,11 +232,10 @@ impl<'a> Made for Report<'a> {
         again: Option<Again<H, S>>,
         target: &mut W,
     ) -> Result<(), ToolFault> {
-        if let Some(passed) = PassedReport::of(*self) {
-            return match again {
-                Some(again) => make_again(alloc, &passed, readers, again, target),
-                None => make_of_heap(alloc, &Reporting { report: *self }, readers, target),
-            };
+        if let Some(again) = again {
+            if let Some(passed) = PassedReport::of(*self) {
+                return make_again(alloc, &passed, readers, again, target);
+            }
         }
         match *self {
             Report::Node(NodeReport::Refs, Node::Identifier(id)) => {

@@ -2,9 +2,9 @@ use Rattle.std.proofs.Common.{◌≡◌, ◌∙◌, subst, sym}
 use Rattle.hprof_heap.specs.Heap.{heap_of}
 use Rattle.hprof_heap.specs.HeapFacts.{facts_of, size_of}
 use Rattle.hprof_reports.proofs.FoundSo.{found_so}
-use Rattle.hprof_show.specs.Few.{IsFew}
+use Rattle.hprof_words.specs.Few.{IsFew}
 use Rattle.hprof_show.specs.ShownObjects.{HasShownIds}
-use Rattle.hprof_show.proofs.Among.{alone}
+use Rattle.hprof_words.proofs.Among.{alone}
 use Rattle.hprof_show.proofs.FewHeaps.{shown_read}
 use Rattle.hprof_show.proofs.few.few_shown.Goals as goal
 

@@ -5,7 +5,7 @@ use Rattle.hprof_heap.specs.ClassDump.{class_value}
 use Rattle.hprof_heap.specs.HeapFacts.{facts_of, size_of}
 use Rattle.hprof_heap.specs.ObjectDump.{fact_of_object}
 use Rattle.hprof_show.specs.Shown.{found_class_referents, found_object_referents}
-use Rattle.hprof_show.proofs.NextParts.{shown_found}
+use Rattle.hprof_show.proofs.ShownFound.{shown_found}
 use Rattle.hprof_show.proofs.PushedIds.{shown_pushed}
 use Rattle.hprof_show.proofs.shown.shown_ids.Goals as goal
 

@@ -7,8 +7,11 @@ use Rattle.hprof_reports.specs.Check.{IsCheck}
 use Rattle.hprof_reports.specs.ClassesText.{IsClassesText}
 use Rattle.hprof_reports.specs.HistogramText.{IsHistogramText}
 use Rattle.hprof_reports.specs.ObjectText.{IsObjectText}
+use Rattle.hprof_reports.specs.PathText.{IsPathText}
+use Rattle.hprof_reports.specs.RefsText.{IsRefsText}
 use Rattle.hprof_reports.specs.TextReport.{IsTextLine}
 use Rattle.hprof_show.specs.ShowText.{IsShowText}
+use Rattle.hprof_holders.specs.ThreadsText.{IsThreadsText}
 use Rattle.hprof_ask.specs.Summarised.{Holds}
 use Rattle.hprof_ask.specs.Report.{IsReportText, RefusesReport}
 use Rattle.hprof_making.specs.Over.{EndsOver, heap_with}
@@ -68,6 +71,26 @@ returns-in-Classes g c = λ summaries holds.
     (λ (p : PassedReport). IsReportText (report_of p) summaries (heap_with (heap_of c.args.heap.now) all) text)
     (sym c.in-Classes.is) is)
     (λ refusal all. RefusesReport all report refusal) c.write_classes_over.result c.write_classes_over.ensures
+
+pub returns-in-Threads : goal.returns-in-Threads
+unfolding facts_of size_of
+returns-in-Threads g c = λ summaries holds.
+    let ids = size_of c.args.heap.now in
+    let facts = facts_of c.args.heap.now in
+    let objects = c.args.objects.now in
+    let report = report_of c.args.self.now in
+    let MakeUp = g.O.Objects.make_up objects ids facts in
+    let agree = g.O.Objects.agree objects ids facts in
+    let tells = g.O.Objects.tells objects ids facts in
+    ends_fewer MakeUp (MadeUpWith MakeUp ids c.args.known) agree tells
+    (λ all. IsReportText report summaries (heap_with (heap_of c.args.heap.now) all)) (λ refusal all. RefusesReport all report refusal)
+    g.W.Target.written g.W.Target.health c.args.target.now c.write_threads_over.new.target (λ all made. made.0) c.write_threads_over.result
+    (ends_over MakeUp agree tells (IsThreadsText ids)
+    (λ all. IsReportText report summaries (heap_with (heap_of c.args.heap.now) all)) g.W.Target.written g.W.Target.health
+    c.args.target.now c.write_threads_over.new.target (λ all text make is. subst
+    (λ (p : PassedReport). IsReportText (report_of p) summaries (heap_with (heap_of c.args.heap.now) all) text)
+    (sym c.in-Threads.is) is)
+    (λ refusal all. RefusesReport all report refusal) c.write_threads_over.result c.write_threads_over.ensures)
 
 pub returns-in-Objects : goal.returns-in-Objects
 unfolding facts_of size_of
@@ -147,3 +170,43 @@ returns-in-Show g c = λ summaries holds.
     (λ (p : PassedReport). IsReportText (report_of p) summaries (heap_with (heap_of c.args.heap.now) all) text)
     (sym c.in-Show.is) is)
     (λ refusal all. RefusesReport all report refusal) c.write_show_over.result c.write_show_over.ensures)
+
+pub returns-in-Refs : goal.returns-in-Refs
+unfolding facts_of size_of
+returns-in-Refs g c = λ summaries holds.
+    let ids = size_of c.args.heap.now in
+    let facts = facts_of c.args.heap.now in
+    let objects = c.args.objects.now in
+    let report = report_of c.args.self.now in
+    let MakeUp = g.O.Objects.make_up objects ids facts in
+    let agree = g.O.Objects.agree objects ids facts in
+    let tells = g.O.Objects.tells objects ids facts in
+    ends_fewer MakeUp (MadeUpWith MakeUp ids c.args.known) agree tells
+    (λ all. IsReportText report summaries (heap_with (heap_of c.args.heap.now) all)) (λ refusal all. RefusesReport all report refusal)
+    g.W.Target.written g.W.Target.health c.args.target.now c.write_refs_over.new.target (λ all made. made.0) c.write_refs_over.result
+    (ends_over MakeUp agree tells (λ all. IsRefsText ids all c.in-Refs.id)
+    (λ all. IsReportText report summaries (heap_with (heap_of c.args.heap.now) all)) g.W.Target.written g.W.Target.health
+    c.args.target.now c.write_refs_over.new.target (λ all text make is. subst
+    (λ (p : PassedReport). IsReportText (report_of p) summaries (heap_with (heap_of c.args.heap.now) all) text)
+    (sym c.in-Refs.is) is)
+    (λ refusal all. RefusesReport all report refusal) c.write_refs_over.result c.write_refs_over.ensures)
+
+pub returns-in-Path : goal.returns-in-Path
+unfolding facts_of size_of
+returns-in-Path g c = λ summaries holds.
+    let ids = size_of c.args.heap.now in
+    let facts = facts_of c.args.heap.now in
+    let objects = c.args.objects.now in
+    let report = report_of c.args.self.now in
+    let MakeUp = g.O.Objects.make_up objects ids facts in
+    let agree = g.O.Objects.agree objects ids facts in
+    let tells = g.O.Objects.tells objects ids facts in
+    ends_fewer MakeUp (MadeUpWith MakeUp ids c.args.known) agree tells
+    (λ all. IsReportText report summaries (heap_with (heap_of c.args.heap.now) all)) (λ refusal all. RefusesReport all report refusal)
+    g.W.Target.written g.W.Target.health c.args.target.now c.write_path_over.new.target (λ all made. made.0) c.write_path_over.result
+    (ends_over MakeUp agree tells (λ all. IsPathText ids all c.in-Path.id)
+    (λ all. IsReportText report summaries (heap_with (heap_of c.args.heap.now) all)) g.W.Target.written g.W.Target.health
+    c.args.target.now c.write_path_over.new.target (λ all text make is. subst
+    (λ (p : PassedReport). IsReportText (report_of p) summaries (heap_with (heap_of c.args.heap.now) all) text)
+    (sym c.in-Path.is) is)
+    (λ refusal all. RefusesReport all report refusal) c.write_path_over.result c.write_path_over.ensures)

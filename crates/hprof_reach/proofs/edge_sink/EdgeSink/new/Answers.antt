@@ -6,11 +6,11 @@ use Rattle.hprof_heap.specs.declared.heap.Heap.{Heap}
 use Rattle.hprof_layouts.specs.Known.{Knows}
 use Rattle.hprof_layouts.proofs.KnownPlans.{knows_same}
 use Rattle.hprof_edges.specs.LeftOut.{fields_in}
+use Rattle.hprof_edges.proofs.SeenReferrers.{dumps_same}
 use Rattle.hprof_numbers.specs.Numbered.{nodes_in}
 use Rattle.hprof_reach.specs.EdgesSoFar.{LeadsByClass, LeadsByObjects}
 use Rattle.hprof_reach.specs.Graph.{targets_in}
 use Rattle.hprof_reach.proofs.MadeLists.{none_made}
-use Rattle.hprof_reach.proofs.Wholes.{dumps_same}
 use Rattle.hprof_reach.proofs.edge_sink.EdgeSink.new.Goals as goal
 
 pub returns-clause-seen : goal.returns-clause-seen

@@ -13,18 +13,13 @@ use Rattle.hprof_tool.specs.Program.{usual_limits}
 use Rattle.hprof_tool.proofs.PassedMaking.{heap_makes, node_report, passed_makes}
 use Rattle.hprof_tool.proofs.program.made.ReportMade.make.Goals as goal
 
-pub returns-in-Some-again : goal.returns-in-Some-again
-returns-in-Some-again g c =
+pub returns-in-Some-of : goal.returns-in-Some-of
+returns-in-Some-of g c =
     subst (λ (report : Report). Makes g.R.Source.left g.R.Source.health g.R.Source.pulls g.W.Target.written g.W.Target.health usual_limits
     (report_of_parts report) c.args.readers.now c.make_again.new.readers c.args.target.now c.make_again.new.target
-    (fault_of c.make_again.result)) c.in-Some.ensures
+    (fault_of c.make_again.result)) c.in-Some-of.ensures
     (passed_makes g.R.Source.left g.R.Source.health g.R.Source.pulls usual_limits g.W.Target.written g.W.Target.health c.args.readers.now
-    c.make_again.new.readers c.args.target.now c.make_again.new.target (fault_of c.make_again.result) c.in-Some.passed c.make_again.ensures)
-
-pub returns-in-None : goal.returns-in-None
-returns-in-None g c = heap_makes g.R.Source.left g.R.Source.health g.R.Source.pulls usual_limits g.W.Target.written g.W.Target.health
-    c.args.readers.now c.make_of_heap.new.readers c.args.target.now c.make_of_heap.new.target (fault_of c.make_of_heap.result)
-    c.args.self.now c.make_of_heap.ensures
+    c.make_again.new.readers c.args.target.now c.make_again.new.target (fault_of c.make_again.result) c.in-Some-of.passed c.make_again.ensures)
 
 -- references are found while parts are read
 
@@ -61,8 +56,8 @@ returns-in-Node-Who-Identifier g c =
     (are_usual c.usual-in-Node-Who-Identifier.result usual.item usual.reads usual.bytes) c.who_to.ensures))
 
 -- all other reports are made of a heap
-pub returns : goal.returns
-returns g c =
-    let made = c.make_of_heap-in_default-self in
+pub returns-in_default-self : goal.returns-in_default-self
+returns-in_default-self g c =
+    let made = c.make_of_heap in
     heap_makes g.R.Source.left g.R.Source.health g.R.Source.pulls usual_limits g.W.Target.written g.W.Target.health
     c.args.readers.now made.new.readers c.args.target.now made.new.target (fault_of made.result) c.args.self.now made.ensures
