@@ -1,1 +1,2 @@
 mod NamedKind
+mod NamedDumps

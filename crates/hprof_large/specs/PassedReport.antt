@@ -1,12 +1,22 @@
 -- Reports that are made of passes over objects.
 use Rattle.hprof_questions.specs.declared.report.HeapReport.TheVariants as heaps
 use Rattle.hprof_questions.specs.declared.report.KindReport.TheVariants as kinds
-use Rattle.hprof_questions.specs.declared.report.Node.TheVariants as that
+use Rattle.hprof_questions.specs.declared.report.NodeReport.{NodeReport}
 use Rattle.hprof_questions.specs.declared.report.NodeReport.TheVariants as nodes
 use Rattle.hprof_questions.specs.declared.report.Report.{Report}
 use Rattle.hprof_questions.specs.declared.report.Report.TheVariants as reports
+use Rattle.hprof_large.specs.declared.passed_node_report.PassedNodeReport.{PassedNodeReport}
+use Rattle.hprof_large.specs.declared.passed_node_report.PassedNodeReport.TheVariants as passed_nodes
 use Rattle.hprof_large.specs.declared.passed_report.PassedReport.{PassedReport}
 use Rattle.hprof_large.specs.declared.passed_report.PassedReport.TheVariants as passed
+
+-- the report on a class, an instance or an array
+abbrev pub node_report_of : PassedNodeReport → NodeReport
+node_report_of passed_nodes.Show = nodes.Show
+node_report_of passed_nodes.Text = nodes.Text
+node_report_of passed_nodes.Object = nodes.Object
+node_report_of passed_nodes.Refs = nodes.Refs
+node_report_of passed_nodes.Path = nodes.Path
 
 -- the report
 abbrev pub report_of : PassedReport → Report
@@ -15,8 +25,4 @@ report_of passed.Histogram = reports.Heap heaps.Histogram
 report_of passed.Classes = reports.Heap heaps.Classes
 report_of passed.Threads = reports.Heap heaps.Threads
 report_of (passed.Objects these) = reports.Kind kinds.Objects these
-report_of (passed.Object id) = reports.Node nodes.Object (that.Identifier id)
-report_of (passed.Text id) = reports.Node nodes.Text (that.Identifier id)
-report_of (passed.Show id) = reports.Node nodes.Show (that.Identifier id)
-report_of (passed.Refs id) = reports.Node nodes.Refs (that.Identifier id)
-report_of (passed.Path id) = reports.Node nodes.Path (that.Identifier id)
+report_of (passed.Node report node) = reports.Node (node_report_of report) node

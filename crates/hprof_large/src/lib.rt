@@ -5,6 +5,9 @@
 
 mod checked;
 mod named;
+mod node;
+mod passed_node_report;
 mod passed_report;
 
+pub use passed_node_report::PassedNodeReport;
 pub use passed_report::PassedReport;

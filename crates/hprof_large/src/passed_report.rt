@@ -4,6 +4,8 @@ ghost use Rattle.std.specs.Prelude.{◌≡◌};
 
 use crate::checked::write_check;
 use crate::named::write_objects;
+use crate::node::write_node;
+use crate::passed_node_report::PassedNodeReport;
 use hprof_ask::Reporting;
 use hprof_devices::Target;
 use hprof_engine::{Summaries, WriteStop};
@@ -12,12 +14,8 @@ use hprof_histogram::CountedKinds;
 use hprof_holders::write_threads_over;
 use hprof_making::PassProduct;
 use hprof_passes::{Objects, PassStop};
-use hprof_questions::{HeapReport, KindReport, Kinds, Node, NodeReport, Report};
-use hprof_reports::{
-    write_classes_over, write_histogram_over, write_object_over, write_path_over, write_refs_over,
-    write_text_over,
-};
-use hprof_show::write_show_over;
+use hprof_questions::{HeapReport, KindReport, Kinds, Node, Report};
+use hprof_reports::{write_classes_over, write_histogram_over};
 use hprof_stream::PartSummary;
 use std::alloc::{AllocError, Global};
 
@@ -34,16 +32,8 @@ pub enum PassedReport<'a> {
     Threads,
     /// `objects`: the objects of a class or a type, or of all classes that a name means, the largest first.
     Objects(Kinds<'a>),
-    /// `object`: the contents of a class and an object.
-    Object(u64),
-    /// `text`: the text of a string, or of an array of chars or bytes.
-    Text(u64),
-    /// `show`: the contents of a class, an instance or an array, decoded.
-    Show(u64),
-    /// `refs`: each reference to an identifier.
-    Refs(u64),
-    /// `path`: the shortest path from a GC root to an identifier.
-    Path(u64),
+    /// A report on a class, an instance or an array.
+    Node(PassedNodeReport, Node<'a>),
 }
 
 impl<'a> PassedReport<'a> {
@@ -62,16 +52,11 @@ impl<'a> PassedReport<'a> {
             Report::Heap(HeapReport::Classes) => Some(PassedReport::Classes),
             Report::Heap(HeapReport::Threads) => Some(PassedReport::Threads),
             Report::Kind(KindReport::Objects, kinds) => Some(PassedReport::Objects(kinds)),
-            Report::Node(NodeReport::Object, Node::Identifier(id)) => {
-                Some(PassedReport::Object(id))
+            Report::Node(report, node) => {
+                Some(PassedReport::Node(PassedNodeReport::of(report)?, node))
             }
-            Report::Node(NodeReport::Text, Node::Identifier(id)) => Some(PassedReport::Text(id)),
-            Report::Node(NodeReport::Show, Node::Identifier(id)) => Some(PassedReport::Show(id)),
-            Report::Node(NodeReport::Refs, Node::Identifier(id)) => Some(PassedReport::Refs(id)),
-            Report::Node(NodeReport::Path, Node::Identifier(id)) => Some(PassedReport::Path(id)),
             Report::Heap(HeapReport::Suspects | HeapReport::Retained)
-            | Report::Kind(KindReport::Biggest, _)
-            | Report::Node(_, _) => None,
+            | Report::Kind(KindReport::Biggest, _) => None,
         }
     }
 
@@ -85,11 +70,7 @@ impl<'a> PassedReport<'a> {
             PassedReport::Classes => Report::Heap(HeapReport::Classes),
             PassedReport::Threads => Report::Heap(HeapReport::Threads),
             PassedReport::Objects(kinds) => Report::Kind(KindReport::Objects, kinds),
-            PassedReport::Object(id) => Report::Node(NodeReport::Object, Node::Identifier(id)),
-            PassedReport::Text(id) => Report::Node(NodeReport::Text, Node::Identifier(id)),
-            PassedReport::Show(id) => Report::Node(NodeReport::Show, Node::Identifier(id)),
-            PassedReport::Refs(id) => Report::Node(NodeReport::Refs, Node::Identifier(id)),
-            PassedReport::Path(id) => Report::Node(NodeReport::Path, Node::Identifier(id)),
+            PassedReport::Node(report, node) => Report::Node(report.report(), node),
         }
     }
 
@@ -155,11 +136,9 @@ impl PassProduct for PassedReport<'_> {
             PassedReport::Classes => write_classes_over(alloc, heap, objects, known, target),
             PassedReport::Threads => write_threads_over(alloc, heap, objects, target),
             PassedReport::Objects(kinds) => write_objects(alloc, heap, objects, kinds, target),
-            PassedReport::Object(id) => write_object_over(alloc, heap, objects, id, target),
-            PassedReport::Text(id) => write_text_over(alloc, heap, objects, id, target),
-            PassedReport::Show(id) => write_show_over(alloc, heap, objects, id, target),
-            PassedReport::Refs(id) => write_refs_over(alloc, heap, objects, id, target),
-            PassedReport::Path(id) => write_path_over(alloc, heap, objects, id, target),
+            PassedReport::Node(report, node) => {
+                write_node(alloc, heap, objects, report, node, target)
+            }
         }
     }
 }

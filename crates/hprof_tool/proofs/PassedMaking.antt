@@ -17,6 +17,7 @@ use Rattle.hprof_questions.specs.declared.report.NodeReport.TheVariants as nodes
 use Rattle.hprof_questions.specs.declared.report.Report.{Report}
 use Rattle.hprof_questions.specs.declared.report.Report.TheVariants as reports
 use Rattle.hprof_ask.specs.Report.{IsReportText, RefusesReport, TakesMemory, TakesRoom, report_making}
+use Rattle.hprof_large.specs.declared.passed_node_report.PassedNodeReport.TheVariants as nodes_passed
 use Rattle.hprof_large.specs.declared.passed_report.PassedReport.{PassedReport}
 use Rattle.hprof_large.specs.declared.passed_report.PassedReport.TheVariants as passed
 use Rattle.hprof_large.specs.PassedReport.{report_of}
@@ -28,11 +29,11 @@ is_passed passed.Check = tt
 is_passed passed.Histogram = tt
 is_passed passed.Classes = tt
 is_passed (passed.Objects kind) = tt
-is_passed (passed.Object id) = tt
-is_passed (passed.Text id) = tt
-is_passed (passed.Show id) = tt
-is_passed (passed.Refs id) = tt
-is_passed (passed.Path id) = tt
+is_passed (passed.Node nodes_passed.Show node) = tt
+is_passed (passed.Node nodes_passed.Text node) = tt
+is_passed (passed.Node nodes_passed.Object node) = tt
+is_passed (passed.Node nodes_passed.Refs node) = tt
+is_passed (passed.Node nodes_passed.Path node) = tt
 is_passed passed.Threads = tt
 
 -- the report is another one than those
@@ -45,18 +46,14 @@ some_passed (reports.Heap heaps.Retained) other is = is
 some_passed (reports.Heap heaps.Threads) other is = other passed.Threads refl
 some_passed (reports.Kind kinds.Objects these) other is = other (passed.Objects these) refl
 some_passed (reports.Kind kinds.Biggest these) other is = is
-some_passed (reports.Node nodes.Object (that.Identifier id)) other is = other (passed.Object id) refl
-some_passed (reports.Node nodes.Text (that.Identifier id)) other is = other (passed.Text id) refl
-some_passed (reports.Node nodes.Show (that.Identifier id)) other is = other (passed.Show id) refl
-some_passed (reports.Node nodes.Refs (that.Identifier id)) other is = other (passed.Refs id) refl
-some_passed (reports.Node nodes.Path (that.Identifier id)) other is = other (passed.Path id) refl
-some_passed (reports.Node node (that.Identifier id)) other is = is
-some_passed (reports.Node nodes.Object (that.Named name)) other is = is
-some_passed (reports.Node nodes.Text (that.Named name)) other is = is
-some_passed (reports.Node nodes.Show (that.Named name)) other is = is
-some_passed (reports.Node nodes.Refs (that.Named name)) other is = is
-some_passed (reports.Node nodes.Path (that.Named name)) other is = is
-some_passed (reports.Node node (that.Named name)) other is = is
+some_passed (reports.Node nodes.Show node) other is = other (passed.Node nodes_passed.Show node) refl
+some_passed (reports.Node nodes.Text node) other is = other (passed.Node nodes_passed.Text node) refl
+some_passed (reports.Node nodes.Object node) other is = other (passed.Node nodes_passed.Object node) refl
+some_passed (reports.Node nodes.Refs node) other is = other (passed.Node nodes_passed.Refs node) refl
+some_passed (reports.Node nodes.Path node) other is = other (passed.Node nodes_passed.Path node) refl
+some_passed (reports.Node nodes.Why node) other is = is
+some_passed (reports.Node nodes.Who node) other is = is
+some_passed (reports.Node nodes.Keeps node) other is = is
 
 never_true : false ≡ true → ⊥
 never_true e = cc

@@ -1,0 +1,124 @@
+//! The reports on a class, an instance or an array, by identifier, or on the class dumps that a name means.
+
+ghost use Rattle.std.specs.Prelude.{◌≡◌, ◌≢◌, ℕ, List, [], ◌∷◌, MatchOption};
+ghost use Rattle.hprof_devices.specs.declared.health.Health.TheVariants.{Well};
+ghost use Rattle.hprof_heap.specs.Heap.{heap_of};
+ghost use Rattle.hprof_heap.specs.HeapFacts.{facts_of, size_of};
+ghost use Rattle.hprof_naming.specs.ClassNames.{AreClassNames};
+ghost use Rattle.hprof_meaning.specs.MeantClasses.{AreMeantDumps};
+ghost use Rattle.hprof_stream.specs.declared.summary.PartSummary.{PartSummary};
+ghost use Rattle.hprof_questions.specs.declared.report.Node.TheVariants as that;
+ghost use Rattle.hprof_questions.specs.declared.report.NodeReport.{NodeReport};
+ghost use Rattle.hprof_questions.specs.declared.report.Report.TheVariants as reports;
+ghost use Rattle.hprof_ask.specs.Report.{IsNamedReport, IsReportText, RefusesReport};
+ghost use Rattle.hprof_making.specs.Over.{EndsOver, heap_with};
+ghost use Rattle.hprof_large.specs.PassedReport.{node_report_of};
+
+use crate::passed_node_report::PassedNodeReport;
+use hprof_devices::Target;
+use hprof_engine::{ProductRefusal, WriteStop};
+use hprof_heap::{Heap, holds_of_heap};
+use hprof_meaning::{class_dumps_meant, write_classes_of_name};
+use hprof_naming::{ClassNames, MeantLabel};
+use hprof_passes::{Objects, PassStop};
+use hprof_questions::Node;
+use std::alloc::Global;
+
+/// Writes which class dumps a name means, of which there is not one alone. If there are none, nothing is written. The objects are counted,
+/// which finds whether two of them contradict each other. The answer is the same for each report.
+fn write_which<O: Objects, W: Target>(
+    alloc: Global,
+    heap: &Heap,
+    objects: &O,
+    names: &ClassNames,
+    name: &[u8],
+    dumps: &[u64],
+    target: &mut W,
+) -> Result<(), PassStop<WriteStop, O::Fault>>
+    requires named { AreClassNames (facts_of heap.now) names.now }
+    requires dumps { AreMeantDumps (facts_of heap.now) name.now dumps.now }
+    requires others { (id : ℕ) → dumps.now ≢ id ∷ [] }
+    requires well { W.health target.old ≡ Well }
+    ensures { (report : NodeReport) → EndsOver (O.make_up objects.now (size_of heap.now) (facts_of heap.now))
+        (O.agree objects.now (size_of heap.now) (facts_of heap.now)) (O.tells objects.now (size_of heap.now) (facts_of heap.now))
+        (λ all. IsNamedReport (size_of heap.now) all report name.now)
+        (λ refusal all. RefusesReport all (reports.Node report (that.Named name.entry)) refusal)
+        W.written W.health target.old target.new result }
+{
+    holds_of_heap(heap);
+    match objects.count(alloc, heap) {
+        Ok(_) => {}
+        Err(fault) => return Err(PassStop::Lost(fault)),
+    }
+    if dumps.is_empty() {
+        return Err(PassStop::Sink(WriteStop::Refused(ProductRefusal::NoClass)));
+    }
+    match write_classes_of_name(alloc, heap, names, dumps, target) {
+        Ok(()) => Ok(()),
+        Err(stop) => Err(PassStop::Sink(stop)),
+    }
+}
+
+/// Returns the identifier, if there is one alone.
+fn only_one(dumps: &[u64]) -> Option<u64>
+    ensures { MatchOption result ((id : ℕ) → dumps.now ≢ id ∷ []) (λ id. dumps.now ≡ id ∷ []) }
+{
+    let (first, others) = dumps.split_first()?;
+    if others.is_empty() {
+        Some(*first)
+    } else {
+        None
+    }
+}
+
+/// Writes a report on the class dump that a name means. If there are several it writes which they are, and if there is none, nothing is
+/// written.
+fn write_named<O: Objects, W: Target>(
+    alloc: Global,
+    heap: &Heap,
+    objects: &O,
+    report: PassedNodeReport,
+    name: &[u8],
+    target: &mut W,
+) -> Result<(), PassStop<WriteStop, O::Fault>>
+    requires { W.health target.old ≡ Well }
+    ensures { EndsOver (O.make_up objects.now (size_of heap.now) (facts_of heap.now))
+        (O.agree objects.now (size_of heap.now) (facts_of heap.now)) (O.tells objects.now (size_of heap.now) (facts_of heap.now))
+        (λ all. IsNamedReport (size_of heap.now) all (node_report_of report) name.now)
+        (λ refusal all. RefusesReport all (reports.Node (node_report_of report) (that.Named name.entry)) refusal)
+        W.written W.health target.old target.new result }
+{
+    let Ok(names) = ClassNames::of(alloc, heap) else {
+        return Err(PassStop::Sink(WriteStop::OutOfMemory));
+    };
+    let meant = MeantLabel::of(name);
+    let Ok(dumps) = class_dumps_meant(alloc, heap, &names, &meant) else {
+        return Err(PassStop::Sink(WriteStop::OutOfMemory));
+    };
+    match only_one(&dumps) {
+        Some(id) => report.write_on(alloc, heap, objects, id, target),
+        None => write_which(alloc, heap, objects, &names, name, &dumps, target),
+    }
+}
+
+/// Writes a report on a class, an instance or an array. If it is on a name that no class dump has, it is refused, and nothing is written.
+pub(crate) fn write_node<O: Objects, W: Target>(
+    alloc: Global,
+    heap: &Heap,
+    objects: &O,
+    report: PassedNodeReport,
+    node: Node<'_>,
+    target: &mut W,
+) -> Result<(), PassStop<WriteStop, O::Fault>>
+    requires { W.health target.old ≡ Well }
+    ensures { (summaries : List PartSummary) → EndsOver (O.make_up objects.now (size_of heap.now) (facts_of heap.now))
+        (O.agree objects.now (size_of heap.now) (facts_of heap.now)) (O.tells objects.now (size_of heap.now) (facts_of heap.now))
+        (λ all. IsReportText (reports.Node (node_report_of report) node.entry) summaries (heap_with (heap_of heap.now) all))
+        (λ refusal all. RefusesReport all (reports.Node (node_report_of report) node.entry) refusal)
+        W.written W.health target.old target.new result }
+{
+    match node {
+        Node::Identifier(id) => report.write_on(alloc, heap, objects, id, target),
+        Node::Named(name) => write_named(alloc, heap, objects, report, name, target),
+    }
+}
