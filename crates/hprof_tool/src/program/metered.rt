@@ -111,6 +111,18 @@ fn any_is_read_once<F, S, T>(parts: &[MeteredPart<'_, F, S, T>]) -> bool {
     parts.iter().any(|part| part.again.is_none())
 }
 
+/// The most stretches of all parts that stay in their part, if there are so many parts or fewer. While objects are gone through, each takes
+/// half a mebibyte.
+const MOST_STRETCHES: usize = 256;
+
+/// Returns the most stretches of each of so many parts that stay in it, which are at most `most`.
+fn stretches_of_each(parts: usize, most: usize) -> usize {
+    match MOST_STRETCHES.checked_div(parts) {
+        Some(each) => each.max(1).min(most),
+        None => most,
+    }
+}
+
 /// The permissions of a new file: its owner reads and writes it, and no one else does, since a heap may hold secrets.
 pub(crate) const PRIVATE_MODE: u32 = 0o600;
 
@@ -184,7 +196,11 @@ where
         if any_is_read_once(parts) {
             return self.keeping_once();
         }
-        Keeping::usual(self.storage.memory)
+        let usual = Keeping::usual(self.storage.memory);
+        Keeping {
+            stretches: stretches_of_each(parts.len(), usual.stretches),
+            ..usual
+        }
     }
 
     fn keeping_once(&self) -> Keeping {
