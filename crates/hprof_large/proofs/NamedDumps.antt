@@ -1,6 +1,7 @@
 -- The class dumps that a name means in facts without objects are those in the whole, and so is the answer where they are several.
-use Rattle.std.specs.Prelude.{Contains, ◌≢◌}
-use Rattle.std.proofs.Common.{◌≡◌, ℕ, List, [], ◌∷◌, ◌++◌, Option, Some, None, length, codes, refl, sym, ap, subst, ◌∙◌}
+use Rattle.std.specs.Prelude.{Contains, ◌≢◌, ◌==◌}
+use Rattle.std.proofs.Common.{◌≡◌, ℕ, true, false, List, [], ◌∷◌, ◌++◌, Option, Some, None, length, codes, refl, sym, ap, subst, ◌∙◌, arith}
+use Rattle.std.proofs.lemmas.Bool.{eqb-false, eqb-true}
 use Rattle.std.specs.List.{All}
 use Rattle.std.proofs.lemmas.List.Elements.{All-contains_itself, All-head, All-tail, All-weaker}
 use Rattle.hprof_text.specs.Identifier.{id_digits}
@@ -136,6 +137,15 @@ module _ (ids : IdSize) (facts all : List FactValue) (whole : IsWhole ids facts 
       let others = findings_exist ids all (order_agrees all whole.ordered) in
       named_with dumps (λ id has. ((are.exact id).0 has).is_dumped) text of others.0 others.1
 
+-- ---- whether there are some
+
+pub none_there : (dumps : List ℕ) → true ≡ (length dumps == 0) → dumps ≡ []
+none_there [] e = refl
+none_there (id ∷ ids) e = let none = eqb-true (length (id ∷ ids)) 0 (sym e) in absurd (omega (arith, none))
+
+pub some_there : (dumps : List ℕ) → false ≡ (length dumps == 0) → dumps ≡ [] → ⊥
+some_there dumps e none = eqb-false (length dumps) 0 (sym e) (ap (length {A = ℕ}) none)
+
 -- ---- the report
 
 module _ (ids : IdSize) (facts : List FactValue) (report : NodeReport) (word : List ℕ) where
@@ -152,3 +162,19 @@ module _ (ids : IdSize) (facts : List FactValue) (report : NodeReport) (word : L
   report_of_several (id ∷ []) are some others text of = absurd (others id refl)
   report_of_several (id ∷ next ∷ rest) are some others text of =
       record { dumps = id ∷ next ∷ rest; are_dumps = are; is = of }
+
+-- the class dumps that are meant among facts without objects are those in the whole
+pub dumps_of_whole : (ids : IdSize) (facts all : List FactValue) → IsWhole ids facts all → AllFit ids facts → IsCanonicalOrder facts
+    → (word dumps : List ℕ) → AreMeantDumps facts word dumps → AreMeantDumps all word dumps
+dumps_of_whole ids facts all whole fit ordered = dumps_same ids facts all whole (back_of ids facts all whole fit ordered)
+
+-- told of facts without objects, it is told of the whole
+pub told_of_several : (ids : IdSize) (facts all : List FactValue) → IsWhole ids facts all → IsWhole ids all facts → (report : NodeReport)
+    (word dumps : List ℕ) → AreMeantDumps facts word dumps → (dumps ≡ [] → ⊥) → ((id : ℕ) → dumps ≢ id ∷ []) → (P : List ℕ → Type 0)
+    → (text : List ℕ) × IsNamedText ids facts dumps text × P text → (text : List ℕ) × IsNamedReport ids all report word text × P text
+told_of_several ids facts all whole back report word dumps are some others P told = (
+  told.0,
+  report_of_several ids all report word dumps (dumps_same ids facts all whole back word dumps are) some others told.0
+      (named_in_all ids facts all whole back word dumps are told.0 told.1),
+  told.2,
+)

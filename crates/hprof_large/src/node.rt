@@ -88,6 +88,7 @@ fn write_named<O: Objects, W: Target>(
         (λ refusal all. RefusesReport all (reports.Node (node_report_of report) (that.Named name.entry)) refusal)
         W.written W.health target.old target.new result }
 {
+    holds_of_heap(heap);
     let Ok(names) = ClassNames::of(alloc, heap) else {
         return Err(PassStop::Sink(WriteStop::OutOfMemory));
     };
