@@ -104,8 +104,8 @@ module _ (ids : IdSize) (facts all : List FactValue) (whole : IsWhole ids facts 
   found_dump id (Some dump) found dumped = (dump, refl)
   found_dump id None none dumped = absurd (none dumped.dump dumped.has dumped.id_is)
 
-  module _ (dumps : List ℕ) (dumped : (id : ℕ) → Contains dumps id → IsDumped facts id) (text : List ℕ) (of : IsNamedText ids facts dumps text)
-      (others : Findings) (are : AreFindings ids all others) where
+  module _ (dumps : List ℕ) (dumped : (id : ℕ) → Contains dumps id → IsDumped facts id) (text : List ℕ)
+      (of : IsNamedText ids facts dumps text) (others : Findings) (are : AreFindings ids all others) where
     abbrev found : Findings
     found = with_others of.found others.object others.text others.thread_name
 

@@ -22,7 +22,8 @@ returns-then-is_empty g c = λ report. (
       let facts = facts_of c.args.heap.now in
       let whole = g.met.O.Objects.whole c.args.objects.now ids facts all make in
       let back = back_of ids facts all whole c.holds_of_heap.ensures.fit c.holds_of_heap.ensures.ordered in
-      dumps_same ids facts all whole back c.args.name.now [] (subst (AreMeantDumps facts c.args.name.now) (none_there c.args.dumps.now c.if-is_empty.ensures) c.requires.dumps),
+      dumps_same ids facts all whole back c.args.name.now []
+      (subst (AreMeantDumps facts c.args.name.now) (none_there c.args.dumps.now c.if-is_empty.ensures) c.requires.dumps),
   refl,
 )
 
@@ -40,12 +41,14 @@ returns-in-Ok-write_classes_of_name g c = λ report.
     let tells = g.O.Objects.tells objects ids facts in
     let IsText = λ (all : List FactValue). IsNamedReport ids all report name in
     ends_over MakeUp agree tells IsText IsText g.W.Target.written g.W.Target.health c.args.target.now c.write_classes_of_name.new.target
-    (λ all text make is. is) (λ refusal all. RefusesReport all (reports.Node report (that.Named c.args.name)) refusal) (Ok c.in-Ok-write_classes_of_name.field-0)
+    (λ all text make is. is) (λ refusal all. RefusesReport all (reports.Node report (that.Named c.args.name)) refusal)
+    (Ok c.in-Ok-write_classes_of_name.field-0)
     (ends_passed MakeUp agree tells IsText g.W.Target.written g.W.Target.health c.args.target.now c.write_classes_of_name.new.target answer
     c.in-Ok.ensures.agree
     (λ all make.
     let whole = g.met.O.Objects.whole objects ids facts all make in
-    told_of_several ids facts all whole (back_of ids facts all whole c.holds_of_heap.ensures.fit c.holds_of_heap.ensures.ordered) report name
+    let back = back_of ids facts all whole c.holds_of_heap.ensures.fit c.holds_of_heap.ensures.ordered in
+    told_of_several ids facts all whole back report name
     c.args.dumps.now c.requires.dumps (some_there c.args.dumps.now c.if-is_empty.ensures) c.requires.others (WritesText old new answer)
     c.in-Ok-write_classes_of_name.ensures.bytes)
     c.in-Ok-write_classes_of_name.ensures.health)
@@ -70,7 +73,8 @@ returns-in-Err-write_classes_of_name g c = λ report.
     c.in-Ok.ensures.agree
     (λ all make.
     let whole = g.met.O.Objects.whole objects ids facts all make in
-    told_of_several ids facts all whole (back_of ids facts all whole c.holds_of_heap.ensures.fit c.holds_of_heap.ensures.ordered) report name
+    let back = back_of ids facts all whole c.holds_of_heap.ensures.fit c.holds_of_heap.ensures.ordered in
+    told_of_several ids facts all whole back report name
     c.args.dumps.now c.requires.dumps (some_there c.args.dumps.now c.if-is_empty.ensures) c.requires.others (WritesText old new answer)
     c.in-Err-write_classes_of_name.ensures.bytes)
     c.in-Err-write_classes_of_name.ensures.health)

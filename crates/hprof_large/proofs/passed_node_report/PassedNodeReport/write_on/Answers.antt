@@ -31,7 +31,8 @@ returns-in-Object g c =
     let objects = c.args.objects.now in
     subst (λ (report : PassedNodeReport). EndsPassed (g.O.Objects.make_up objects ids facts) (g.O.Objects.agree objects ids facts)
     (g.O.Objects.tells objects ids facts) (λ all. IsNodeReport ids all (node_report_of report) c.args.id) g.W.Target.written
-    g.W.Target.health c.args.target.now c.write_object_over.new.target c.write_object_over.result) (sym c.in-Object.is) c.write_object_over.ensures
+    g.W.Target.health c.args.target.now c.write_object_over.new.target c.write_object_over.result)
+    (sym c.in-Object.is) c.write_object_over.ensures
 
 pub returns-in-Refs : goal.returns-in-Refs
 returns-in-Refs g c =
