@@ -24,6 +24,9 @@ mod JoinMakes
 pub mod AgainMakes
 pub mod Untold
 mod SavedRows
+mod SavedOne
 mod SavedMore
+mod SavedEnds
 mod Saved
+mod SavedHeaps
 mod SalvageAgain

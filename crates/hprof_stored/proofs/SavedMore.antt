@@ -1,21 +1,17 @@
 -- One part more that was read, whatever its fault.
-use Rattle.std.proofs.Common.{◌≡◌, ◌≢◌, ◌+◌, ◌<◌, ◌≤◌, ℕ, Bool, true, false, List, [], ◌∷◌, ◌++◌, length, map, take, set, get_or}
-use Rattle.std.proofs.Common.{Option, Some, None, Ok, Err, refl, sym, ap, subst, ◌∙◌, add-one, append-nil, append_assoc, arith}
-use Rattle.std.proofs.Common.{get_or-set_other}
+use Rattle.std.proofs.Common.{◌≡◌, ◌+◌, ◌<◌, ℕ, Bool, true, false, List, [], ◌∷◌, ◌++◌, length, map, take, set}
+use Rattle.std.proofs.Common.{Option, Some, None, refl, sym, ap, subst, ◌∙◌, add-one, append-nil, append_assoc}
 use Rattle.std.specs.Prelude.{slice_get}
 use Rattle.std.specs.List.{AllByRecursion}
-use Rattle.std.specs.Io.KnownBytes.{Consumes, IsAtEnd}
-use Rattle.std.proofs.lemmas.List.{length-append, length-set, map-append}
+use Rattle.std.specs.Io.KnownBytes.{Consumes}
+use Rattle.std.proofs.lemmas.List.{length-append, map-append}
 use Rattle.hprof_values.specs.declared.ids.IdSize.TheVariants.{Four}
 use Rattle.hprof_items.specs.declared.header.Header.{Header}
 use Rattle.hprof_items.specs.FactValue.{FactValue}
 use Rattle.hprof_devices.specs.declared.health.Health.{Health}
 use Rattle.hprof_stream.specs.declared.limits.Limits.{Limits}
 use Rattle.hprof_stream.specs.declared.part_fault.PartFault.{PartFault}
-use Rattle.hprof_stream.specs.declared.part_fault.PartFault.TheVariants as faults
-use Rattle.hprof_stream.specs.declared.summary.PartSummary.{PartSummary}
 use Rattle.hprof_stream.specs.Fault.{StatesSoFar}
-use Rattle.hprof_stream.specs.Reader.{IsReadingFault}
 use Rattle.hprof_heap.specs.Gathering.{Gathered, Gathers, Given, nothing_gathered}
 use Rattle.hprof_objects.specs.declared.object_log.ObjectLog.{ObjectLog}
 use Rattle.hprof_objects.specs.Log.{HoldsParts}
@@ -24,145 +20,20 @@ use Rattle.hprof_objects.specs.ObjectRows.{object_rows}
 use Rattle.hprof_objects.specs.ReadAgain.{StatesFirst}
 use Rattle.hprof_objects.specs.Whole.{without_objects}
 use Rattle.hprof_objects.proofs.Parts.{holds_bare}
-use Rattle.hprof_placed.specs.Handed.{Handed, handed_so, is_of_input}
-use Rattle.hprof_placed.specs.Reading.{ListsPart}
-use Rattle.hprof_placed.proofs.Listing.{handed_before, handed_whole}
 use Rattle.hprof_engine.specs.declared.salvaged.FaultedPart.{FaultedPart}
 use Rattle.hprof_engine.specs.Salvaging as salvaging
-use Rattle.hprof_engine.specs.Salvaging.{EndsPart, IsReadSo, WantsToList, fault_with, faults_of, handled, is_want_of_memory}
-use Rattle.hprof_engine.specs.Joining.{IsPartFault}
+use Rattle.hprof_engine.specs.Salvaging.{fault_with, faults_of, handled}
 use Rattle.hprof_engine.specs.Saved.{IsSaved, Saved, given_of, given_with}
-use Rattle.hprof_engine.proofs.PartFaults.{of_part}
-use Rattle.hprof_engine.proofs.PartReads.{AreReadSo-kept, AreReadSo-more, AreReadSo-none, faults_of-more}
-use Rattle.hprof_engine.proofs.Reading.{element_set, same_at}
-use Rattle.hprof_engine.proofs.SavedParts.{all_handled-more, bare_states_none, handled_all, map_one, whole_states}
+use Rattle.hprof_engine.proofs.PartReads.{AreReadSo-more, AreReadSo-none, faults_of-more}
+use Rattle.hprof_engine.proofs.SavedParts.{all_handled-more, bare_states_none, map_one}
 use Rattle.hprof_stored.specs.Holding as holding
 use Rattle.hprof_stored.specs.Holding.{Earlier, HoldsAll, HoldsStored, nothing_before, others_before}
 use Rattle.hprof_stored.specs.SavedParts.{AreSameIfTold, IsSameIfTold, PartSaved, all_saved, read_saved, saved_before, size_in}
-use Rattle.hprof_stored.specs.SalvagingStored.{WantsPart}
-use Rattle.hprof_stored.specs.SavingThrough.{StoresSaved, is_listed}
-use Rattle.hprof_stored.specs.Storing.{HaveObject, Storing}
+use Rattle.hprof_stored.specs.SavingThrough.{StoresSaved}
+use Rattle.hprof_stored.specs.Storing.{Storing}
 use Rattle.hprof_stored.proofs.Ended.{part_ended, take_one}
 use Rattle.hprof_stored.proofs.FrontRead.{front_more, front_states}
-
--- ---- what reading one part comes to
-
--- a part that was read to its end came whole
-whole_came : (bytes : List ℕ) (rest : Option (List ℕ)) (came : List ℕ) → Consumes (Some bytes) rest came → IsAtEnd rest → bytes ≡ came
-whole_came bytes None came consumes ends = absurd consumes
-whole_came bytes (Some rest) came consumes ends = consumes ∙ ap (λ (r : List ℕ). came ++ r) ends ∙ append-nil came
-
--- these bytes came, which state that so far, and the sink holds it
-pub record ReadsOne {R S : Type 0} (left : R → Option (List ℕ)) (health : R → Health) (pulls : R → ℕ) (limits : Limits) (was is : R)
-    (written : S → Option (List ℕ)) (well : S → Health) (earlier : Earlier) (fault : Option PartFault) (it : Storing S) : Type 0 where
-  pub came : List ℕ
-  pub so : IsReadSo left health pulls limits was is (record { came = came; fault = fault })
-  pub header : Option Header
-  pub facts : List FactValue
-  pub states : StatesSoFar limits.max_item (take limits.max_bytes came) header facts
-  pub before : List ℕ
-  pub piece : List ℕ
-  pub cut : came ≡ before ++ piece
-  pub held : HoldsStored written well limits earlier header before facts it
-
--- a fault that is listed is one of the input, unless it comes after another
-listed_of_input : (fault : PartFault) → is_listed fault ≡ true → (fault ≡ faults.Failed → ⊥) → is_of_input fault ≡ true
-listed_of_input (faults.Malformed at reason) is other = refl
-listed_of_input (faults.ItemTooLong at) is other = refl
-listed_of_input faults.OutOfMemory is other = absurd cc
-listed_of_input (faults.Sink fault) is other = absurd cc
-listed_of_input faults.Failed is other = absurd (other refl)
-listed_of_input faults.Read is other = refl
-listed_of_input faults.ReadsExceeded is other = refl
-listed_of_input faults.BytesExceeded is other = refl
-
-module _ {R S : Type 0} (left : R → Option (List ℕ)) (health : R → Health) (pulls : R → ℕ) (limits : Limits) (was is : R)
-    (came : List ℕ) (handed : Handed) (consumed : Consumes (left was) (left is) came)
-    (spared : pulls is ≤ pulls was + limits.max_reads) (written : S → Option (List ℕ)) (well : S → Health) (earlier : Earlier)
-    (before piece : List ℕ) (cut : came ≡ before ++ piece) (it : Storing S)
-    (held : HoldsStored written well limits earlier handed.header before handed.facts it) where
-  held_so : (header : Option Header) (facts : List FactValue) → handed ≡ handed_so header facts
-      → HoldsStored written well limits earlier header before facts it
-  held_so header facts same =
-      subst (λ (h : Handed). HoldsStored written well limits earlier h.header before h.facts it) same held
-
-  -- to its end
-  pub one_whole : (summary : PartSummary) → ListsPart left health pulls limits was came is (Ok summary) handed
-      → ReadsOne left health pulls limits was is written well earlier None it
-  one_whole summary reads =
-      let whole = handed_whole left health pulls limits was is came summary handed reads in
-      record {
-        came = came;
-        so = record {
-          consumed = consumed;
-          spared = spared;
-          ends = (reads.0, reads.1, reads.2, (reads.4, reads.3));
-          whole = λ bytes told. whole_came bytes (left is) came
-              (subst (λ (l : Option (List ℕ)). Consumes l (left is) came) told consumed) reads.1;
-        };
-        header = Some summary.header;
-        facts = whole.0;
-        states = subst (λ (b : List ℕ). StatesSoFar limits.max_item b (Some summary.header) whole.0)
-            (sym (handled_all limits came (reads.4, reads.3)))
-            (whole_states limits.max_item came summary whole.0 reads.4 reads.5 whole.2);
-        before = before;
-        piece = piece;
-        cut = cut;
-        held = held_so (Some summary.header) whole.0 whole.1;
-      }
-
-  ended_so : (fault : PartFault) → is_listed fault ≡ true → IsReadingFault left health pulls limits was came is fault
-      → EndsPart left health pulls limits was came is (Some fault)
-  ended_so (faults.Malformed at reason) listed reading = (reading, refl)
-  ended_so (faults.ItemTooLong at) listed reading = (reading, refl)
-  ended_so faults.OutOfMemory listed reading = absurd cc
-  ended_so (faults.Sink fault) listed reading = absurd cc
-  ended_so faults.Failed listed reading = absurd reading
-  ended_so faults.Read listed reading = (reading, refl)
-  ended_so faults.ReadsExceeded listed reading = (reading, refl)
-  ended_so faults.BytesExceeded listed reading = (reading, refl)
-
-  of_whole : (fault : PartFault) → is_listed fault ≡ true → IsReadingFault left health pulls limits was came is fault
-      → (bytes : List ℕ) → left was ≡ Some bytes → salvaging.IsOfWhole limits bytes came (Some fault)
-  of_whole (faults.Malformed at reason) listed reading bytes told =
-      of_part left health pulls HaveObject limits [] was bytes came is (faults.Malformed at reason) told consumed reading
-  of_whole (faults.ItemTooLong at) listed reading bytes told =
-      of_part left health pulls HaveObject limits [] was bytes came is (faults.ItemTooLong at) told consumed reading
-  of_whole faults.OutOfMemory listed reading bytes told = absurd cc
-  of_whole (faults.Sink fault) listed reading bytes told = absurd cc
-  of_whole faults.Failed listed reading bytes told = absurd reading
-  of_whole faults.Read listed reading bytes told = tt
-  of_whole faults.ReadsExceeded listed reading bytes told =
-      of_part left health pulls HaveObject limits [] was bytes came is faults.ReadsExceeded told consumed reading
-  of_whole faults.BytesExceeded listed reading bytes told =
-      of_part left health pulls HaveObject limits [] was bytes came is faults.BytesExceeded told consumed reading
-
-  never_failed : (fault : PartFault) → IsReadingFault left health pulls limits was came is fault → fault ≡ faults.Failed → ⊥
-  never_failed fault reading same =
-      subst (λ (f : PartFault). IsReadingFault left health pulls limits was came is f) same reading
-
-  -- up to its fault
-  pub one_faulty : (fault : PartFault) → is_listed fault ≡ true → ListsPart left health pulls limits was came is (Err fault) handed
-      → ReadsOne left health pulls limits was is written well earlier (Some fault) it
-  one_faulty fault listed reads =
-      let first = handed_before left health pulls limits was is came fault handed reads
-      (listed_of_input fault listed (never_failed fault reads.0)) in
-      record {
-        came = came;
-        so = record {
-          consumed = consumed;
-          spared = spared;
-          ends = ended_so fault listed reads.0;
-          whole = of_whole fault listed reads.0;
-        };
-        header = first.0;
-        facts = first.1.0;
-        states = first.1.2;
-        before = before;
-        piece = piece;
-        cut = cut;
-        held = held_so first.0 first.1.0 first.1.1;
-      }
+use Rattle.hprof_stored.proofs.SavedOne.{ReadsOne}
 
 -- ---- a part among those before it
 
@@ -352,67 +223,4 @@ module _ {R S : Type 0} (left : R → Option (List ℕ)) (health : R → Health)
         holds = subst (λ (e : Earlier). HoldsAll written well limits e to) (before_more scratch read.parts part)
             (left_so written well limits earlier limits.max_item (handled limits last) all.bytes one.before (one.piece ++ all.behind) cut
             one.facts mid to headed leaves one.header one.states one.held);
-      }
-
--- ---- where reading ended
-
--- a part was read whose fault is not listed
-module _ {R S : Type 0} (left : R → Option (List ℕ)) (health : R → Health) (pulls : R → ℕ) (limits : Limits) (old cur : List R)
-    (written : S → Option (List ℕ)) (well : S → Health) (scratch : Option (List ℕ)) (index count : ℕ) (was is : R)
-    (listed : List FaultedPart) (from to : Storing S) (there : slice_get old index ≡ Some was) (within : index < length cur)
-    (same : length cur ≡ length old)
-    (unread : (k : ℕ) (d : R) → index ≤ k → k < length old → get_or cur k d ≡ get_or old k d)
-    (so : StoresSaved left health pulls limits old cur written well scratch index count listed from)
-    (came : List ℕ) (handed : Handed) (consumed : Consumes (left was) (left is) came)
-    (spared : pulls is ≤ pulls was + limits.max_reads) where
-  -- those behind it stand as they stood
-  behind_so : (k : ℕ) → index < k → slice_get (set cur index is) k ≡ slice_get old k
-  behind_so k after = same_at (set cur index is) old k (length-set cur index is ∙ same) (λ d below.
-      let other : k ≢ index = omega (arith, after) in
-      get_or-set_other cur index k is d other ∙ unread k d (omega (arith, after)) below)
-
-  -- memory was wanted for it
-  pub wants_so : (fault : PartFault) → is_want_of_memory fault ≡ true
-      → IsPartFault left health pulls HaveObject limits (given_of (all_saved so.read.parts)) was came is fault
-      → WantsPart left health pulls limits old (set cur index is) index fault
-  wants_so fault memory refused =
-      let read = so.read in
-      record {
-        reads = read.reads;
-        each = AreReadSo-kept left health pulls limits old cur read.reads is index read.all read.each;
-        place = read.all;
-        given = given_of (all_saved read.parts);
-        saved = record {
-          saved = all_saved read.parts;
-          of_parts = read.of_reads;
-          each = read.are_saved;
-          has_given = refl;
-        };
-        at = record {
-          was = was;
-          is = is;
-          was_there = there;
-          is_there = element_set cur index is within;
-          came = came;
-          consumed = consumed;
-          spared = spared;
-          refused = refused;
-          unread = behind_so;
-        };
-        memory = memory;
-      }
-
-  -- or for listing its fault
-  pub lists_so : (fault : PartFault)
-      → ReadsOne left health pulls limits was is written well (saved_before scratch so.read.parts) (Some fault) to
-      → WantsToList left health pulls limits old (set cur index is)
-  lists_so fault one =
-      let read = so.read in
-      let last : salvaging.PartRead = record { came = one.came; fault = Some fault } in
-      record {
-        before = read.reads;
-        last = last;
-        each = AreReadSo-more left health pulls limits old cur read.reads last was is index read.all there within read.each one.so;
-        faulty = refl;
-        unread = λ k after. behind_so k (omega (arith, after, read.all));
       }

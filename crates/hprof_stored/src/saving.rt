@@ -15,6 +15,7 @@ use crate::stored_sink::StoredSink;
 use hprof_devices::Source;
 use hprof_engine::{FaultedPart, Loss, ToolFault};
 use hprof_objects::Keeping;
+use hprof_objects::laws::conflicts_of_objects_come_last;
 use hprof_placed::read_placed;
 use hprof_runs::Scratch;
 use hprof_stream::{Limits, PartFault, SinkFault};
@@ -111,6 +112,7 @@ pub(crate) fn save_parts<R: Source, S: Scratch + Drop>(
     requires well { S.health scratch ≡ Well }
     ensures { SavesHeap R.left R.health R.pulls limits readers.old readers.new S.written S.health (S.written scratch) result }
 {
+    conflicts_of_objects_come_last();
     let Ok(mut sink) = StoredSink::new(alloc, scratch, keeping) else {
         return Err(ToolFault::OutOfMemory);
     };
