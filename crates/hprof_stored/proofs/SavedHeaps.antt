@@ -1,5 +1,5 @@
 -- What reading all parts, whatever their faults, comes to, and what a call that saves them answers if there is no heap.
-use Rattle.std.proofs.Common.{◌≡◌, ℕ, List, [], ◌∷◌, length, Option, Err, inl, inr, refl}
+use Rattle.std.proofs.Common.{◌≡◌, ◌==◌, ℕ, true, false, List, [], ◌∷◌, length, Option, Err, inl, inr, refl}
 use Rattle.hprof_devices.specs.declared.health.Health.{Health}
 use Rattle.hprof_stream.specs.declared.limits.Limits.{Limits}
 use Rattle.hprof_heap.specs.declared.standing.Refusal.{Refusal}
@@ -85,6 +85,11 @@ module _ {R S : Type 0} (left : R → Option (List ℕ)) (health : R → Health)
     saved_ended (tool.Lost losses.Objects) ended = absurd ended
     saved_ended (tool.Refused refusal) ended = absurd ended
     saved_ended (tool.Write write) ended = absurd ended
+
+-- there is no reader
+pub none_there : {R : Type 0} (readers : List R) → true ≡ (length readers == 0) → readers ≡ []
+none_there [] says = refl
+none_there (reader ∷ readers) says = absurd (let no : true ≡ false = says in cc)
 
 -- there are no parts, and nothing is done
 pub no_readers : {R W : Type 0} (left : R → Option (List ℕ)) (health : R → Health) (pulls : R → ℕ) (limits : Limits) (old : List R)
