@@ -142,21 +142,27 @@ module _ {S : Type 0} (written : S → Option (List ℕ)) (well : S → Health) 
         → Watched takes start parts it.watch → Dropped takes refuses start parts it.watch
         → HoldsWatchedSink {g = g} written well takes refuses limits (watched_after scratch parts start) None [] [] it
     watched_starts it all watched dropped =
-        record { stored = part_starts written well limits (parts_before scratch parts) (storing it.sink) all; watches = watched; dropped = dropped }
+        record {
+          stored = part_starts written well limits (parts_before scratch parts) (storing it.sink) all;
+          watches = watched;
+          dropped = dropped;
+        }
 
     module _ {R : Type 0} (left : R → Option (List ℕ)) (health : R → Health) (pulls : R → ℕ) where
       -- at its end, all facts of the part
       pub read_whole : (was is : R) (came before : List ℕ) (summary : PartSummary) (handed : Handed) (mid : WatchedSink S T g)
           → ListsPart left health pulls limits was came is (Ok summary) handed
-          → HoldsWatchedSink {g = g} written well takes refuses limits (watched_after scratch parts start) handed.header before handed.facts mid
+          → HoldsWatchedSink {g = g} written well takes refuses limits (watched_after scratch parts start) handed.header before handed.facts
+          mid
           → (facts : List FactValue) × IsPart came summary.header.ids summary.header.millis facts
-          × HoldsWatchedSink {g = g} written well takes refuses limits (watched_after scratch parts start) (Some summary.header) before facts mid
+          × HoldsWatchedSink {g = g} written well takes refuses limits (watched_after scratch parts start) (Some summary.header) before
+          facts mid
       read_whole was is came before summary handed mid reads held =
           let whole = handed_whole left health pulls limits was is came summary handed reads in (
             whole.0,
             whole.2,
-            subst (λ (h : Handed). HoldsWatchedSink {g = g} written well takes refuses limits (watched_after scratch parts start) h.header before
-                h.facts mid) whole.1 held,
+            subst (λ (h : Handed). HoldsWatchedSink {g = g} written well takes refuses limits (watched_after scratch parts start) h.header
+                before h.facts mid) whole.1 held,
           )
 
   module _ {T E : Type 0} {g : Ghosts S} (takes : T → IdSize → FactValue → T → Type 0)

@@ -5,11 +5,11 @@ use Rattle.hprof_devices.specs.declared.health.Health.TheVariants.{Well}
 use Rattle.hprof_stream.specs.declared.part_fault.PartFault.{PartFault}
 use Rattle.hprof_placed.specs.Reading.{ListsPart}
 use Rattle.hprof_stored.specs.declared.stored_fault.StoredFault.{StoredFault}
-use Rattle.std.proofs.lemmas.List.{length-set, length-append}
+use Rattle.std.proofs.lemmas.List.{length-set, length-append, length-map}
 use Rattle.hprof_engine.proofs.Reading.{element_at, element_set, same_at, summarised_if_told, HoldsFirst-more, HoldsFirst-none}
 use Rattle.hprof_engine.proofs.Reading.{AreReadOut-kept, AreReadOut-more}
 use Rattle.hprof_stored.specs.Holding.{Earlier, HoldsAll, parts_before}
-use Rattle.hprof_stored.specs.Parts.{PartStored, given_of}
+use Rattle.hprof_stored.specs.Parts.{PartStored, given_of, read_of}
 use Rattle.hprof_stored.specs.Reading.{AreSoMany, StoresAll, StoresFirst}
 use Rattle.hprof_stored.specs.Storing.{storing}
 use Rattle.hprof_stored.specs.WatchedSink.{EarlierWatched}
@@ -61,12 +61,13 @@ end_part-requires g c =
     let before : EarlierWatched g.row.T.Denot = record { scratch = scratch; parts = first.parts; start = c.args.watch } in
     let front = read.2.2 before (watched_starts g.S.Target.written g.S.Target.health c.args.limits scratch first.parts g.T.ObjectSink.takes
     g.T.ObjectSink.refuses c.args.watch c.loop-index.sink first.holds first.watched first.dropped) in
-    let whole = read_whole g.S.Target.written g.S.Target.health c.args.limits scratch first.parts g.T.ObjectSink.takes g.T.ObjectSink.refuses
-    c.args.watch g.R.Source.left g.R.Source.health g.R.Source.pulls (get_or c.loop-index.readers c.loop-index.index
+    let whole = read_whole g.S.Target.written g.S.Target.health c.args.limits scratch first.parts g.T.ObjectSink.takes
+    g.T.ObjectSink.refuses c.args.watch g.R.Source.left g.R.Source.health g.R.Source.pulls (get_or c.loop-index.readers c.loop-index.index
     c.index-readers-index.result) c.read_placed.new.source read.0 front.before c.in-Ok-read_placed.summary read.2.0 c.read_placed.new.sink
     read.2.1 front.held in
     let held = whole.2.stored in
-    omega (arith, held.number, first.all, c.loop-index-test.true)
+    let number : c.read_placed.new.sink.sink.part ≡ length first.parts = held.number ∙ length-map first.parts read_of in
+    omega (arith, number, first.all, c.loop-index-test.true)
 
 pub keep-requires : goal.keep-requires
 keep-requires g c =
@@ -102,12 +103,13 @@ returns-in-Err-clause-read g c =
     (stops_so g.R.Source.left g.R.Source.health g.R.Source.pulls {S = g.row.S.Denot} g.S.Target g.S.Target.written g.S.Target.health
     g.T.ObjectSink.takes g.T.ObjectSink.refuses c.args.limits (g.S.Target.written c.args.scratch) c.args.watch c.args.readers.now
     (set c.loop-index.readers index is) index was there c.read_placed.new.sink.sink.full c.in-Err.fault
-    (λ failed. watched_full g.S.Target.written g.S.Target.health c.args.limits scratch first.parts g.T.ObjectSink.takes g.T.ObjectSink.refuses c.args.watch
-    g.R.Source.left g.R.Source.health g.R.Source.pulls was is read.0 handed c.read_placed.new.sink
+    (λ failed. watched_full g.S.Target.written g.S.Target.health c.args.limits scratch first.parts g.T.ObjectSink.takes
+    g.T.ObjectSink.refuses c.args.watch g.R.Source.left g.R.Source.health g.R.Source.pulls was is read.0 handed c.read_placed.new.sink
     (subst (λ (f : PartFault). ListsPart g.R.Source.left g.R.Source.health g.R.Source.pulls c.args.limits was read.0 is (Err f) handed)
     failed read.2.1)
-    (subst (λ (f : PartFault). Comes g.S.Target.written g.S.Target.health c.args.limits scratch first.parts g.T.ObjectSink.takes g.T.ObjectSink.refuses
-    c.args.watch g.R.Source.left g.R.Source.health g.R.Source.pulls was is read.0 handed c.read_placed.new.sink f) failed comes))
+    (subst (λ (f : PartFault). Comes g.S.Target.written g.S.Target.health c.args.limits scratch first.parts g.T.ObjectSink.takes
+    g.T.ObjectSink.refuses c.args.watch g.R.Source.left g.R.Source.health g.R.Source.pulls was is read.0 handed c.read_placed.new.sink f)
+    failed comes))
     (λ other. record {
       given = given_of first.parts;
       of_readers = first.given;
@@ -119,9 +121,9 @@ returns-in-Err-clause-read g c =
         came = read.0;
         consumed = read.1;
         spared = c.in-Err.ensures.pulls;
-        refused = watched_fault g.S.Target.written g.S.Target.health c.args.limits scratch first.parts g.T.ObjectSink.takes g.T.ObjectSink.refuses
-            c.args.watch g.R.Source.left g.R.Source.health g.R.Source.pulls was is read.0 handed c.read_placed.new.sink c.in-Err.fault other
-            read.2.1 comes;
+        refused = watched_fault g.S.Target.written g.S.Target.health c.args.limits scratch first.parts g.T.ObjectSink.takes
+            g.T.ObjectSink.refuses c.args.watch g.R.Source.left g.R.Source.health g.R.Source.pulls was is read.0 handed
+            c.read_placed.new.sink c.in-Err.fault other read.2.1 comes;
         unread = λ k behind. same_at (set c.loop-index.readers index is) c.args.readers.now k
             (length-set c.loop-index.readers index is ∙ same_length)
             (λ d below. let other : k ≢ index = omega (arith, behind) in
@@ -158,9 +160,9 @@ loop-index-preserved g c =
     let before : EarlierWatched g.row.T.Denot = record { scratch = scratch; parts = first.parts; start = c.args.watch } in
     let front = read.2.2 before (watched_starts g.S.Target.written g.S.Target.health c.args.limits scratch first.parts g.T.ObjectSink.takes
     g.T.ObjectSink.refuses c.args.watch c.loop-index.sink first.holds first.watched first.dropped) in
-    let whole = read_whole g.S.Target.written g.S.Target.health c.args.limits scratch first.parts g.T.ObjectSink.takes g.T.ObjectSink.refuses
-    c.args.watch g.R.Source.left g.R.Source.health g.R.Source.pulls was is read.0 front.before summary read.2.0 c.read_placed.new.sink reads
-    front.held in
+    let whole = read_whole g.S.Target.written g.S.Target.health c.args.limits scratch first.parts g.T.ObjectSink.takes
+    g.T.ObjectSink.refuses c.args.watch g.R.Source.left g.R.Source.health g.R.Source.pulls was is read.0 front.before summary read.2.0
+    c.read_placed.new.sink reads front.held in
     let part : PartStored = record { given = record { header = summary.header; facts = whole.0 }; bytes = read.0 } in
     let there = element_at c.args.readers.now c.loop-index.readers index found within (c.loop-index.invariant.unread index found
     (omega arith) within) c.index-readers-index.is ∙ ap Some c.index-readers-index.is in
