@@ -1,6 +1,6 @@
 //! Reading all parts, whatever their faults, and keeping their objects apart.
 
-ghost use Rattle.std.specs.Prelude.{◌≡◌, ◌++◌, ◌∷◌, [], true, All, OnOk, IfErr};
+ghost use Rattle.std.specs.Prelude.{◌≡◌, ◌++◌, ◌∷◌, [], ℕ, true, List, Option, All, OnOk, IfErr};
 ghost use Rattle.hprof_devices.specs.declared.health.Health.TheVariants.{Well};
 ghost use Rattle.hprof_heap.specs.Gathering.{gathered};
 ghost use Rattle.hprof_runs.specs.ReadBack.{HoldsNothing};
