@@ -1,5 +1,5 @@
 -- What reading all parts, whatever their faults, comes to, and what a call that saves them answers if there is no heap.
-use Rattle.std.proofs.Common.{◌≡◌, ◌==◌, ℕ, true, false, List, [], ◌∷◌, length, Option, Err, inl, inr, refl}
+use Rattle.std.proofs.Common.{◌≡◌, ◌==◌, ℕ, true, false, List, [], ◌∷◌, length, Option, Err, inl, inr, refl, sym}
 use Rattle.hprof_devices.specs.declared.health.Health.{Health}
 use Rattle.hprof_stream.specs.declared.limits.Limits.{Limits}
 use Rattle.hprof_heap.specs.declared.standing.Refusal.{Refusal}
@@ -7,6 +7,7 @@ use Rattle.hprof_heap.specs.declared.standing.Refusal.TheVariants as refusals
 use Rattle.hprof_heap.specs.Gathering.{Given, Tells}
 use Rattle.hprof_objects.specs.Whole.{without_objects}
 use Rattle.std.specs.Prelude.{map}
+use Rattle.std.proofs.lemmas.Bool.{eqb-true}
 use Rattle.hprof_engine.specs.declared.loss.Loss.TheVariants as losses
 use Rattle.hprof_engine.specs.declared.salvaged.FaultedPart.{FaultedPart}
 use Rattle.hprof_engine.specs.declared.tool_fault.ToolFault.{ToolFault}
@@ -89,7 +90,7 @@ module _ {R S : Type 0} (left : R → Option (List ℕ)) (health : R → Health)
 -- there is no reader
 pub none_there : {R : Type 0} (readers : List R) → true ≡ (length readers == 0) → readers ≡ []
 none_there [] says = refl
-none_there (reader ∷ readers) says = absurd (let no : true ≡ false = says in cc)
+none_there (reader ∷ readers) says = absurd (let no : length (reader ∷ readers) ≡ 0 = eqb-true (length (reader ∷ readers)) 0 (sym says) in cc)
 
 -- there are no parts, and nothing is done
 pub no_readers : {R W : Type 0} (left : R → Option (List ℕ)) (health : R → Health) (pulls : R → ℕ) (limits : Limits) (old : List R)
