@@ -42,6 +42,7 @@ use Rattle.hprof_stored.specs.StoredMaking.{CanBeReadAgain, fault_of_pass, fault
 use Rattle.hprof_stored.proofs.Dumped.{dump_of_all, rows_are_subs}
 use Rattle.hprof_stored.proofs.Joined.{ComeLast, IsSameStop, StandBehind, TellWhole, same_stop}
 use Rattle.hprof_stored.proofs.Saved.{all, as_read, contents_differ, counted, rows_spelled, stand, tells_all, through}
+use Rattle.hprof_stored.proofs.Saved.{through_given}
 
 -- left: what a reader has left to tell;  bytes: those of the parts that are opened again;  scratch: those of the scratch at first
 module _ {R W S P : Type 0} (left : R → Option (List ℕ)) (health : R → Health) (pulls : R → ℕ) (limits : Limits) (old new : List R)
@@ -131,7 +132,6 @@ module _ {R W S P : Type 0} (left : R → Option (List ℕ)) (health : R → Hea
       headed : saved.headed ≡ length through_too.saves.given
 
     saves : (told : List (List ℕ)) → Tell left old told → Saves
-    unfolding all through
     saves told tell =
         let u = union reads (in_parts told tell) in
         let objects = stand left health pulls limits old new stores scratch_health (bytes opened) scratch saved stored holds finished behind
@@ -152,7 +152,11 @@ module _ {R W S P : Type 0} (left : R → Option (List ℕ)) (health : R → Hea
           subs = rows_are_subs heap.ids u.0 objects.0 objects.1;
           count = λ number counts. counted left health pulls limits old new stores scratch_health (bytes opened) scratch saved stored holds
               finished behind whole u.0 u.1 bytes it number (in_parts told tell) counts;
-          headed = holds.read.counted;
+          headed = through_given left health pulls limits old new saved.headed saved.faults.items holds.read
+              (Ok (all left health pulls limits old new stores scratch_health (bytes opened) scratch saved stored holds finished behind
+              whole u.0 u.1))
+              (tells_all left health pulls limits old new stores scratch_health (bytes opened) scratch saved stored holds finished behind
+              whole u.0 u.1);
         }
 
     -- all was written

@@ -79,6 +79,12 @@ module _ {R : Type 0} (left : R → Option (List ℕ)) (health : R → Health) (
       };
     }
 
+    -- as many as have a whole header
+    pub through_given : (answer : Result HeapValue Refusal) (tells : Tells (given_of (all_saved read.parts)) answer)
+        → headed ≡ length (through answer tells).saves.given
+    unfolding through
+    through_given answer tells = read.counted
+
 -- left: what a reader has left to tell;  again: the bytes of the parts that are opened again;  scratch: those of the scratch at first
 module _ {R S : Type 0} (left : R → Option (List ℕ)) (health : R → Health) (pulls : R → ℕ) (limits : Limits) (old new : List R)
     (stores : S → Option (List ℕ)) (scratch_health : S → Health) (again : List (Option (List ℕ))) (scratch : Option (List ℕ))
@@ -138,11 +144,10 @@ module _ {R S : Type 0} (left : R → Option (List ℕ)) (health : R → Health)
     pub stand : (objects : List FactValue) × AreObjects heap.ids rows objects
     stand = behind given heap.ids rows sizes fit given_union
 
-    pub all : HeapValue
+    abbrev pub all : HeapValue
     all = with_objects heap stand.0
 
     pub tells_all : Tells given (Ok all)
-    unfolding all
     tells_all = whole given heap rows stand.0 holds.tells fit given_union stand.1
 
     -- they make up what was counted
@@ -151,7 +156,6 @@ module _ {R S : Type 0} (left : R → Option (List ℕ)) (health : R → Health)
         → ((facts : List FactValue) → MakeUp stores scratch_health bytes it heap.ids heap.facts facts
         → count ≡ length (objects_among facts))
         → length heap.facts + count ≡ length all.facts
-    unfolding all
     counted bytes it count are counts =
         let none : (fact : FactValue) → Has heap.facts fact → is_object fact ≡ false =
         λ fact has. no_object_given given fact ((holds.tells.3 fact).0 has) in

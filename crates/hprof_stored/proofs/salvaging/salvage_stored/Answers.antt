@@ -42,8 +42,8 @@ returns-in-Err-clause-salvages g c =
     c.in-Err.fault c.in-Err.ensures.tells)
 
 -- there are too many facts
-pub returns-in-None-clause-salvages : goal.returns-in-None-clause-salvages
-returns-in-None-clause-salvages g c =
+pub returns-in_default-checked_add-clause-salvages : goal.returns-in_default-checked_add-clause-salvages
+returns-in_default-checked_add-clause-salvages g c =
     let it = c.new-in_parts in
     wants_memory g.R.Source.left g.R.Source.health g.R.Source.pulls c.args.limits c.args.readers.now c.save_parts.new.readers
     g.W.Target.written g.W.Target.health c.args.target.now c.args.target.now g.S.Target.written g.S.Target.health g.P.Parts.bytes
@@ -68,7 +68,11 @@ returns-in-Ok-write_stored_dump-clause-salvages g c =
 pub returns-in-Ok-write_stored_dump-clause-joined : goal.returns-in-Ok-write_stored_dump-clause-joined
 returns-in-Ok-write_stored_dump-clause-joined g c = λ none parts told.
     as_joined g.R.Source.left g.R.Source.health g.R.Source.pulls c.args.limits c.args.readers.now c.save_parts.new.readers
-    g.W.Target.written g.W.Target.health c.args.target.now c.write_stored_dump.new.target ?salvaged
+    g.W.Target.written g.W.Target.health c.args.target.now c.write_stored_dump.new.target
+    (record {
+      joined = record { parts = c.in_ok-saved.saved.headed; facts = c.in-Some.facts };
+      faults = c.in_ok-saved.saved.faults;
+    })
     ((returns-in-Ok-write_stored_dump-clause-salvages g c).saves parts told) none parts told
 
 -- writing stopped
