@@ -1,4 +1,4 @@
-use Rattle.std.proofs.Common.{Result, Err, refl, sym, subst}
+use Rattle.std.proofs.Common.{◌≡◌, ◌+◌, ℕ, Result, Err, refl, sym, ap, subst, ◌∙◌, arith}
 use Rattle.hprof_engine.specs.declared.salvaged.Salvaged.{Salvaged}
 use Rattle.hprof_engine.specs.declared.tool_fault.ToolFault.{ToolFault}
 use Rattle.hprof_engine.proofs.AsJoined.{as_joined}
@@ -57,12 +57,15 @@ unfolding facts_of size_of
 returns-in-Ok-write_stored_dump-clause-salvages g c =
     let it = c.new-in_parts in
     let wrote = c.in-Ok-write_stored_dump.ensures in
+    let number = c.in-Ok-count.count in
+    let sum : c.in-Some.facts ≡ c.count-2.result + number = omega arith in
     saved_all g.R.Source.left g.R.Source.health g.R.Source.pulls c.args.limits c.args.readers.now c.save_parts.new.readers
     g.W.Target.written g.W.Target.health c.args.target.now c.write_stored_dump.new.target g.S.Target.written g.S.Target.health
     g.P.Parts.bytes c.args.parts.now (g.S.Target.written c.args.scratch) c.in_ok-saved.saved c.finish-objects.result
     c.in_ok-saved.ensures c.finish-objects.ensures.holds c.requires.again (some_readers c.args.readers.now c.if-is_empty.ensures)
     it.result it.ensures.objects it.ensures.parts it.ensures.limits c.in-Ok-count.ensures.agree
-    c.objects_stand_behind.ensures.objects c.objects_stand_behind.ensures.heap c.in-Some.facts c.in-Ok-count.count ?facts
+    c.objects_stand_behind.ensures.objects c.objects_stand_behind.ensures.heap c.in-Some.facts number
+    (sum ∙ ap (λ (n : ℕ). n + number) c.count-2.ensures)
     c.in-Ok-count.ensures.value wrote.health wrote.dump
 
 pub returns-in-Ok-write_stored_dump-clause-joined : goal.returns-in-Ok-write_stored_dump-clause-joined
