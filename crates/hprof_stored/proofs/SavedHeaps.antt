@@ -1,5 +1,5 @@
 -- What reading all parts, whatever their faults, comes to, and what a call that saves them answers if there is no heap.
-use Rattle.std.proofs.Common.{◌≡◌, ◌==◌, ℕ, true, false, List, [], ◌∷◌, length, Option, Err, inl, inr, refl, sym}
+use Rattle.std.proofs.Common.{◌≡◌, ◌==◌, ℕ, true, List, [], ◌∷◌, length, Option, Err, inl, inr, refl, sym}
 use Rattle.hprof_devices.specs.declared.health.Health.{Health}
 use Rattle.hprof_stream.specs.declared.limits.Limits.{Limits}
 use Rattle.hprof_heap.specs.declared.standing.Refusal.{Refusal}

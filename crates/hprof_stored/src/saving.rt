@@ -2,7 +2,6 @@
 
 ghost use Rattle.std.specs.Prelude.{◌≡◌, ◌++◌, ◌∷◌, [], ℕ, true, List, Option, All, OnOk, IfErr};
 ghost use Rattle.hprof_devices.specs.declared.health.Health.TheVariants.{Well};
-ghost use Rattle.hprof_heap.specs.Gathering.{gathered};
 ghost use Rattle.hprof_runs.specs.ReadBack.{HoldsNothing};
 ghost use Rattle.hprof_stream.specs.declared.limits.Limits.{Limits};
 ghost use Rattle.hprof_stored.specs.Holding.{HoldsAll, nothing_before};

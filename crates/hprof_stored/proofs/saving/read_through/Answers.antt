@@ -1,4 +1,4 @@
-use Rattle.std.proofs.Common.{◌≡◌, ◌≢◌, ℕ, Bool, ◌+◌, ◌-◌, ◌^◌, ◌<◌, ◌≤◌, [], ◌++◌, length, set, get_or, Option, Some, None, Result, Ok, Err, refl}
+use Rattle.std.proofs.Common.{◌≡◌, ◌≢◌, ℕ, Bool, ◌-◌, ◌^◌, ◌<◌, ◌≤◌, length, set, get_or, Some, None, Result, refl}
 use Rattle.std.proofs.Common.{ap, sym, subst, ◌∙◌, append-nil, arith, get_or-set_other}
 use Rattle.hprof_devices.specs.declared.health.Health.TheVariants.{Well}
 use Rattle.hprof_engine.specs.declared.tool_fault.ToolFault.{ToolFault}

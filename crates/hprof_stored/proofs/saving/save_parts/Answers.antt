@@ -1,4 +1,4 @@
-use Rattle.std.proofs.Common.{length, Result, Err, sym, subst}
+use Rattle.std.proofs.Common.{Result, Err, sym, subst}
 use Rattle.hprof_engine.specs.declared.tool_fault.ToolFault.{ToolFault}
 use Rattle.hprof_engine.proofs.Going.{of_fault}
 use Rattle.hprof_stored.specs.declared.saving.SavedHeap.{SavedHeap}
