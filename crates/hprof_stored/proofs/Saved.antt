@@ -1,5 +1,6 @@
 -- What is saved of parts: the heap without objects, and the stored objects behind its facts.
-use Rattle.std.proofs.Common.{◌≡◌, ◌+◌, ℕ, zero, suc, false, List, [], ◌∷◌, ◌++◌, length, map, Option, Some, Result, Ok, Err, refl, sym, ap, subst, ◌∙◌}
+use Rattle.std.proofs.Common.{◌≡◌, ◌+◌, ℕ, zero, suc, false, List, [], ◌∷◌, ◌++◌, length, map, Option, Some, Result, Ok, Err, refl}
+use Rattle.std.proofs.Common.{sym, ap, subst, ◌∙◌}
 use Rattle.std.proofs.Common.{arith}
 use Rattle.std.specs.Prelude.{slice_get}
 use Rattle.std.specs.List.{AllByRecursion}
@@ -115,7 +116,8 @@ module _ {R S : Type 0} (left : R → Option (List ℕ)) (health : R → Health)
       → AreToldAgain stores scratch_health limits again reads objects
   as_read can some told tell =
       let bytes = can some told tell in
-      let same = subst (λ (l : List (Option (List ℕ))). AreSameIfTold limits l parts) (ap (map left) (take-length old) ∙ tell) holds.read.same in
+      let same = subst (λ (l : List (Option (List ℕ))). AreSameIfTold limits l parts) (ap (map left) (take-length old) ∙ tell)
+      holds.read.same in
       record {
         holds = finished limits reads (holds.objects bytes.1);
         same = λ number part is. subst (λ (t : List (Option (List ℕ))). IsSame limits (bytes_at t number) part) (sym bytes.0)

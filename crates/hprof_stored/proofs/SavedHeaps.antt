@@ -90,7 +90,8 @@ module _ {R S : Type 0} (left : R → Option (List ℕ)) (health : R → Health)
 -- there is no reader
 pub none_there : {R : Type 0} (readers : List R) → true ≡ (length readers == 0) → readers ≡ []
 none_there [] says = refl
-none_there (reader ∷ readers) says = absurd (let no : length (reader ∷ readers) ≡ 0 = eqb-true (length (reader ∷ readers)) 0 (sym says) in cc)
+none_there (reader ∷ readers) says =
+    absurd (let no : length (reader ∷ readers) ≡ 0 = eqb-true (length (reader ∷ readers)) 0 (sym says) in cc)
 
 -- there are no parts, and nothing is done
 pub no_readers : {R W : Type 0} (left : R → Option (List ℕ)) (health : R → Health) (pulls : R → ℕ) (limits : Limits) (old : List R)

@@ -126,7 +126,8 @@ module _ {S : Type 0} (written : S → Option (List ℕ)) (well : S → Health) 
     (longest : ℕ) (front bytes before piece : List ℕ) (cut : bytes ≡ before ++ piece) (facts : List FactValue) (mid new : Storing S)
     (headed : Bool) (leaves : LeavesPart written well headed mid new) where
   -- the sink holds it as one of the parts that were read
-  left_so : (header : Option Header) → StatesSoFar longest front header facts → HoldsStored written well limits earlier header before facts mid
+  left_so : (header : Option Header) → StatesSoFar longest front header facts
+      → HoldsStored written well limits earlier header before facts mid
       → HoldsAll written well limits
       (one_saved earlier (record { saved = record { bytes = front; header = header; facts = facts }; bytes = bytes })) new
   left_so None states held =
