@@ -41,8 +41,7 @@ use Rattle.hprof_stored.specs.SavingThrough.{HoldsSaved}
 use Rattle.hprof_stored.specs.StoredMaking.{CanBeReadAgain, fault_of_pass, fault_of_stop}
 use Rattle.hprof_stored.proofs.Dumped.{dump_of_all, rows_are_subs}
 use Rattle.hprof_stored.proofs.Joined.{ComeLast, IsSameStop, StandBehind, TellWhole, same_stop}
-use Rattle.hprof_stored.proofs.Saved.{all, as_read, contents_differ, counted, rows_spelled, stand, tells_all, through}
-use Rattle.hprof_stored.proofs.Saved.{through_given}
+use Rattle.hprof_stored.proofs.Saved.{all, as_read, contents_differ, counted, rows_spelled, stand, tells_all, through, through_given}
 
 -- left: what a reader has left to tell;  bytes: those of the parts that are opened again;  scratch: those of the scratch at first
 module _ {R W S P : Type 0} (left : R → Option (List ℕ)) (health : R → Health) (pulls : R → ℕ) (limits : Limits) (old new : List R)

@@ -1,10 +1,9 @@
 -- Where reading all parts ended, whatever their faults.
-use Rattle.std.proofs.Common.{◌≡◌, ◌≢◌, ◌+◌, ◌<◌, ◌≤◌, ℕ, true, List, [], ◌∷◌, length, map, set, get_or}
-use Rattle.std.proofs.Common.{Option, Some, None, Err, refl, sym, ap, subst, ◌∙◌, arith}
-use Rattle.std.proofs.Common.{get_or-set_other}
+use Rattle.std.proofs.Common.{◌≡◌, ◌≢◌, ◌+◌, ◌<◌, ◌≤◌, ℕ, true, List, [], ◌∷◌, length, map, set, get_or, Option, Some, None, Err, refl, sym}
+use Rattle.std.proofs.Common.{ap, subst, ◌∙◌, arith, get_or-set_other}
 use Rattle.std.specs.Prelude.{slice_get}
 use Rattle.std.specs.Io.KnownBytes.{Consumes}
-use Rattle.std.proofs.lemmas.List.{length-set}
+use Rattle.std.proofs.lemmas.List.{length-map, length-set}
 use Rattle.hprof_items.specs.declared.header.Header.{Header}
 use Rattle.hprof_items.specs.FactValue.{FactValue}
 use Rattle.hprof_devices.specs.declared.health.Health.{Health}
@@ -19,16 +18,13 @@ use Rattle.hprof_engine.specs.Joining.{IsPartFault}
 use Rattle.hprof_engine.specs.Saved.{Saved, given_of, given_with}
 use Rattle.hprof_engine.proofs.PartReads.{AreReadSo-kept, AreReadSo-more}
 use Rattle.hprof_engine.proofs.Reading.{element_set, same_at}
-use Rattle.hprof_stored.specs.SavedParts.{PartSaved, all_saved, read_saved, saved_before}
+use Rattle.hprof_stored.specs.SavedParts.{PartSaved, ReadsSaved, all_saved, read_saved, saved_before}
 use Rattle.hprof_stored.specs.SalvagingStored.{WantsPart}
-use Rattle.hprof_stored.specs.SavingThrough.{StoresSaved, is_listed}
+use Rattle.hprof_stored.specs.SavingThrough.{IsUnlistedStored, StoresSaved, StoresThrough, is_listed}
 use Rattle.hprof_stored.specs.Storing.{HaveObject, Storing}
 use Rattle.hprof_engine.specs.declared.loss.Loss.TheVariants as losses
 use Rattle.hprof_engine.specs.declared.tool_fault.ToolFault.{ToolFault}
 use Rattle.hprof_engine.specs.declared.tool_fault.ToolFault.TheVariants as tool
-use Rattle.std.proofs.lemmas.List.{length-map}
-use Rattle.hprof_stored.specs.SavedParts.{ReadsSaved}
-use Rattle.hprof_stored.specs.SavingThrough.{IsUnlistedStored, StoresThrough}
 use Rattle.hprof_stored.proofs.SavedOne.{ReadsOne}
 
 -- ---- where reading ended

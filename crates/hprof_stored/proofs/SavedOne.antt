@@ -1,6 +1,6 @@
 -- What reading one part comes to, whatever its fault.
-use Rattle.std.proofs.Common.{◌≡◌, ◌+◌, ◌≤◌, ℕ, true, List, [], ◌++◌, length, take}
-use Rattle.std.proofs.Common.{Option, Some, None, Result, Ok, Err, refl, sym, ap, subst, ◌∙◌, append-nil}
+use Rattle.std.proofs.Common.{◌≡◌, ◌+◌, ◌≤◌, ℕ, true, List, [], ◌++◌, length, take, Option, Some, None, Result, Ok, Err, refl, sym, ap}
+use Rattle.std.proofs.Common.{subst, ◌∙◌, append-nil}
 use Rattle.std.specs.Io.KnownBytes.{Consumes, IsAtEnd}
 use Rattle.hprof_items.specs.declared.header.Header.{Header}
 use Rattle.hprof_items.specs.FactValue.{FactValue}
@@ -20,12 +20,11 @@ use Rattle.hprof_engine.proofs.PartFaults.{of_part}
 use Rattle.hprof_engine.proofs.SavedParts.{handled_all, whole_states}
 use Rattle.hprof_stored.specs.Holding.{Earlier, HoldsStored}
 use Rattle.hprof_stored.specs.SavingThrough.{is_listed}
-use Rattle.hprof_stored.specs.Storing.{HaveObject, Storing}
+use Rattle.hprof_stored.specs.Storing.{HaveObject, RefusesStored, Storing, storing}
 use Rattle.hprof_stream.specs.declared.sink.SinkFault.TheVariants as sinks
 use Rattle.hprof_placed.specs.Reading.{HoldsHanded, ListsPart}
 use Rattle.hprof_devices.specs.declared.target.Target.{Ghosts}
 use Rattle.hprof_stored.specs.declared.stored_sink.StoredSink.{StoredSink}
-use Rattle.hprof_stored.specs.Storing.{RefusesStored, storing}
 use Rattle.hprof_stored.proofs.Read.{is_want}
 
 -- ---- what reading one part comes to
