@@ -90,7 +90,7 @@ reads_again (words.Node report) = node_reads_again report
 -- whether a command takes the option for the memory: those that read objects again do
 abbrev pub takes_memory : CommandWord → Bool
 takes_memory (commands.Write product) = true
-takes_memory commands.Salvage = false
+takes_memory commands.Salvage = true
 takes_memory (commands.Report report) = reads_again report
 takes_memory commands.Compare = true
 takes_memory commands.Ask = false

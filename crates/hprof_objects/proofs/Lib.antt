@@ -6,8 +6,10 @@ pub mod WholeHeap
 mod InOrder
 mod Spilled
 mod Logged
-mod Parts
+pub mod Parts
 mod Settled
+mod FrontFacts
+mod AllGiven
 mod ReadingAgain
 mod StretchCursors
 pub mod Stored

@@ -12,7 +12,7 @@ use Rattle.hprof_objects.specs.Enough.{IsEnough}
 use Rattle.hprof_objects.specs.Growing.{piece_begun, staying}
 use Rattle.hprof_stream.specs.declared.part_place.PartPlace.{PartPlace}
 use Rattle.hprof_objects.specs.Log.{HasLogged, HoldsParts, IsKept, IsPlaceNow, Keeps}
-use Rattle.hprof_objects.specs.PartsRead.{PartRead, part_begun, rows_of_parts}
+use Rattle.hprof_objects.specs.PartsRead.{PartRead, part_begun, rows_of_part, rows_of_parts}
 use Rattle.hprof_objects.specs.Store.{rows_of_store, runs_of_store}
 use Rattle.hprof_objects.specs.Stretches.{AreStretches, IsPieceOf}
 use Rattle.hprof_objects.proofs.Logged.{stretches_begun}
@@ -76,6 +76,20 @@ module _ {S : Type 0} (written : S → Option (List ℕ)) (health : S → Health
         enough = subst (λ (rows : List ByteRow). IsEnough (rows_of_parts (parts ++ part ∷ []))
             (IsKept (rows_of_store log.store) kept.runs kept.lists rows)) kept.grows kept.enough;
       }
+
+  -- a part without objects, which did not begin in the log
+  pub holds_bare : (parts : List PartRead) (part : PartRead) (log : ObjectLog S) → rows_of_part part ≡ []
+      → HoldsParts written health limits parts log → HoldsParts written health limits (parts ++ part ∷ []) log
+  holds_bare parts part log none it = record {
+    no_growing = it.no_growing;
+    runs = it.runs;
+    are_runs = it.are_runs;
+    lists = it.lists;
+    are_stretches = stretches_begun limits parts part log.stretches.items it.lists it.are_stretches;
+    enough = subst (λ (rows : List ByteRow). IsEnough rows (IsKept (rows_of_store log.store) it.runs it.lists []))
+        (sym (rows_of_parts-append parts part ∙ ap (λ (l : List ByteRow). rows_of_parts parts ++ l) none
+        ∙ append-nil (rows_of_parts parts))) it.enough;
+  }
 
 -- a piece begins behind all facts that were taken
 pub piece_begins : (limits : Limits) (part : PartRead) (place : Option PartPlace) → IsPlaceNow limits part place

@@ -1,8 +1,8 @@
 -- A part that is read again: what its next facts are.
 use Rattle.std.proofs.Common.{◌≡◌, ◌⊎◌, ◌+◌, ◌-◌, ◌^◌, ◌≤◌, min, ℕ, Bool, true, false, List, [], ◌∷◌, ◌++◌, length, take, Option}
-use Rattle.std.proofs.Common.{Some, None, Result, Ok, Err, inl, inr, refl, sym, ap, subst, ◌∙◌, append_assoc, append-nil, arith}
+use Rattle.std.proofs.Common.{Some, None, Result, Ok, Err, inl, inr, refl, sym, ap, subst, ◌∙◌, append_assoc, arith}
 use Rattle.std.proofs.lemmas.Bool.{both_ways}
-use Rattle.std.proofs.lemmas.List.{append_cancel_left, length-append}
+use Rattle.std.proofs.lemmas.List.{length-append, length-take}
 use Rattle.hprof_devices.specs.declared.health.Health.{Health}
 use Rattle.hprof_values.specs.declared.ids.IdSize.{IdSize}
 use Rattle.hprof_values.specs.declared.reason.Reason.TheVariants.{Truncated}
@@ -26,10 +26,7 @@ use Rattle.hprof_facts.specs.declared.fact_reader.FactReader.{FactReader}
 use Rattle.hprof_facts.specs.FactReader.{AdvancesFrom, EndsFrom, HasGivenFrom, IsCurrent, IsOver, Origin, answer_of, comes_to_end, ids_of}
 use Rattle.hprof_facts.specs.FactReader.{is_refused, reads_are_spent, source_fails, source_of, spelled_of}
 use Rattle.hprof_facts.specs.Listing as listing
-use Rattle.hprof_facts.specs.OfBytes.{is_of_bytes}
-use Rattle.hprof_facts.proofs.Agreeing.{all_at_end, given_of_part, never_of_bytes}
-use Rattle.hprof_facts.proofs.Results.{part_states}
-use Rattle.hprof_facts.proofs.Sizes.{size_of_part}
+use Rattle.hprof_facts.specs.OfBytes.{IsOfBytes, is_of_bytes}
 use Rattle.hprof_facts.proofs.Spelled.{current_spelled}
 use Rattle.hprof_merge.specs.Rows.{ByteRow}
 use Rattle.hprof_merge.specs.Showing.{only}
@@ -37,8 +34,9 @@ use Rattle.hprof_objects.specs.declared.stretch_fault.StretchFault.{StretchFault
 use Rattle.hprof_objects.specs.declared.stretch_fault.StretchFault.TheVariants as whys
 use Rattle.hprof_facts.specs.ObjectKeys.{object_key}
 use Rattle.hprof_objects.specs.ObjectRows.{object_row, object_rows}
-use Rattle.hprof_objects.specs.ReadAgain.{CannotRead, HasObjects, IsOverBefore, IsWhole}
+use Rattle.hprof_objects.specs.ReadAgain.{CannotRead, HasObjects, IsOverBefore, StatesFirst}
 use Rattle.hprof_objects.specs.StretchFault.{ByFault, stretch_fault}
+use Rattle.hprof_objects.proofs.AllGiven.{all_given, next_given}
 
 -- ---- one fact
 
@@ -74,6 +72,10 @@ row_by_key ids (Start thread object trace name group parent_group) id is = absur
 row_by_key ids (End thread) id is = absurd cc
 row_by_key ids (Rooted root) id is = absurd cc
 row_by_key ids (Class one trace parent loader signers domain reserved1 reserved2 size constants statics fields) id is = absurd cc
+
+no_elements : (facts : List FactValue) → length facts ≡ 0 → facts ≡ []
+no_elements [] e = refl
+no_elements (fact ∷ facts) e = cc
 
 -- ---- faults
 
@@ -171,17 +173,14 @@ module _ {R : Type 0} (left : R → Option (List ℕ)) (health : R → Health) (
 
 -- ---- how many facts a part has
 
-facts_size : (limits : Limits) (bytes : List ℕ) (ids : IdSize) (facts : List FactValue) → IsWhole limits bytes ids facts
+facts_size : (limits : Limits) (bytes : List ℕ) (ids : IdSize) (facts : List FactValue) → StatesFirst limits bytes ids facts
     → length facts ≤ limits.max_bytes
-facts_size limits bytes ids facts whole =
-    let states = part_states limits.max_item bytes ids whole.millis facts whole.sound whole.states in
-    let its = states.1 in
+facts_size limits bytes ids facts its =
     let size = items_size limits.max_item Start its.place its.items its.splits.each in
-    let within = whole.within in
     omega (
       arith,
       size.1,
-      within,
+      length-take limits.max_bytes bytes,
       ap length its.has_facts,
       ap length its.splits.parts,
       length-append (all_bytes its.items) its.rest,
@@ -204,7 +203,7 @@ module _ {R : Type 0} (left : R → Option (List ℕ)) (health : R → Health) (
       has = gone.objects
 
       size : length ((has.origin.told ++ has.given) ++ has.behind) ≤ has.origin.limits.max_bytes
-      size = facts_size has.origin.limits (has.origin.front ++ has.rest) has.ids ((has.origin.told ++ has.given) ++ has.behind) has.whole
+      size = facts_size has.origin.limits (has.origin.front ++ has.rest) has.ids ((has.origin.told ++ has.given) ++ has.behind) has.states
 
       some : (behind : List FactValue) → object_rows has.ids behind ≡ (row ∷ rows) ++ has.more
           → length ((has.origin.told ++ has.given) ++ behind) ≤ has.origin.limits.max_bytes → ⊥
@@ -235,32 +234,30 @@ module _ {R : Type 0} (left : R → Option (List ℕ)) (health : R → Health) (
     given : HasGivenFrom left health pulls has.origin has.was (has.given ++ fact ∷ []) new
     size : ids_of new ≡ Some has.ids
 
-  goes_to : result ≡ Ok true → (rows : List ByteRow) (has : HasObjects left health pulls reads old rows) → GoesTo rows has
-  goes_to is rows has = step has.stands
+  -- there are facts before an object
+  some_behind : (behind : List FactValue) (ids : IdSize) (row : ByteRow) (rows more : List ByteRow)
+      → object_rows ids behind ≡ (row ∷ rows) ++ more → behind ≡ [] → ⊥
+  some_behind [] ids row rows more are e = cc
+  some_behind (fact ∷ behind) ids row rows more are e = cc
+
+  goes_to : result ≡ Ok true → (row : ByteRow) (rows : List ByteRow) (has : HasObjects left health pulls reads old (row ∷ rows))
+      → GoesTo (row ∷ rows) has
+  goes_to is row rows has = step has.stands
     where
       step : HasGivenFrom left health pulls has.origin has.was has.given old ⊎ IsOverBefore left health pulls has.origin has.was old
-          → GoesTo rows has
+          → GoesTo (row ∷ rows) has
       step (inl stands) =
-          let origin = has.origin in
-          let whole = has.whole in
-          let next = subst (λ (r : Result Bool PartFault). AdvancesFrom left health pulls origin has.was has.given r new) is
-          (advances origin has.was has.given stands) in
-          let fact = next.0 in
-          let first = given_of_part left health pulls origin has.was has.rest has.tells has.ids whole.millis
-          ((origin.told ++ has.given) ++ has.behind) whole.sound whole.within whole.states (has.given ++ fact ∷ []) new next.1 in
-          let behind_given : has.given ++ has.behind ≡ has.given ++ (fact ∷ first.0) =
-          append_cancel_left origin.told (has.given ++ has.behind) (has.given ++ (fact ∷ first.0))
-          (sym (append_assoc origin.told has.given has.behind)
-          ∙ (first.1 ∙ ap (λ (l : List FactValue). origin.told ++ l) (append_assoc has.given (fact ∷ []) first.0))) in
+          let next = subst (λ (r : Result Bool PartFault). AdvancesFrom left health pulls has.origin has.was has.given r new) is
+          (advances has.origin has.was has.given stands) in
+          let first = next_given left health pulls has.origin has.was has.rest has.tells has.ids has.given has.behind has.states next.0 new
+          next.1 (some_behind has.behind has.ids row rows has.more has.are) in
           record {
-            fact = fact;
-            rest = first.0;
+            fact = next.0;
+            rest = first.0.0;
             current = next.2;
-            is_next = append_cancel_left has.given has.behind (fact ∷ first.0) behind_given;
+            is_next = first.0.1;
             given = next.1;
-            size = size_of_part left health pulls origin has.was has.rest has.tells has.ids whole.millis
-                ((origin.told ++ has.given) ++ has.behind) (has.given ++ fact ∷ []) new whole.sound whole.within whole.states next.1 fact
-                has.given [] refl;
+            size = first.1;
           }
       step (inr fails) =
           let same = (over fails.over).0 in
@@ -289,7 +286,7 @@ module _ {R : Type 0} (left : R → Option (List ℕ)) (health : R → Health) (
           ids = has.ids;
           given = has.given ++ to.fact ∷ [];
           behind = to.rest;
-          whole = subst (IsWhole origin.limits (origin.front ++ has.rest) has.ids) facts has.whole;
+          states = subst (StatesFirst origin.limits (origin.front ++ has.rest) has.ids) facts has.states;
           more = more;
           are = are;
           stands = inl to.given;
@@ -299,13 +296,13 @@ module _ {R : Type 0} (left : R → Option (List ℕ)) (health : R → Health) (
 
   -- a fact that is no object changes nothing
   pub passes : (key : Option ℕ) → result ≡ Ok true → ((fact : FactValue) → IsCurrent new fact → key ≡ object_key fact) → key ≡ None
-      → (count : ℕ) (rows : List ByteRow) → HasGone left health pulls reads count old rows
-      → HasGone left health pulls reads (count + 1) new rows
-  passes key is keyed empty count rows gone =
+      → (count : ℕ) (row : ByteRow) (rows : List ByteRow) → HasGone left health pulls reads count old (row ∷ rows)
+      → HasGone left health pulls reads (count + 1) new (row ∷ rows)
+  passes key is keyed empty count row rows gone =
       let has = gone.objects in
-      let to = goes_to is rows has in
+      let to = goes_to is row rows has in
       let no = no_row has.ids to.fact (sym (keyed to.fact to.current) ∙ empty) in
-      goes_behind count rows has.more has to rows gone.many
+      goes_behind count (row ∷ rows) has.more has to (row ∷ rows) gone.many
       (sym (ap (object_rows has.ids) to.is_next
       ∙ ap (λ (row : Option ByteRow). only row ++ object_rows has.ids to.rest) no) ∙ has.are)
 
@@ -314,7 +311,7 @@ module _ {R : Type 0} (left : R → Option (List ℕ)) (health : R → Health) (
       → key ≡ Some id → (row : ByteRow) (rows : List ByteRow) → HasObjects left health pulls reads old (row ∷ rows)
       → (row ≡ (id, spelled_of new)) × HasObjects left health pulls reads new rows
   shows_next key id is keyed some row rows has =
-      let to = goes_to is (row ∷ rows) has in
+      let to = goes_to is row rows has in
       let fact = to.fact in
       let ids = has.ids in
       let object = row_by_key ids fact id (sym (keyed fact to.current) ∙ some) in
@@ -328,22 +325,32 @@ module _ {R : Type 0} (left : R → Option (List ℕ)) (health : R → Health) (
         (goes_behind 0 (row ∷ rows) has.more has to rows (omega arith) behind).objects,
       )
 
+  -- the bytes do not end it before the last object
+  never_over : (end : Result PartSummary PartFault) → IsOfBytes end → (row : ByteRow) (rows : List ByteRow)
+      → (has : HasObjects left health pulls reads old (row ∷ rows))
+      → EndsFrom left health pulls has.origin has.was (source_of new) end has.given → ⊥
+  never_over end of_bytes row rows has ends =
+      let origin = has.origin in
+      let all = all_given left health pulls origin has.was has.rest has.tells has.ids has.given has.behind has.states (source_of new) end
+      has.given ends of_bytes in
+      let empty : length has.behind ≡ 0 =
+      omega (
+        arith,
+        ap (λ (l : List FactValue). length l) all.1,
+        length-append ((origin.told ++ has.given) ++ has.behind) all.0,
+        length-append (origin.told ++ has.given) has.behind,
+      ) in
+      some_behind has.behind has.ids row rows has.more has.are (no_elements has.behind empty)
+
   -- there is no end before the last object
   pub never_ends : result ≡ Ok false → (row : ByteRow) (rows : List ByteRow) → HasObjects left health pulls reads old (row ∷ rows) → ⊥
   never_ends is row rows has = step has.stands
     where
       step : HasGivenFrom left health pulls has.origin has.was has.given old ⊎ IsOverBefore left health pulls has.origin has.was old → ⊥
       step (inl stands) =
-          let origin = has.origin in
-          let whole = has.whole in
-          let ended = subst (λ (r : Result Bool PartFault). AdvancesFrom left health pulls origin has.was has.given r new) is
-          (advances origin has.was has.given stands) in
-          let all = all_at_end left health pulls origin has.was has.rest has.tells has.ids whole.millis
-          ((origin.told ++ has.given) ++ has.behind) whole.sound whole.within whole.states (source_of new) ended.2.0 has.given ended.2.2 in
-          let empty : has.behind ≡ [] =
-          append_cancel_left (origin.told ++ has.given) has.behind [] (all.0 ∙ sym (append-nil (origin.told ++ has.given))) in
-          let nothing : [] ≡ row ∷ (rows ++ has.more) = ap (object_rows has.ids) (sym empty) ∙ has.are in
-          absurd cc
+          let ended = subst (λ (r : Result Bool PartFault). AdvancesFrom left health pulls has.origin has.was has.given r new) is
+          (advances has.origin has.was has.given stands) in
+          never_over (Ok ended.2.0) tt row rows has ended.2.2
       step (inr fails) =
           let same = (over fails.over).0 in
           let why = fails.answers in
@@ -372,14 +379,20 @@ module _ {R : Type 0} (left : R → Option (List ℕ)) (health : R → Health) (
       step (inl stands) = failed has.given stands
       step (inr fails) = failed fails.given fails.gave
 
-  -- the bytes do not decide it
-  pub never_changed : (fault : PartFault) → result ≡ Err fault → (rows : List ByteRow) → HasObjects left health pulls reads old rows
-      → is_of_bytes fault ≡ true → ⊥
-  never_changed fault is rows has judged =
-      let whole = has.whole in
-      let it = ends_with fault is rows has in
-      both_ways (is_of_bytes fault) (never_of_bytes left health pulls has.origin has.was has.rest has.tells has.ids whole.millis
-      ((has.origin.told ++ has.given) ++ has.behind) whole.sound whole.within whole.states (source_of new) fault it.given it.ends) judged
+  -- the bytes do not decide it before the last object
+  pub never_changed : (fault : PartFault) → result ≡ Err fault → (row : ByteRow) (rows : List ByteRow)
+      → HasObjects left health pulls reads old (row ∷ rows) → is_of_bytes fault ≡ true → ⊥
+  never_changed fault is row rows has judged = step has.stands
+    where
+      step : HasGivenFrom left health pulls has.origin has.was has.given old ⊎ IsOverBefore left health pulls has.origin has.was old → ⊥
+      step (inl stands) =
+          let ended = subst (λ (r : Result Bool PartFault). AdvancesFrom left health pulls has.origin has.was has.given r new) is
+          (advances has.origin has.was has.given stands) in
+          never_over (Err fault) judged row rows has ended.2
+      step (inr fails) =
+          let same : Err fails.fault ≡ Err fault = sym fails.answers ∙ (sym (over fails.over).0 ∙ is) in
+          let one : fails.fault ≡ fault = cc in
+          both_ways (is_of_bytes fault) (ap is_of_bytes (sym one) ∙ fails.undecided) judged
 
   -- if the part could not be read, the source failed, or the reads are spent
   pub cannot_read : (fault : PartFault) → result ≡ Err fault → stretch_fault fault ≡ whys.Read → (rows : List ByteRow)

@@ -11,16 +11,16 @@ use Rattle.hprof_facts.specs.declared.fact_place.FactPlace.{FactPlace}
 use Rattle.hprof_facts.specs.declared.fact_reader.FactReader.{FactReader}
 use Rattle.hprof_facts.specs.FactPlaces.{begins_at, passed_of}
 use Rattle.hprof_facts.specs.FactReader.{HasGivenFrom, HasGivenOrFails, HasPassed, Origin, spelled_of}
-use Rattle.hprof_facts.proofs.Standing.{stands_in_part}
 use Rattle.hprof_parts.specs.Parts.{Gives, bytes_at}
 use Rattle.hprof_merge.specs.Rows.{ByteRow, IsAscending}
 use Rattle.hprof_merge.specs.Showing.{Shows, only}
 use Rattle.hprof_objects.specs.declared.stretch.Stretch.{Stretch}
 use Rattle.hprof_objects.specs.declared.stretch_cursor.StretchCursor.{StretchCursor}
 use Rattle.hprof_objects.specs.PartsRead.{PartRead}
-use Rattle.hprof_objects.specs.ReadAgain.{HasObjects, IsOverBefore, IsSameAt, IsWhole}
+use Rattle.hprof_objects.specs.ReadAgain.{HasObjects, IsOverBefore, IsSameAt, StatesFirst}
 use Rattle.hprof_objects.specs.StretchCursor.{ComesTo, GoesOn, StandsAt, stretch_shown}
 use Rattle.hprof_objects.specs.Stretches.{IsStretch}
+use Rattle.hprof_objects.proofs.AllGiven.{stands_or_fails}
 
 module _ {R : Type 0} (left : R → Option (List ℕ)) (health : R → Health) (pulls : R → ℕ) (reads : ℕ) where
   -- ---- the next object
@@ -110,7 +110,14 @@ module _ {R : Type 0} (left : R → Option (List ℕ)) (health : R → Health) (
       → HasGivenFrom left health pulls origin was passed reader ⊎ IsOverBefore left health pulls origin was reader
   stands_or_over origin was passed count reader has (inl stands) = inl stands
   stands_or_over origin was passed count reader has (inr fails) =
-      inr (record { given = has.passed; gave = has.given; over = fails.0; fault = fails.1.0; answers = fails.1.1 })
+      inr (record {
+        given = has.passed;
+        gave = has.given;
+        over = fails.0;
+        fault = fails.1.0;
+        answers = fails.1.1;
+        undecided = fails.1.2;
+      })
 
   pub opened : (limits : Limits) (told : List (Option (List ℕ))) (stretch : Stretch) (place : FactPlace) (at : ℕ) (source : R)
       (reader : FactReader R) → pulls source ≡ 0
@@ -137,9 +144,9 @@ module _ {R : Type 0} (left : R → Option (List ℕ)) (health : R → Health) (
       subst (λ (bytes : Option (List ℕ)). Gives bytes at (left source)) again.tells gives ∙ ap Some rest in
       let facts : part.facts ≡ (inside.told ++ stands.before) ++ stands.after =
       inside.cuts_facts ∙ sym (append_assoc inside.told stands.before stands.after) in
-      let whole : IsWhole limits (inside.front ++ inside.back) part.ids ((inside.told ++ stands.before) ++ stands.after) =
-      subst (λ (bytes : List ℕ). IsWhole limits bytes part.ids ((inside.told ++ stands.before) ++ stands.after)) inside.cuts_bytes
-      (subst (IsWhole limits part.bytes part.ids) facts again.whole) in
+      let states : StatesFirst limits (inside.front ++ inside.back) part.ids ((inside.told ++ stands.before) ++ stands.after) =
+      subst (λ (bytes : List ℕ). StatesFirst limits bytes part.ids ((inside.told ++ stands.before) ++ stands.after)) inside.cuts_bytes
+      (subst (StatesFirst limits part.bytes part.ids) facts again.states) in
       let has = subst (λ (n : ℕ). HasPassed left health pulls origin source n reader) (passed ∙ stands.passed)
       (resumed limits inside.front inside.told behind) in
       record {
@@ -153,10 +160,9 @@ module _ {R : Type 0} (left : R → Option (List ℕ)) (health : R → Health) (
         ids = part.ids;
         given = stands.before;
         behind = stands.after;
-        whole = whole;
+        states = states;
         more = is.more;
         are = stands.are;
         stands = stands_or_over origin source stands.before (length stands.before) reader has
-            (stands_in_part left health pulls origin source inside.back tells part.ids whole.millis stands.before stands.after reader
-            whole.sound whole.within whole.states has);
+            (stands_or_fails left health pulls origin source inside.back tells part.ids stands.before stands.after states reader has);
       }

@@ -16,41 +16,44 @@ use Rattle.hprof_engine.proofs.Gathered.{Gathers-more}
 use Rattle.hprof_objects.specs.Log.{HoldsParts}
 use Rattle.hprof_objects.specs.PartsRead.{PartRead}
 use Rattle.hprof_objects.specs.Whole.{no_objects, without_objects}
-use Rattle.hprof_stored.specs.Holding.{Earlier, EndsPart, HoldsAll, HoldsStored, one_more}
-use Rattle.hprof_stored.specs.Parts.{AreAllOf, AreStored, IsStored, PartStored, all_read, given_of, others_of, read_of}
+use Rattle.hprof_stored.specs.Holding.{Earlier, EndsPart, HoldsAll, HoldsStored, one_more, others_before, parts_before}
+use Rattle.hprof_stored.specs.Parts.{AreAllOf, AreStored, IsStored, PartStored, all_read, given_of, read_of}
 use Rattle.hprof_stored.specs.Storing.{Storing}
 use Rattle.hprof_stored.specs.WatchedSink.{DroppedSoFar, WatchesSoFar}
 use Rattle.hprof_stored.specs.Watching.{Dropped, Watched, WatchesPart, WatchesParts}
 
-others_more : (parts : List PartStored) (part : PartStored) → others_of (parts ++ part ∷ []) ≡ others_of parts
-    ++ without_objects part.given ∷ []
-others_more parts part =
-    ap (map without_objects) (map-append (λ (p : PartStored). p.given) parts (part ∷ []))
-    ∙ map-append without_objects (given_of parts) (part.given ∷ [])
-
--- the sink holds it as one of the parts that came to their ends
+-- the sink holds it as one of the parts that were read
 pub part_ended : {S : Type 0} (written : S → Option (List ℕ)) (health : S → Health) (limits : Limits) (earlier : Earlier) (header : Header)
     (facts : List FactValue) (came before piece : List ℕ) (mid new : Storing S) → came ≡ before ++ piece
     → HoldsStored written health limits earlier (Some header) before facts mid → EndsPart written health mid new
-    → HoldsAll written health limits (one_more earlier (record { given = record { header = header; facts = facts }; bytes = came })) new
+    → HoldsAll written health limits (one_more earlier (record { header = header; facts = facts }) came) new
 part_ended written health limits earlier header facts came before piece mid new cut held ends =
-    let part : PartStored = record { given = record { header = header; facts = facts }; bytes = came } in
-    let more = Gathers-more nothing_gathered held.mid mid.gathered (others_of earlier.parts) header (no_objects facts) held.gathers
+    let given : Given = record { header = header; facts = facts } in
+    let more = Gathers-more nothing_gathered held.mid mid.gathered (others_before earlier) header (no_objects facts) held.gathers
     held.ran in
     record {
-      gathers = subst (λ (l : List Given). Gathers nothing_gathered l new.gathered) (sym (others_more earlier.parts part))
-          (subst (λ (g : Gathered). Gathers nothing_gathered (others_of earlier.parts ++ without_objects part.given ∷ []) g)
+      gathers = subst (λ (l : List Given). Gathers nothing_gathered l new.gathered)
+          (sym (map-append without_objects earlier.given (given ∷ [])))
+          (subst (λ (g : Gathered). Gathers nothing_gathered (others_before earlier ++ without_objects given ∷ []) g)
           (sym ends.gathers) more);
-      logs = λ told. subst (λ (l : List PartRead). HoldsParts written health limits l new.log)
-          (sym (map-append read_of earlier.parts (part ∷ [])))
-          (subst (λ (b : List ℕ). HoldsParts written health limits
-          (all_read earlier.parts ++ record { ids = header.ids; bytes = b; facts = facts } ∷ []) new.log) (sym cut)
-          (ends.logs limits (all_read earlier.parts) (record { ids = header.ids; bytes = before; facts = facts }) piece (held.logs told)));
-      number = ends.part ∙ ap (λ (n : ℕ). n + 1) held.number ∙ sym (length-append earlier.parts (part ∷ []));
+      logs = λ told. subst (λ (b : List ℕ). HoldsParts written health limits
+          (earlier.reads ++ record { ids = header.ids; bytes = b; facts = facts } ∷ []) new.log) (sym cut)
+          (ends.logs limits earlier.reads (record { ids = header.ids; bytes = before; facts = facts }) piece (held.logs told));
+      number = ends.part ∙ ap (λ (n : ℕ). n + 1) held.number
+          ∙ sym (length-append earlier.reads (record { ids = header.ids; bytes = came; facts = facts } ∷ []));
       none = ends.place;
       without = ends.within;
       sound = ends.sound ∙ held.sound;
     }
+
+-- one of them is behind the others
+pub one_part_more : (scratch : Option (List ℕ)) (parts : List PartStored) (part : PartStored)
+    → one_more (parts_before scratch parts) part.given part.bytes ≡ parts_before scratch (parts ++ part ∷ [])
+one_part_more scratch parts part =
+    ap (λ (given : List Given). record { scratch = scratch; given = given; reads = all_read parts ++ read_of part ∷ [] })
+    (sym (map-append (λ (p : PartStored). p.given) parts (part ∷ [])))
+    ∙ ap (λ (reads : List PartRead). record { scratch = scratch; given = given_of (parts ++ part ∷ []); reads = reads })
+    (sym (map-append read_of parts (part ∷ [])))
 
 -- ---- what a sink took that watched
 
@@ -149,7 +152,7 @@ stored_more limits (first ∷ lefts) left (one ∷ parts) part are is = (are.0, 
 stored_more limits [] left (one ∷ parts) part are is = absurd are
 stored_more limits (first ∷ lefts) left [] part are is = absurd are
 
-take_one : {R : Type 0} (xs : List R) (i : ℕ) (x : R) → slice_get xs i ≡ Some x → take (suc i) xs ≡ take i xs ++ x ∷ []
+pub take_one : {R : Type 0} (xs : List R) (i : ℕ) (x : R) → slice_get xs i ≡ Some x → take (suc i) xs ≡ take i xs ++ x ∷ []
 take_one [] i x e = absurd cc
 take_one (y ∷ xs) zero x e = let same : y ≡ x = cc in ap (λ z. z ∷ []) same
 take_one (y ∷ xs) (suc i) x e = ap (λ zs. y ∷ zs) (take_one xs i x e)

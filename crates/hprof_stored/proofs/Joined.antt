@@ -34,6 +34,7 @@ use Rattle.hprof_runs.specs.RunFault.{IfDamaged}
 use Rattle.hprof_stored.specs.Dumping.{IsOfTarget, FindsLeast}
 use Rattle.hprof_stored.specs.StoredMaking.{IsOfLoss, pass_fault}
 use Rattle.hprof_stored.specs.Parts.{AreStored, PartStored, all_read, given_of, others_of, read_of}
+use Rattle.hprof_stored.proofs.FrontRead.{whole_states_first}
 
 -- ---- parts that are read again
 
@@ -47,12 +48,8 @@ module _ (limits : Limits) where
       let same : read_of first ≡ part = cc in
       subst (IsSame limits (Some bytes)) same (record {
         tells = ap Some (sym are.0.all);
-        whole = record {
-          sound = are.0.accepted.0;
-          within = are.0.accepted.1;
-          millis = first.given.header.millis;
-          states = are.0.states;
-        };
+        states = whole_states_first limits first.bytes first.given.header.ids first.given.header.millis first.given.facts are.0.accepted
+            are.0.states;
       })
   same_part (bytes ∷ parts) (first ∷ stored) are (suc number) part e = same_part parts stored are.1 number part e
 

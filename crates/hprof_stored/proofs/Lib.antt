@@ -1,5 +1,6 @@
 mod Noting
 mod Facts
+mod FrontRead
 mod Ended
 mod Fresh
 mod Read
@@ -22,3 +23,10 @@ pub mod StoredMakes
 mod JoinMakes
 pub mod AgainMakes
 pub mod Untold
+mod SavedRows
+mod SavedOne
+mod SavedMore
+mod SavedEnds
+mod Saved
+mod SavedHeaps
+mod SalvageAgain

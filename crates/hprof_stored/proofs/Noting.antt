@@ -11,7 +11,6 @@ use Rattle.hprof_objects.specs.Log.{HasLogged, IsPlaceNow}
 use Rattle.hprof_objects.specs.PartsRead.{PartRead, with_bytes}
 use Rattle.hprof_values.specs.declared.ids.IdSize.{IdSize}
 use Rattle.hprof_stored.specs.Holding.{Earlier, HoldsStored}
-use Rattle.hprof_stored.specs.Parts.{all_read}
 use Rattle.hprof_stored.specs.Storing.{Storing}
 
 -- a place behind all facts that were taken
@@ -42,7 +41,7 @@ module _ {S : Type 0} (written : S → Option (List ℕ)) (health : S → Health
     gathers = held.gathers;
     ran = held.ran;
     begun = held.begun;
-    logs = λ told. notes limits (all_read earlier.parts) (record { ids = header.ids; bytes = bytes; facts = facts }) more (held.logs told)
+    logs = λ told. notes limits earlier.reads (record { ids = header.ids; bytes = bytes; facts = facts }) more (held.logs told)
         (place_now limits header.ids bytes more front rest facts place parts behind);
     number = held.number;
     within = held.within;

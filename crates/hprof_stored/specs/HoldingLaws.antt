@@ -1,7 +1,6 @@
 -- What a sink holds, as a header and facts come.
-use Rattle.std.proofs.Common.{◌≡◌, ℕ, Bool, true, false, not, List, [], ◌∷◌, ◌++◌, length, Option, Some, None, refl, sym, ap, subst, ◌∙◌}
+use Rattle.std.proofs.Common.{◌≡◌, ℕ, Bool, true, false, not, List, [], ◌∷◌, ◌++◌, Option, Some, None, refl, sym, ap, subst, ◌∙◌}
 use Rattle.std.proofs.Common.{append-nil, cond}
-use Rattle.std.proofs.lemmas.List.{length-map}
 use Rattle.std.proofs.lemmas.List.Elements.{filter-append}
 use Rattle.hprof_items.specs.declared.header.Header.{Header}
 use Rattle.hprof_items.specs.FactValue.{FactValue}
@@ -11,7 +10,6 @@ use Rattle.hprof_stream.specs.Run.{Run, Steps}
 use Rattle.hprof_heap.specs.Gathering.{Begins, Gathered, Takes}
 use Rattle.hprof_objects.specs.Whole.{is_object, no_objects}
 use Rattle.hprof_stored.specs.Holding.{Earlier, HoldsStored}
-use Rattle.hprof_stored.specs.Parts.{all_read, read_of}
 use Rattle.hprof_stored.specs.Storing.{BeginsStored, StepsStored, Storing, TakesOther}
 
 -- one step more
@@ -37,9 +35,6 @@ others_more false facts fact e old mid new header ran takes =
     subst (λ (l : List FactValue). Run Begins Takes old (Some header) l new) (sym alike)
     (ran.0, ran.1, steps_more ran.0 mid new (no_objects facts) fact ran.2 takes)
 
-same_length : (earlier : Earlier) → length earlier.parts ≡ length (all_read earlier.parts)
-same_length earlier = sym (length-map earlier.parts read_of)
-
 module _ {S : Type 0} (written : S → Option (List ℕ)) (health : S → Health) (limits : Limits) (earlier : Earlier) where
   pub holds_begun : (header : Header) (bytes : List ℕ) (old new : Storing S) → BeginsStored written health old header new
       → HoldsStored written health limits earlier None bytes [] old → HoldsStored written health limits earlier (Some header) bytes [] new
@@ -48,8 +43,7 @@ module _ {S : Type 0} (written : S → Option (List ℕ)) (health : S → Health
     gathers = held.gathers;
     ran = (new.gathered, begins.gathers, refl);
     begun = begins.gathers.begun;
-    logs = λ told. begins.logs limits (all_read earlier.parts) bytes (held.logs told) (held.number ∙ same_length earlier)
-        (held.place header.ids);
+    logs = λ told. begins.logs limits earlier.reads bytes (held.logs told) held.number (held.place header.ids);
     number = begins.part ∙ held.number;
     within = begins.within;
     sound = begins.sound;
@@ -63,7 +57,7 @@ module _ {S : Type 0} (written : S → Option (List ℕ)) (health : S → Health
     gathers = held.gathers;
     ran = others_more (is_object fact) facts fact refl held.mid old.gathered new.gathered header held.ran steps.gathers;
     begun = steps.begun ∙ held.begun;
-    logs = λ told. steps.logs limits (all_read earlier.parts) (record { ids = header.ids; bytes = bytes; facts = facts }) held.begun
+    logs = λ told. steps.logs limits earlier.reads (record { ids = header.ids; bytes = bytes; facts = facts }) held.begun
         (held.logs told);
     number = steps.part ∙ held.number;
     within = steps.within ∙ held.within;

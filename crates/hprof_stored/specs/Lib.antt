@@ -11,3 +11,6 @@ pub mod RowDecoder
 pub mod ObjectCounter
 pub mod InParts
 pub mod StoredMaking
+pub mod SavedParts
+pub mod SalvagingStored
+pub mod SavingThrough

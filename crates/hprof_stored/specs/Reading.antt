@@ -27,7 +27,7 @@ use Rattle.hprof_stored.specs.declared.stored_fault.StoredFault.{StoredFault}
 use Rattle.hprof_stored.specs.declared.stored_fault.StoredFault.TheVariants as stops
 use Rattle.hprof_stored.specs.declared.stored_heap.StoredHeap.{StoredHeap}
 use Rattle.hprof_stored.specs.declared.watched_sink.WatchedSink.{WatchedSink}
-use Rattle.hprof_stored.specs.Holding.{HoldsAll}
+use Rattle.hprof_stored.specs.Holding.{HoldsAll, parts_before}
 use Rattle.hprof_stored.specs.Parts.{AreStored, PartStored, all_read, given_of, others_of}
 use Rattle.hprof_stored.specs.Storing.{HaveObject, storing}
 use Rattle.hprof_stored.specs.Watching.{Dropped, Watched}
@@ -113,7 +113,7 @@ module _ {R : Type 0} (left : R → Option (List ℕ)) (health : R → Health) (
     pub all : length parts ≡ count
     pub stored : AreStored limits (map left (take count old)) parts
     pub given : AreGiven limits (map left (take count old)) (given_of parts)
-    pub holds : HoldsAll written well limits (record { scratch = scratch; parts = parts }) (storing it.sink)
+    pub holds : HoldsAll written well limits (parts_before scratch parts) (storing it.sink)
     pub watched : Watched takes start parts it.watch
     pub dropped : Dropped takes refuses start parts it.watch
 

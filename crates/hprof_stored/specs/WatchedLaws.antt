@@ -23,7 +23,7 @@ use Rattle.hprof_stored.specs.HoldingLaws.{holds_begun, holds_taken}
 use Rattle.hprof_stored.specs.Parts.{PartStored}
 use Rattle.hprof_stored.specs.Storing.{storing}
 use Rattle.hprof_stored.specs.WatchedSink.{BeginsWatched, DroppedSoFar, EarlierWatched, HoldsWatchedSink, IsHighest}
-use Rattle.hprof_stored.specs.WatchedSink.{StepsWatched, WatchesOn, WatchesSoFar}
+use Rattle.hprof_stored.specs.WatchedSink.{StepsWatched, WatchesOn, WatchesSoFar, earlier_of}
 use Rattle.hprof_stored.specs.Watching.{Dropped, EndsWatch, IsAbove, ShowsFact, Watched}
 
 -- ---- a fact more
@@ -272,15 +272,15 @@ module _ {S T E : Type 0} {g : Ghosts S} (written : S → Option (List ℕ)) (he
       → HoldsWatchedSink {g = g} written health takes refuses limits earlier None bytes [] old
       → HoldsWatchedSink {g = g} written health takes refuses limits earlier (Some header) bytes [] new
   watched_begun header bytes old new begins held = record {
-    stored = holds_begun written health limits earlier.earlier header bytes (storing old.sink) (storing new.sink) begins.stored
+    stored = holds_begun written health limits (earlier_of earlier) header bytes (storing old.sink) (storing new.sink) begins.stored
         held.stored;
     watches =
-        subst (λ (t : Option T). WatchesSoFar takes earlier.start earlier.earlier.parts (Some header) [] t new.last) (sym begins.watch)
-        (subst (λ (h : Option ℕ). WatchesSoFar takes earlier.start earlier.earlier.parts (Some header) [] old.watch h) (sym begins.last)
-        (watches_begun takes earlier.earlier.parts header earlier.start old.watch held.watches));
+        subst (λ (t : Option T). WatchesSoFar takes earlier.start earlier.parts (Some header) [] t new.last) (sym begins.watch)
+        (subst (λ (h : Option ℕ). WatchesSoFar takes earlier.start earlier.parts (Some header) [] old.watch h) (sym begins.last)
+        (watches_begun takes earlier.parts header earlier.start old.watch held.watches));
     dropped =
-        subst (λ (t : Option T). DroppedSoFar takes refuses earlier.start earlier.earlier.parts (Some header) [] t) (sym begins.watch)
-        (dropped_begun takes refuses earlier.earlier.parts header earlier.start old.watch held.dropped);
+        subst (λ (t : Option T). DroppedSoFar takes refuses earlier.start earlier.parts (Some header) [] t) (sym begins.watch)
+        (dropped_begun takes refuses earlier.parts header earlier.start old.watch held.dropped);
   }
 
   pub watched_taken : (header : Header) (bytes : List ℕ) (facts : List FactValue) (fact : FactValue) (old new : WatchedSink S T g)
@@ -288,10 +288,10 @@ module _ {S T E : Type 0} {g : Ghosts S} (written : S → Option (List ℕ)) (he
       → HoldsWatchedSink {g = g} written health takes refuses limits earlier (Some header) bytes facts old
       → HoldsWatchedSink {g = g} written health takes refuses limits earlier (Some header) bytes (facts ++ fact ∷ []) new
   watched_taken header bytes facts fact old new steps held = record {
-    stored = holds_taken written health limits earlier.earlier header bytes facts fact (storing old.sink) (storing new.sink)
+    stored = holds_taken written health limits (earlier_of earlier) header bytes facts fact (storing old.sink) (storing new.sink)
         steps.stored held.stored;
-    watches = watches_shown takes earlier.earlier.parts header facts fact refuses (object_key fact) refl earlier.start old.watch old.last
+    watches = watches_shown takes earlier.parts header facts fact refuses (object_key fact) refl earlier.start old.watch old.last
         new.watch new.last (steps.shown header.ids held.stored.begun) held.watches;
-    dropped = dropped_shown takes refuses earlier.earlier.parts header facts fact (object_key fact) refl earlier.start old.watch old.last
+    dropped = dropped_shown takes refuses earlier.parts header facts fact (object_key fact) refl earlier.start old.watch old.last
         new.watch new.last (steps.shown header.ids held.stored.begun) held.watches held.dropped;
   }

@@ -11,15 +11,20 @@ use Rattle.hprof_heap.specs.Gathering.{Given, gathered}
 use Rattle.hprof_merge.specs.Rows.{ByteRow, Has}
 use Rattle.hprof_objects.specs.Whole.{rows_given}
 use Rattle.hprof_stored.specs.declared.watched_sink.WatchedSink.{WatchedSink}
-use Rattle.hprof_stored.specs.Holding.{Earlier, HoldsStored}
+use Rattle.hprof_stored.specs.Holding.{Earlier, HoldsStored, parts_before}
 use Rattle.hprof_stored.specs.Parts.{PartStored}
 use Rattle.hprof_stored.specs.Storing.{BeginsStored, StepsStored, storing}
 use Rattle.hprof_stored.specs.Watching.{Dropped, EndsWatch, ShowsFact, StopsWatching, Watched, WatchesPart, WatchesParts}
 
--- what came before a part, and the sink that watches as it was at first, if there was one
+-- what came before a part: the bytes of the scratch at first, where they are told, and the parts that were read to their ends; and the sink
+-- that watches as it was at first, if there was one
 pub record EarlierWatched (T : Type 0) : Type 0 where
-  pub earlier : Earlier
+  pub scratch : Option (List ℕ)
+  pub parts : List PartStored
   pub start : Option T
+
+abbrev pub earlier_of : {T : Type 0} → EarlierWatched T → Earlier
+earlier_of earlier = parts_before earlier.scratch earlier.parts
 
 -- one of the rows has this key, and none has a key above it; if there is none, there are no rows
 abbrev pub IsHighest : List ByteRow → Option ℕ → Type 0
@@ -70,6 +75,6 @@ module _ {S T E : Type 0} {g : Ghosts S} (written : S → Option (List ℕ)) (he
   -- it was given the parts before, and of one part more this header, if it came, and these facts
   pub record HoldsWatchedSink (limits : Limits) (earlier : EarlierWatched T) (header : Option Header) (bytes : List ℕ)
       (facts : List FactValue) (it : WatchedSink S T g) : Type 0 where
-    pub stored : HoldsStored written health limits earlier.earlier header bytes facts (storing it.sink)
-    pub watches : WatchesSoFar takes earlier.start earlier.earlier.parts header facts it.watch it.last
-    pub dropped : DroppedSoFar takes refuses earlier.start earlier.earlier.parts header facts it.watch
+    pub stored : HoldsStored written health limits (earlier_of earlier) header bytes facts (storing it.sink)
+    pub watches : WatchesSoFar takes earlier.start earlier.parts header facts it.watch it.last
+    pub dropped : DroppedSoFar takes refuses earlier.start earlier.parts header facts it.watch

@@ -1,7 +1,7 @@
 //! Parts that are larger than the memory. At the first reading all facts but objects go into a heap, and the objects into a log. The
 //! canonical dump of the parts is written of both.
 //!
-//! Begin with [`join_stored`], or with [`read_stored`] and [`InParts`].
+//! Begin with [`join_stored`] or [`salvage_stored`], or with [`read_stored`] and [`InParts`].
 #![tactic(auto)]
 
 mod dumping;
@@ -16,6 +16,8 @@ mod object_row;
 mod pass_fault;
 mod reading;
 mod row_decoder;
+mod salvaging;
+mod saving;
 mod stored_fault;
 mod stored_heap;
 mod stored_sink;
@@ -29,5 +31,6 @@ pub use joining::join_stored;
 pub use merge_stop::{fault_of_first_pass, fault_of_stop};
 pub use pass_fault::PassFault;
 pub use reading::{read_stored, read_watched};
+pub use salvaging::salvage_stored;
 pub use stored_fault::StoredFault;
 pub use stored_heap::StoredHeap;

@@ -75,7 +75,7 @@ where
 }
 
 /// Returns the heap of all facts that a gatherer was given, or why they have none.
-fn heap_of_all(gatherer: Gatherer) -> Result<Heap, StoredFault>
+pub(crate) fn heap_of_all(gatherer: Gatherer) -> Result<Heap, StoredFault>
     requires { (given : List Given) × Gathers nothing_gathered given (gathered gatherer) }
     ensures { (given : List Given) → Gathers nothing_gathered given (gathered gatherer) → TellsStored given result }
 {

@@ -40,7 +40,7 @@ pub(crate) struct StoredSink<S: Target + Drop> {
 
 impl<S: Scratch + Drop> StoredSink<S> {
     ghost use Rattle.hprof_heap.specs.Gathering.{gathered};
-    ghost use Rattle.hprof_stored.specs.Holding.{EndsPart, HoldsAll, nothing_before};
+    ghost use Rattle.hprof_stored.specs.Holding.{EndsBare, EndsPart, HoldsAll, nothing_before};
     ghost use Rattle.hprof_stored.specs.Storing.{storing, StepsStored, RefusesStored};
 
     /// Returns a sink that was given nothing.
@@ -73,6 +73,21 @@ impl<S: Scratch + Drop> StoredSink<S> {
         self.part += 1;
         self.place = None;
         self.within = false;
+    }
+
+    /// Ends the part that is being read, of which no header may have come, and returns whether it came.
+    pub(crate) fn leave_part(&mut self) -> bool
+        requires { self.old.part < 2 ^ 64 - 1 }
+        ensures came { self.old.within ≡ true → (result ≡ true) × EndsPart S.written S.health (storing self.old) (storing self.new) }
+        ensures bare { self.old.within ≡ false → (result ≡ false) × EndsBare (storing self.old) (storing self.new) }
+    {
+        if self.within {
+            self.end_part();
+            return true;
+        }
+        self.part += 1;
+        self.place = None;
+        false
     }
 
     /// Takes an object.

@@ -129,4 +129,6 @@ Parts are pieces of one heap. Two dumps of one process are two heaps: salvage
 each alone. A compressed part goes through zcat:
     $ hprof salvage saved.hprof <(zcat heap.hprof.gz)
 
+`hprof --help` explains --memory. The file for objects is beside OUT.
+
 Exit status: 0 done, 1 refused (one line on standard error), 2 not understood.";

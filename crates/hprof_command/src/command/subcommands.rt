@@ -216,7 +216,7 @@ impl CommandWord {
                 help: help::SALVAGE,
                 arguments: &[OUT],
                 takes_parts: true,
-                takes_memory: false,
+                takes_memory: true,
             },
             CommandWord::Report(report) => report_row(report),
             CommandWord::Compare => CommandRow {

@@ -5,18 +5,18 @@ use Rattle.hprof_devices.specs.declared.health.Health.TheVariants.{Well}
 use Rattle.hprof_stream.specs.declared.part_fault.PartFault.{PartFault}
 use Rattle.hprof_placed.specs.Reading.{ListsPart}
 use Rattle.hprof_stored.specs.declared.stored_fault.StoredFault.{StoredFault}
-use Rattle.std.proofs.lemmas.List.{length-set, length-append}
+use Rattle.std.proofs.lemmas.List.{length-set, length-append, length-map}
 use Rattle.hprof_engine.proofs.Reading.{element_at, element_set, same_at, summarised_if_told, HoldsFirst-more, HoldsFirst-none}
 use Rattle.hprof_engine.proofs.Reading.{AreReadOut-kept, AreReadOut-more}
-use Rattle.hprof_stored.specs.Holding.{Earlier}
-use Rattle.hprof_stored.specs.Parts.{PartStored, given_of}
+use Rattle.hprof_stored.specs.Holding.{Earlier, HoldsAll, parts_before}
+use Rattle.hprof_stored.specs.Parts.{PartStored, given_of, read_of}
 use Rattle.hprof_stored.specs.Reading.{AreSoMany, StoresAll, StoresFirst}
 use Rattle.hprof_stored.specs.Storing.{storing}
 use Rattle.hprof_stored.specs.WatchedSink.{EarlierWatched}
 use Rattle.hprof_stored.specs.Watching.{Dropped, Watched}
-use Rattle.hprof_stored.proofs.Ended.{are_given, dropped_ended, dropped_first, is_stored, lefts_stored, part_ended, watched_ended}
-use Rattle.hprof_stored.proofs.Ended.{watched_first}
-use Rattle.hprof_stored.proofs.Read.{Comes, is_fault, is_full, read_whole, so_many, stops_so, watched_starts}
+use Rattle.hprof_stored.proofs.Ended.{are_given, dropped_ended, dropped_first, is_stored, lefts_stored, one_part_more, part_ended}
+use Rattle.hprof_stored.proofs.Ended.{watched_ended, watched_first}
+use Rattle.hprof_stored.proofs.Read.{Comes, read_whole, so_many, stops_so, watched_fault, watched_full, watched_starts}
 use Rattle.hprof_stored.proofs.reading.read_all.Goals as goal
 
 -- room for all that are to come is room for the next one and for those behind it
@@ -57,16 +57,17 @@ pub end_part-requires : goal.end_part-requires
 end_part-requires g c =
     let first = c.loop-index.invariant.first in
     let read = c.in-Ok-read_placed.ensures.read in
-    let earlier : Earlier = record { scratch = g.S.Target.written c.args.scratch; parts = first.parts } in
-    let before : EarlierWatched g.row.T.Denot = record { earlier = earlier; start = c.args.watch } in
-    let front = read.2.2 before (watched_starts g.S.Target.written g.S.Target.health c.args.limits earlier g.T.ObjectSink.takes
+    let scratch = g.S.Target.written c.args.scratch in
+    let before : EarlierWatched g.row.T.Denot = record { scratch = scratch; parts = first.parts; start = c.args.watch } in
+    let front = read.2.2 before (watched_starts g.S.Target.written g.S.Target.health c.args.limits scratch first.parts g.T.ObjectSink.takes
     g.T.ObjectSink.refuses c.args.watch c.loop-index.sink first.holds first.watched first.dropped) in
-    let whole = read_whole g.S.Target.written g.S.Target.health c.args.limits earlier g.T.ObjectSink.takes g.T.ObjectSink.refuses
-    c.args.watch g.R.Source.left g.R.Source.health g.R.Source.pulls (get_or c.loop-index.readers c.loop-index.index
+    let whole = read_whole g.S.Target.written g.S.Target.health c.args.limits scratch first.parts g.T.ObjectSink.takes
+    g.T.ObjectSink.refuses c.args.watch g.R.Source.left g.R.Source.health g.R.Source.pulls (get_or c.loop-index.readers c.loop-index.index
     c.index-readers-index.result) c.read_placed.new.source read.0 front.before c.in-Ok-read_placed.summary read.2.0 c.read_placed.new.sink
     read.2.1 front.held in
     let held = whole.2.stored in
-    omega (arith, held.number, first.all, c.loop-index-test.true)
+    let number : c.read_placed.new.sink.sink.part ≡ length first.parts = held.number ∙ length-map first.parts read_of in
+    omega (arith, number, first.all, c.loop-index-test.true)
 
 pub keep-requires : goal.keep-requires
 keep-requires g c =
@@ -88,10 +89,10 @@ returns-in-Err-clause-read g c =
     let still : index < length c.loop-index.readers = omega (arith, within, same_length) in
     let first = c.loop-index.invariant.first in
     let read = c.in-Err.ensures.read in
-    let earlier : Earlier = record { scratch = g.S.Target.written c.args.scratch; parts = first.parts } in
-    let before : EarlierWatched g.row.T.Denot = record { earlier = earlier; start = c.args.watch } in
+    let scratch = g.S.Target.written c.args.scratch in
+    let before : EarlierWatched g.row.T.Denot = record { scratch = scratch; parts = first.parts; start = c.args.watch } in
     let handed = read.2.0 in
-    let comes = read.2.2 before (watched_starts g.S.Target.written g.S.Target.health c.args.limits earlier g.T.ObjectSink.takes
+    let comes = read.2.2 before (watched_starts g.S.Target.written g.S.Target.health c.args.limits scratch first.parts g.T.ObjectSink.takes
     g.T.ObjectSink.refuses c.args.watch c.loop-index.sink first.holds first.watched first.dropped) in
     let there = element_at c.args.readers.now c.loop-index.readers index found within (c.loop-index.invariant.unread index found
     (omega arith) within) c.index-readers-index.is ∙ ap Some c.index-readers-index.is in
@@ -102,12 +103,13 @@ returns-in-Err-clause-read g c =
     (stops_so g.R.Source.left g.R.Source.health g.R.Source.pulls {S = g.row.S.Denot} g.S.Target g.S.Target.written g.S.Target.health
     g.T.ObjectSink.takes g.T.ObjectSink.refuses c.args.limits (g.S.Target.written c.args.scratch) c.args.watch c.args.readers.now
     (set c.loop-index.readers index is) index was there c.read_placed.new.sink.sink.full c.in-Err.fault
-    (λ failed. is_full g.S.Target.written g.S.Target.health c.args.limits earlier g.T.ObjectSink.takes g.T.ObjectSink.refuses c.args.watch
-    g.R.Source.left g.R.Source.health g.R.Source.pulls was is read.0 handed c.read_placed.new.sink
+    (λ failed. watched_full g.S.Target.written g.S.Target.health c.args.limits scratch first.parts g.T.ObjectSink.takes
+    g.T.ObjectSink.refuses c.args.watch g.R.Source.left g.R.Source.health g.R.Source.pulls was is read.0 handed c.read_placed.new.sink
     (subst (λ (f : PartFault). ListsPart g.R.Source.left g.R.Source.health g.R.Source.pulls c.args.limits was read.0 is (Err f) handed)
     failed read.2.1)
-    (subst (λ (f : PartFault). Comes g.S.Target.written g.S.Target.health c.args.limits earlier g.T.ObjectSink.takes g.T.ObjectSink.refuses
-    c.args.watch g.R.Source.left g.R.Source.health g.R.Source.pulls was is read.0 handed c.read_placed.new.sink f) failed comes))
+    (subst (λ (f : PartFault). Comes g.S.Target.written g.S.Target.health c.args.limits scratch first.parts g.T.ObjectSink.takes
+    g.T.ObjectSink.refuses c.args.watch g.R.Source.left g.R.Source.health g.R.Source.pulls was is read.0 handed c.read_placed.new.sink f)
+    failed comes))
     (λ other. record {
       given = given_of first.parts;
       of_readers = first.given;
@@ -119,9 +121,9 @@ returns-in-Err-clause-read g c =
         came = read.0;
         consumed = read.1;
         spared = c.in-Err.ensures.pulls;
-        refused = is_fault g.S.Target.written g.S.Target.health c.args.limits earlier g.T.ObjectSink.takes g.T.ObjectSink.refuses
-            c.args.watch g.R.Source.left g.R.Source.health g.R.Source.pulls was is read.0 handed c.read_placed.new.sink c.in-Err.fault other
-            read.2.1 comes;
+        refused = watched_fault g.S.Target.written g.S.Target.health c.args.limits scratch first.parts g.T.ObjectSink.takes
+            g.T.ObjectSink.refuses c.args.watch g.R.Source.left g.R.Source.health g.R.Source.pulls was is read.0 handed
+            c.read_placed.new.sink c.in-Err.fault other read.2.1 comes;
         unread = λ k behind. same_at (set c.loop-index.readers index is) c.args.readers.now k
             (length-set c.loop-index.readers index is ∙ same_length)
             (λ d below. let other : k ≢ index = omega (arith, behind) in
@@ -154,13 +156,13 @@ loop-index-preserved g c =
     let read = c.in-Ok-read_placed.ensures.read in
     let summary = c.in-Ok-read_placed.summary in
     let reads = read.2.1 in
-    let earlier : Earlier = record { scratch = g.S.Target.written c.args.scratch; parts = first.parts } in
-    let before : EarlierWatched g.row.T.Denot = record { earlier = earlier; start = c.args.watch } in
-    let front = read.2.2 before (watched_starts g.S.Target.written g.S.Target.health c.args.limits earlier g.T.ObjectSink.takes
+    let scratch = g.S.Target.written c.args.scratch in
+    let before : EarlierWatched g.row.T.Denot = record { scratch = scratch; parts = first.parts; start = c.args.watch } in
+    let front = read.2.2 before (watched_starts g.S.Target.written g.S.Target.health c.args.limits scratch first.parts g.T.ObjectSink.takes
     g.T.ObjectSink.refuses c.args.watch c.loop-index.sink first.holds first.watched first.dropped) in
-    let whole = read_whole g.S.Target.written g.S.Target.health c.args.limits earlier g.T.ObjectSink.takes g.T.ObjectSink.refuses
-    c.args.watch g.R.Source.left g.R.Source.health g.R.Source.pulls was is read.0 front.before summary read.2.0 c.read_placed.new.sink reads
-    front.held in
+    let whole = read_whole g.S.Target.written g.S.Target.health c.args.limits scratch first.parts g.T.ObjectSink.takes
+    g.T.ObjectSink.refuses c.args.watch g.R.Source.left g.R.Source.health g.R.Source.pulls was is read.0 front.before summary read.2.0
+    c.read_placed.new.sink reads front.held in
     let part : PartStored = record { given = record { header = summary.header; facts = whole.0 }; bytes = read.0 } in
     let there = element_at c.args.readers.now c.loop-index.readers index found within (c.loop-index.invariant.unread index found
     (omega arith) within) c.index-readers-index.is ∙ ap Some c.index-readers-index.is in
@@ -176,8 +178,11 @@ loop-index-preserved g c =
         all = length-append first.parts (part ∷ []) ∙ ap (λ (n : ℕ). n + 1) first.all;
         stored = stored;
         given = are_given c.args.limits (map g.R.Source.left (take (index + 1) c.args.readers.now)) (first.parts ++ part ∷ []) stored;
-        holds = part_ended g.S.Target.written g.S.Target.health c.args.limits earlier summary.header whole.0 read.0 front.before front.piece
-            (storing c.read_placed.new.sink.sink) (storing c.end_part.new.self.sink) front.parts whole.2.stored c.end_part.ensures.stored;
+        holds = subst (λ (e : Earlier). HoldsAll g.S.Target.written g.S.Target.health c.args.limits e (storing c.end_part.new.self.sink))
+            (one_part_more scratch first.parts part)
+            (part_ended g.S.Target.written g.S.Target.health c.args.limits (parts_before scratch first.parts) summary.header whole.0 read.0
+            front.before front.piece (storing c.read_placed.new.sink.sink) (storing c.end_part.new.self.sink) front.parts whole.2.stored
+            c.end_part.ensures.stored);
         watched = subst (λ (t : Option g.row.T.Denot). Watched g.T.ObjectSink.takes c.args.watch (first.parts ++ part ∷ []) t)
             (sym c.end_part.ensures.watch)
             (watched_ended g.T.ObjectSink.takes first.parts summary.header whole.0 read.0 c.args.watch c.read_placed.new.sink.watch
