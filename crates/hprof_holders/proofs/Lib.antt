@@ -21,6 +21,9 @@ pub mod SumEntries
 pub mod SomeSums
 pub mod WeakDecided
 pub mod SomeSteps
+mod SameWho
 pub mod WhoParts
 pub mod SomeWho
 pub mod WhoWords
+pub mod SmallEdges
+mod WhoInAll
