@@ -90,11 +90,11 @@ module _ (ids : IdSize) (wanted : List ℕ) (all small : List FactValue) (agree 
     edge_same : SameEdge of.found others of.names names edge
     edge_same = (
       ap (λ (node : List ℕ). node ++ codes " " ++ step_text of.found.naming of.names edge ++ codes "\n") (node_is edge.from words)
-      ∙ ap (λ (step : List ℕ). node_text others edge.from ++ codes " " ++ step ++ codes "\n")
-      (step_same of.names names edge name_is weak_is of.found.naming),
+          ∙ ap (λ (step : List ℕ). node_text others edge.from ++ codes " " ++ step ++ codes "\n")
+          (step_same of.names names edge name_is weak_is of.found.naming),
       ap (λ (kind : List ℕ). kind ++ codes " " ++ step_kind of.found.naming of.names edge) (kind_is edge.from words)
-      ∙ ap (λ (step : List ℕ). kind_text others edge.from ++ codes " " ++ step)
-      (step_kind_same of.names names edge name_is weak_is of.found.naming),
+          ∙ ap (λ (step : List ℕ). kind_text others edge.from ++ codes " " ++ step)
+          (step_kind_same of.names names edge name_is weak_is of.found.naming),
     )
 
   all_edges : AllByRecursion (SameEdge of.found others of.names names) of.edges
@@ -193,6 +193,6 @@ module _ (ids : IdSize) (facts all : List FactValue) (whole : IsWhole ids facts 
   who_over small id P is written = (
     written.0,
     who_in_all ids is.wanted all (facts_of small) id written.0 (order_agrees all whole.ordered) is.facts is.has
-    (subst (λ (i : IdSize). IsWhoText i (facts_of small) id written.0) is.size written.1),
+        (subst (λ (i : IdSize). IsWhoText i (facts_of small) id written.0) is.size written.1),
     written.2,
   )

@@ -15,6 +15,11 @@ use Rattle.hprof_threads.specs.Serials.{thread_of_root}
 use Rattle.hprof_threads.specs.Threads.{IsThreadObject}
 use Rattle.hprof_words.specs.Words.{HasWords}
 
+-- the list has the object of the root's thread, where 0 is none, if the root is of a thread
+abbrev pub HasThreadOf : List FactValue → List ℕ → Root → Type 0
+HasThreadOf facts nodes root =
+    (serial object : ℕ) → thread_of_root root ≡ Some serial → IsThreadObject facts serial object → Contains nodes object
+
 -- one of the roots of the identifier is of the thread
 pub record IsThreadOfRoots (facts : List FactValue) (id serial : ℕ) : Type 0 where
   pub root : Root

@@ -1,13 +1,12 @@
 //! The objects that the report `who` names.
 
-ghost use Rattle.std.specs.Prelude.{◌≡◌, ◌++◌, ℕ, List, Some, Contains, IfOk, OnOk, map};
+ghost use Rattle.std.specs.Prelude.{◌≡◌, ◌++◌, ℕ, List, Contains, IfOk, OnOk, map};
 ghost use Rattle.std.specs.List.Sorted.{IsStrictlyIncreasing};
+ghost use Rattle.hprof_values.specs.declared.root.Root.{Root};
 ghost use Rattle.hprof_heap.specs.HeapFacts.{facts_of};
 ghost use Rattle.hprof_edges.specs.declared.edge.Edge.{Edge};
-ghost use Rattle.hprof_threads.specs.Serials.{thread_of_root};
 ghost use Rattle.hprof_threads.specs.ThreadRoots.{AreThreadRoots};
-ghost use Rattle.hprof_threads.specs.Threads.{IsThreadObject};
-ghost use Rattle.hprof_holders.specs.WhoObjects.{HasRootObjects};
+ghost use Rattle.hprof_holders.specs.WhoObjects.{HasRootObjects, HasThreadOf};
 
 use hprof_edges::Edge;
 use hprof_heap::{Heap, holds_of_heap};
@@ -37,14 +36,32 @@ fn push_root_thread(
 ) -> Result<(), AllocError>
     requires { AreThreadRoots (facts_of heap.now) threads.now }
     ensures grows { OnOk result ((more : List ℕ) × (nodes.new.items ≡ nodes.old.items ++ more)) }
-    ensures has { OnOk result ((serial object : ℕ) → thread_of_root root ≡ Some serial → IsThreadObject (facts_of heap.now) serial object
-        → Contains nodes.new.items object) }
+    ensures has { OnOk result (HasThreadOf (facts_of heap.now) nodes.new.items root) }
 {
     holds_of_heap(heap);
     let Some(serial) = thread_of_root(root) else {
         return Ok(());
     };
     nodes.push(thread_object(heap, threads, serial))?;
+    Ok(())
+}
+
+/// Appends the objects of the threads of some roots.
+fn push_threads(
+    nodes: &mut Vec<u64>,
+    heap: &Heap,
+    threads: &ThreadRoots,
+    roots: &[Root],
+) -> Result<(), AllocError>
+    requires { AreThreadRoots (facts_of heap.now) threads.now }
+    ensures grows { OnOk result ((more : List ℕ) × (nodes.new.items ≡ nodes.old.items ++ more)) }
+    ensures has { OnOk result ((root : Root) → Contains roots.now root → HasThreadOf (facts_of heap.now) nodes.new.items root) }
+{
+    let mut rest = roots;
+    while let Some((root, after)) = rest.split_first() {
+        push_root_thread(nodes, heap, threads, *root)?;
+        rest = after;
+    }
     Ok(())
 }
 
@@ -61,10 +78,7 @@ pub fn push_root_threads(
     ensures has { OnOk result (HasRootObjects (facts_of heap.now) nodes.new.items id) }
 {
     let roots = roots_of(alloc, heap, id)?;
-    for root in &roots {
-        push_root_thread(nodes, heap, threads, *root)?;
-    }
-    Ok(())
+    push_threads(nodes, heap, threads, &roots)
 }
 
 /// Returns an identifier, the objects that some edges lead from, and the objects of the threads of the identifier's roots, sorted, each
