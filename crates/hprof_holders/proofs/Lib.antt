@@ -25,5 +25,6 @@ mod SameWho
 pub mod WhoParts
 pub mod SomeWho
 pub mod WhoWords
+pub mod RootObjects
 pub mod SmallEdges
 mod WhoInAll
