@@ -10,19 +10,15 @@ ghost use Rattle.hprof_passes.specs.Finding.{Finds};
 ghost use Rattle.hprof_holders.specs.WhoObjects.{IsWhoHeap};
 ghost use Rattle.hprof_holders.specs.WhoText.{IsWhoText};
 
-use crate::view::HeapView;
+use crate::view::HeapTables;
 use crate::who_objects::objects_of_who;
 use crate::who_report::write_who;
 use hprof_devices::Target;
 use hprof_edges::{referrers, referrers_over};
 use hprof_engine::WriteStop;
 use hprof_heap::{Heap, holds_of_heap};
-use hprof_layouts::known_layouts;
 use hprof_lines::stop_of_pass;
-use hprof_naming::ClassNames;
 use hprof_passes::{Objects, PassStop};
-use hprof_threads::ThreadRoots;
-use hprof_weak::weak_fields;
 use hprof_words::words_heap;
 use std::alloc::{AllocError, Global};
 
@@ -65,18 +61,8 @@ fn write_in_memory<W: Target>(
 {
     holds_of_heap(heap);
     let edges = referrers(alloc, heap, id)?;
-    let layouts = known_layouts(alloc, heap)?;
-    let classes = ClassNames::of(alloc, heap)?;
-    let threads = ThreadRoots::of(alloc, heap)?;
-    let weak = weak_fields(alloc, heap)?;
-    let view = HeapView {
-        heap,
-        layouts: &layouts,
-        classes: &classes,
-        threads: &threads,
-        weak: &weak,
-    };
-    write_who(alloc, view, id, &edges, target)
+    let tables = HeapTables::of(alloc, heap)?;
+    write_who(alloc, tables.view(heap), id, &edges, target)
 }
 
 /// Writes the report `who` on an identifier, as [`write_who`] does. The heap has all facts but the objects, which are gone through two to
