@@ -165,7 +165,7 @@ who_in_all ids wanted all small id text agree is has of =
 
 -- the threads of roots were found without objects
 module _ (ids : IdSize) (facts all : List FactValue) (whole : IsWhole ids facts all) where
-  roots_of_whole : (id serial : ℕ) → IsThreadOfRoots all id serial → IsThreadOfRoots facts id serial
+  pub roots_of_whole : (id serial : ℕ) → IsThreadOfRoots all id serial → IsThreadOfRoots facts id serial
   roots_of_whole id serial of =
       record { root = of.root; has = (root_there ids facts all whole of.root).0 of.has; of = of.of; thread = of.thread }
 
