@@ -1,12 +1,16 @@
 -- The objects of the threads of roots, as they are appended to a list.
 use Rattle.std.specs.Prelude.{◌↔◌, ◌⊎◌, Contains}
-use Rattle.std.proofs.Common.{◌≡◌, ℕ, List, [], ◌∷◌, ◌++◌, map, inl, inr, sym, ap, subst, ◌∙◌, append_assoc}
+use Rattle.std.proofs.Common.{◌≡◌, ℕ, List, [], ◌∷◌, ◌++◌, length, map, Option, Some, inl, inr, sym, ap, subst, ◌∙◌, append_assoc, arith}
 use Rattle.std.proofs.lemmas.List.Elements.{Contains-append_left, Contains-append_right, Contains-push}
 use Rattle.hprof_values.specs.declared.root.Root.{Root}
 use Rattle.hprof_items.specs.FactValue.{FactValue}
+use Rattle.hprof_rows.specs.Conflict.{IsConsistent}
 use Rattle.hprof_histogram.proofs.Members.{Contains-from_in, IsIn, in_from_Contains}
 use Rattle.hprof_edges.specs.declared.edge.Edge.{Edge}
 use Rattle.hprof_reach.specs.Roots.{AreRootsOf}
+use Rattle.hprof_threads.specs.Serials.{thread_of_root}
+use Rattle.hprof_threads.specs.Threads.{IsThreadObject}
+use Rattle.hprof_threads.proofs.ThreadAnswers.{object_once}
 use Rattle.hprof_holders.specs.WhoObjects.{HasRootObjects, HasThreadOf}
 use Rattle.hprof_holders.proofs.PushedThreads.{given_in}
 
@@ -19,6 +23,11 @@ still_in old more new grows node has =
 pub grown : (start first old more new : List ℕ) → old ≡ start ++ first → new ≡ old ++ more → (all : List ℕ) × (new ≡ start ++ all)
 grown start first old more new was grows =
     (first ++ more, grows ∙ ap (λ (l : List ℕ). l ++ more) was ∙ append_assoc start first more)
+
+-- an empty list has no members
+pub no_member : {X : Type 0} (list : List X) (x : X) → length list ≡ 0 → IsIn x list → ⊥
+no_member [] x none has = has
+no_member (first ∷ rest) x none has = omega (arith, none)
 
 module _ (facts : List FactValue) where
   thread_of_more : (list more : List ℕ) → ((node : ℕ) → Contains list node → Contains more node) → (root : Root)
@@ -61,3 +70,13 @@ module _ (start own froms all sorted more : List ℕ) (id : ℕ) (edges : List E
 
   pub threads_there : (facts : List FactValue) → HasRootObjects facts all id → HasRootObjects facts sorted id
   threads_there facts has = λ serial object of is. (same object).1 (has serial object of is)
+
+-- the object of the root's thread was appended
+pub own_pushed : (facts : List FactValue) → IsConsistent facts → (root : Root) (serial object : ℕ) (found : Option ℕ)
+    → found ≡ thread_of_root root → found ≡ Some serial → IsThreadObject facts serial object → (old new : List ℕ)
+    → new ≡ old ++ object ∷ [] → HasThreadOf facts new root
+own_pushed facts agree root serial object found is here of old new pushed = λ other its thread own.
+    let same : Some serial ≡ Some other = sym here ∙ is ∙ thread in
+    let serial_is : serial ≡ other = cc in
+    let object_is = object_once facts agree other object its (subst (λ (s : ℕ). IsThreadObject facts s object) serial_is of) own in
+    subst (λ (l : List ℕ). Contains l its) (sym pushed) (subst (Contains (old ++ object ∷ [])) object_is (Contains-push old object))
