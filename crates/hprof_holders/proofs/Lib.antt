@@ -7,7 +7,7 @@ pub mod SomeHeld
 pub mod SomeSerials
 pub mod ThreadTexts
 pub mod SomeThreads
-mod WholeThreads
+pub mod WholeThreads
 mod SameThreads
 mod ThreadsInAll
 mod PushedThreads
@@ -21,6 +21,10 @@ pub mod SumEntries
 pub mod SomeSums
 pub mod WeakDecided
 pub mod SomeSteps
+pub mod SameWho
 pub mod WhoParts
 pub mod SomeWho
 pub mod WhoWords
+pub mod RootObjects
+pub mod SmallEdges
+pub mod WhoInAll

@@ -17,23 +17,22 @@ objects_in rows = map (λ (held : Held). held.object) rows
 
 -- ---- appended one by one
 
-pub one_appended : (list new : List ℕ) (held : Held) (rest after : List Held) (whole : List ℕ) → new ≡ list ++ held.object ∷ []
-    → rest ≡ held ∷ after → list ++ objects_in rest ≡ whole → new ++ objects_in after ≡ whole
-one_appended list new held rest after whole pushed is was =
-    ap (λ (l : List ℕ). l ++ objects_in after) pushed ∙ append_assoc list (held.object ∷ []) (objects_in after)
-    ∙ ap (λ (l : List Held). list ++ objects_in l) (sym is) ∙ was
+module _ {X : Type 0} (of : X → ℕ) where
+  pub one_appended : (list new : List ℕ) (first : X) (rest after : List X) (whole : List ℕ) → new ≡ list ++ of first ∷ []
+      → rest ≡ first ∷ after → list ++ map of rest ≡ whole → new ++ map of after ≡ whole
+  one_appended list new first rest after whole pushed is was =
+      ap (λ (l : List ℕ). l ++ map of after) pushed ∙ append_assoc list (of first ∷ []) (map of after)
+      ∙ ap (λ (l : List X). list ++ map of l) (sym is) ∙ was
 
-pub all_appended : (list : List ℕ) (rest : List Held) (whole : List ℕ) → rest ≡ [] → list ++ objects_in rest ≡ whole → list ≡ whole
-all_appended list rest whole none was = sym (append-nil list) ∙ ap (λ (l : List Held). list ++ objects_in l) (sym none) ∙ was
+  -- what a member gives is in the list
+  pub given_in : (xs : List X) (x : X) → IsIn x xs → IsIn (of x) (map of xs)
+  given_in [] x has = absurd has
+  given_in (first ∷ xs) x has = elim has [
+    | inl is ↦ inl (ap of is)
+    | inr later ↦ inr (given_in xs x later)
+  ]
 
 -- ---- a thread
-
-object_in : (rows : List Held) (held : Held) → IsIn held rows → IsIn held.object (objects_in rows)
-object_in [] held has = absurd has
-object_in (row ∷ rows) held has = elim has [
-  | inl is ↦ inl (ap (λ (h : Held). h.object) is)
-  | inr later ↦ inr (object_in rows held later)
-]
 
 -- its object, and behind that those of its rows
 module _ (old mid new : List ℕ) (object : ℕ) (rows : List Held) (first : mid ≡ old ++ object ∷ []) (second : new ≡ mid ++ objects_in rows)
@@ -54,7 +53,7 @@ module _ (old mid new : List ℕ) (object : ℕ) (rows : List Held) (first : mid
       held = λ held of by. subst (λ (l : List ℕ). Contains l held.object) (sym second)
           (Contains-append_right mid (objects_in rows) held.object
           (Contains-from_in (objects_in rows) held.object
-          (object_in rows held (in_from_Contains rows held ((are.exact held).1 (of, by))))));
+          (given_in (λ (held : Held). held.object) rows held (in_from_Contains rows held ((are.exact held).1 (of, by))))));
     }
 
 -- a longer list has it too

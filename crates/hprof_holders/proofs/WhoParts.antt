@@ -1,5 +1,5 @@
 -- The report `who`, in parts.
-use Rattle.std.specs.Prelude.{nat_le, if◌then◌else◌}
+use Rattle.std.specs.Prelude.{Contains, nat_le, if◌then◌else◌}
 use Rattle.std.proofs.Common.{◌≡◌, ℕ, Bool, true, false, List, [], ◌∷◌, ◌++◌, length, map, Option, codes}
 use Rattle.std.proofs.Common.{refl, sym, ap, ◌∙◌, append_assoc, inl, inr}
 use Rattle.std.specs.Fmt.{decimal}
@@ -11,17 +11,16 @@ use Rattle.hprof_rows.specs.Conflict.{IsConsistent}
 use Rattle.hprof_histogram.proofs.Members.{IsIn, Contains-from_in}
 use Rattle.hprof_edges.specs.declared.edge.Edge.{Edge}
 use Rattle.hprof_edges.specs.Edges.{AreReferrers, IsEdge}
-use Rattle.hprof_naming.specs.Naming.{Naming}
-use Rattle.hprof_reports.specs.RefsText.{via_word}
 use Rattle.hprof_describe.specs.Findings.{Findings}
 use Rattle.hprof_describe.specs.Nodes.{kind_text, node_text}
 use Rattle.hprof_describe.proofs.WordParts.{not_null}
 use Rattle.hprof_holders.specs.RootsText.{roots_text}
-use Rattle.hprof_holders.specs.Steps.{AreEdgeFindings, EdgeFindings, name_behind, step_kind, step_text, weak_word}
+use Rattle.hprof_holders.specs.Steps.{AreEdgeFindings, EdgeFindings}
 use Rattle.hprof_holders.specs.Sums.{SumValue}
 use Rattle.hprof_holders.specs.ThreadFindings.{ThreadFindings}
 use Rattle.hprof_holders.specs.WhoText.{edge_kind, edge_line, none_line, referred_text, roots_of_some, sum_line, sums_text, who_text}
 use Rattle.hprof_holders.proofs.EdgeNames.{name_found, weak_found}
+use Rattle.hprof_holders.proofs.SameWho.{SameEdge, kinds_same, step_kind_same, step_same, who_same}
 
 -- ---- the edges of a list
 
@@ -29,61 +28,40 @@ all_from_each : {X : Type 0} (P : X → Type 0) (xs : List X) → ((x : X) → I
 all_from_each P [] of_each = tt
 all_from_each P (x ∷ xs) of_each = (of_each x (inl refl), all_from_each P xs (λ y has. of_each y (inr has)))
 
+pub all_of_each : {X : Type 0} (P : X → Type 0) (xs : List X) → ((x : X) → Contains xs x → P x) → AllByRecursion P xs
+all_of_each P xs of_each = all_from_each P xs (λ x has. of_each x (Contains-from_in xs x has))
+
 pub are_edges : (ids : IdSize) (facts : List FactValue) (id : ℕ) (edges : List Edge) → AreReferrers ids facts id edges
     → AllByRecursion (IsEdge ids facts) edges
 are_edges ids facts id edges are =
-    all_from_each (IsEdge ids facts) edges (λ edge has. ((are.exact edge).0 (Contains-from_in edges edge has)).0)
+    all_of_each (IsEdge ids facts) edges (λ edge has. ((are.exact edge).0 has).0)
 
 -- ---- the words of edges do not depend on what is found of other edges
 
 module _ (ids : IdSize) (facts : List FactValue) (agree : IsConsistent facts) (one other : EdgeFindings)
-    (are : AreEdgeFindings ids facts one) (too : AreEdgeFindings ids facts other) where
-  module _ (edge : Edge) (is : IsEdge ids facts edge) where
-    names : one.name edge ≡ other.name edge
-    names = name_found facts agree ids other too edge is (one.name edge) (are.names edge is)
+    (are : AreEdgeFindings ids facts one) (too : AreEdgeFindings ids facts other) (found : Findings) where
+  same_edge : (edge : Edge) → IsEdge ids facts edge → SameEdge found found one other edge
+  same_edge edge is =
+      let name = name_found facts agree ids other too edge is (one.name edge) (are.names edge is) in
+      let weak = weak_found facts agree ids other too edge is (one.is_weak edge) (are.weak edge is) in (
+        ap (λ (step : List ℕ). node_text found edge.from ++ codes " " ++ step ++ codes "\n")
+            (step_same one other edge name weak found.naming),
+        ap (λ (step : List ℕ). kind_text found edge.from ++ codes " " ++ step) (step_kind_same one other edge name weak found.naming),
+      )
 
-    weak : one.is_weak edge ≡ other.is_weak edge
-    weak = weak_found facts agree ids other too edge is (one.is_weak edge) (are.weak edge is)
+  same_edges : (edges : List Edge) → AllByRecursion (IsEdge ids facts) edges → AllByRecursion (SameEdge found found one other) edges
+  same_edges [] all = tt
+  same_edges (edge ∷ edges) all = (same_edge edge all.0, same_edges edges all.1)
 
-    same_text : (naming : Naming) → step_text naming one edge ≡ step_text naming other edge
-    unfolding step_text
-    same_text naming =
-        ap (λ (w : Bool). weak_word w ++ via_word edge.via ++ codes " " ++ decimal edge.position ++ name_behind naming (one.name edge)) weak
-        ∙ ap (λ (n : Option ℕ). weak_word (other.is_weak edge) ++ via_word edge.via ++ codes " " ++ decimal edge.position
-        ++ name_behind naming n) names
+  pub same_kinds : (edges : List Edge) → AllByRecursion (IsEdge ids facts) edges
+      → map (edge_kind found one) edges ≡ map (edge_kind found other) edges
+  same_kinds edges all = kinds_same found found one other edges (same_edges edges all)
 
-    same_kind : (naming : Naming) → step_kind naming one edge ≡ step_kind naming other edge
-    unfolding step_kind
-    same_kind naming =
-        ap (λ (w : Bool). weak_word w ++ via_word edge.via ++ name_behind naming (one.name edge)) weak
-        ∙ ap (λ (n : Option ℕ). weak_word (other.is_weak edge) ++ via_word edge.via ++ name_behind naming n) names
-
-  module _ (found : Findings) where
-    pub same_lines : (edges : List Edge) → AllByRecursion (IsEdge ids facts) edges
-        → flat_map (edge_line found one) edges ≡ flat_map (edge_line found other) edges
-    same_lines [] all = refl
-    same_lines (edge ∷ edges) all =
-        ap (λ (step : List ℕ). (node_text found edge.from ++ codes " " ++ step ++ codes "\n") ++ flat_map (edge_line found one) edges)
-        (same_text edge all.0 found.naming)
-        ∙ ap (λ (lines : List ℕ). edge_line found other edge ++ lines) (same_lines edges all.1)
-
-    pub same_kinds : (edges : List Edge) → AllByRecursion (IsEdge ids facts) edges
-        → map (edge_kind found one) edges ≡ map (edge_kind found other) edges
-    same_kinds [] all = refl
-    same_kinds (edge ∷ edges) all =
-        ap (λ (step : List ℕ). (kind_text found edge.from ++ codes " " ++ step) ∷ map (edge_kind found one) edges)
-        (same_kind edge all.0 found.naming)
-        ∙ ap (λ (kinds : List (List ℕ)). edge_kind found other edge ∷ kinds) (same_kinds edges all.1)
-
-    pub same_who : (threads : ThreadFindings) (id : ℕ) (roots : List Root) (edges : List Edge) (sums : List SumValue)
-        → AllByRecursion (IsEdge ids facts) edges
-        → who_text found threads one id roots edges sums ≡ who_text found threads other id roots edges sums
-    unfolding referred_text
-    same_who threads id [] [] sums all = refl
-    same_who threads id (root ∷ roots) edges sums all =
-        ap (λ (lines : List ℕ). roots_text found threads (root ∷ roots) ++ sums_text edges sums ++ lines) (same_lines edges all)
-    same_who threads id [] (edge ∷ edges) sums all =
-        ap (λ (lines : List ℕ). roots_text found threads [] ++ sums_text (edge ∷ edges) sums ++ lines) (same_lines (edge ∷ edges) all)
+  pub same_who : (threads : ThreadFindings) (id : ℕ) (roots : List Root) (edges : List Edge) (sums : List SumValue)
+      → AllByRecursion (IsEdge ids facts) edges
+      → who_text found threads one id roots edges sums ≡ who_text found threads other id roots edges sums
+  same_who threads id roots edges sums all =
+      who_same found found one other threads id sums roots edges refl (same_edges edges all) refl
 
 -- ---- the parts
 

@@ -22,7 +22,7 @@ use Rattle.hprof_holders.specs.ThreadFindings.{AreThreadFindings, ThreadFindings
 module _ (ids : IdSize) (facts all : List FactValue) (whole : IsWhole ids facts all) where
   -- ---- one by one
 
-  root_there : (root : Root) → Has all (Rooted root) ↔ Has facts (Rooted root)
+  pub root_there : (root : Root) → Has all (Rooted root) ↔ Has facts (Rooted root)
   root_there root = has_same ids facts all whole tables.Roots (λ e. cc) (Rooted root) refl
 
   started_there : (serial object : ℕ) → IsStarted all serial object → IsStarted facts serial object

@@ -10,4 +10,5 @@ pub mod ThreadFindings
 pub mod ThreadObjects
 pub mod ThreadsText
 pub mod Views
+pub mod WhoObjects
 pub mod WhoText

@@ -7,6 +7,7 @@ ghost use Rattle.hprof_rows.specs.Conflict.{IsConsistent};
 ghost use Rattle.hprof_small.specs.Small.{IsSmall};
 ghost use Rattle.hprof_holders.specs.ThreadObjects.{HasAllThreadWords};
 ghost use Rattle.hprof_holders.specs.ThreadsText.{IsThreadsText};
+ghost use Rattle.hprof_holders.specs.WhoObjects.{HasWhoWords};
 ghost use Rattle.hprof_holders.specs.WhoText.{IsWhoText};
 
 /// If facts agree, the report `threads` has exactly one text.
@@ -28,4 +29,11 @@ pub fn one_who_text()
     ensures exists { (ids : IdSize) (facts : List FactValue) (id : ℕ) → IsConsistent facts → (text : List ℕ) × IsWhoText ids facts id text }
     ensures once { (ids : IdSize) (facts : List FactValue) (id : ℕ) (one other : List ℕ) → IsWhoText ids facts id one
         → IsWhoText ids facts id other → one ≡ other }
+{}
+
+/// The report `who` on an identifier depends on few objects: the object itself, those that refer to it, those of the threads of its roots, and
+/// those that the words for them are read from. A heap that has of all objects only some, and these among them, has the same report.
+pub fn who_depends_on_few_objects()
+    ensures { (ids : IdSize) (wanted : List ℕ) (all small : List FactValue) (id : ℕ) (text : List ℕ) → IsConsistent all
+        → IsSmall ids wanted all small → HasWhoWords ids all wanted id → IsWhoText ids small id text → IsWhoText ids all id text }
 {}

@@ -14,11 +14,15 @@ mod thread_objects;
 mod threads_over;
 mod threads_report;
 mod view;
+mod who_objects;
+mod who_over;
 mod who_report;
 
 pub use root_lines::write_roots;
 pub use steps::{Step, step_kind, step_of, step_text};
 pub use threads_over::write_threads_over;
 pub use threads_report::write_threads;
-pub use view::HeapView;
+pub use view::{HeapTables, HeapView};
+pub use who_objects::push_root_threads;
+pub use who_over::write_who_over;
 pub use who_report::write_who;

@@ -108,7 +108,16 @@ module _ (ids : IdSize) (facts all : List FactValue) (whole : IsWhole ids facts 
     load : (serial trace name : ℕ) → Has all (Load serial class trace name) ↔ Has facts (Load serial class trace name)
     load serial trace name = has_same ids facts all whole tables.Loads (λ e. cc) (Load serial class trace name) refl
 
-  -- the classes that have weak fields are the same
+  -- the weak fields are the same
+  pub weak_field_same : (field : FieldPlace) → IsWeakField all field ↔ IsWeakField facts field
+  weak_field_same field = (
+    field_stays all facts (λ dump. (dumps_same dump).0) (λ name word. (names_same name word).0)
+        (λ class word. (called_same class word).0) field,
+    field_stays facts all (λ dump. (dumps_same dump).1) (λ name word. (names_same name word).1)
+        (λ class word. (called_same class word).1) field,
+  )
+
+  -- and so are the classes that have some
   pub classes_of_whole : (classes : WeakClasses) → AreWeakClasses facts classes → AreWeakClasses all classes
   classes_of_whole classes are = record {
     right = λ class first e.
@@ -116,7 +125,5 @@ module _ (ids : IdSize) (facts all : List FactValue) (whole : IsWhole ids facts 
         (λ class word. (called_same class word).1)
         (referent_stays all facts (λ dump. (dumps_same dump).0) (λ name word. (names_same name word).0)
         (λ class word. (called_same class word).0)) (nexts_in classes.links) class first (are.right class first e);
-    all = λ field weak.
-        are.all field (field_stays all facts (λ dump. (dumps_same dump).0) (λ name word. (names_same name word).0)
-        (λ class word. (called_same class word).0) field weak);
+    all = λ field weak. are.all field ((weak_field_same field).0 weak);
   }
