@@ -1,4 +1,3 @@
-pub mod Found
 pub mod Numbering
 pub mod Labelled
 pub mod OneLabel
