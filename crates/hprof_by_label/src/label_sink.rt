@@ -7,7 +7,7 @@ ghost use Rattle.hprof_by_label.specs.Sound.{IsSound};
 use crate::kinds::{Kind, kind_of};
 use crate::labelling::Labelling;
 use crate::node_labels::NodeLabels;
-use hprof_heap::{Heap, ObjectDump, to_object_dump};
+use hprof_heap::{Heap, to_object_dump};
 use hprof_items::Fact;
 use hprof_naming::ClassNames;
 use hprof_passes::ObjectSink;
@@ -56,10 +56,7 @@ impl<'a> LabelSink<'a> {
         ensures so_far { IfOk result (λ sink. AreClassNames (facts_of heap.now) names.now → (ids : IdSize) → IsSoFar ids [] sink) }
     {
         let mut labelling = Labelling::new(alloc);
-        let number = labelling.number_of_kind(alloc, heap, names, Kind::ClassDump)?;
-        let Ok(label) = u32::try_from(number) else {
-            return Err(AllocError);
-        };
+        let label = labelling.label_of_kind(alloc, heap, names, Kind::ClassDump)?;
         let of_places = vec![in alloc; label; retained.len()]?;
         let sizes = vec![in alloc; 0; retained.len()]?;
         Ok(LabelSink {
@@ -74,21 +71,10 @@ impl<'a> LabelSink<'a> {
         })
     }
 
-    /// Returns the number of the label of an object. If memory runs out, or there are more than 2^32 labels, the answer is `AllocError` and
-    /// the labels are unspecified.
-    fn label_of(&mut self, dump: &ObjectDump<'_>) -> Result<u32, AllocError> {
-        let kind = kind_of(dump);
-        let number = self
-            .labelling
-            .number_of_kind(self.alloc, self.heap, self.names, kind)?;
-        match u32::try_from(number) {
-            Ok(label) => Ok(label),
-            Err(_) => Err(AllocError),
-        }
-    }
-
-    /// Returns the labels and sizes, after the last object. If one was refused, the answer is `AllocError`.
-    pub(crate) fn finish(self) -> Result<NodeLabels, AllocError>
+    /// Returns the labels and sizes, after the last object. If one was refused, or there are not `places` places, the answer is
+    /// `AllocError`.
+    pub(crate) fn finish(self, places: usize) -> Result<NodeLabels, AllocError>
+        ensures as_many { IfOk result (λ labels. place_count labels ≡ places) }
         ensures texts { IfOk result (λ labels. labels.texts ≡ self.entry.labelling.texts.texts) }
         ensures of_places { IfOk result (λ labels. labels.of_places ≡ self.entry.of_places) }
         ensures sizes { IfOk result (λ labels. labels.sizes ≡ self.entry.sizes) }
@@ -100,7 +86,7 @@ impl<'a> LabelSink<'a> {
             failed,
             ..
         } = self;
-        if failed {
+        if failed || of_places.len() != places {
             return Err(AllocError);
         }
         Ok(NodeLabels {
@@ -139,7 +125,9 @@ impl ObjectSink for LabelSink<'_> {
             return Err(AllocError);
         }
         self.failed = true;
-        let label = self.label_of(&dump)?;
+        let label =
+            self.labelling
+                .label_of_kind(self.alloc, self.heap, self.names, kind_of(&dump))?;
         self.of_places[place] = label;
         self.sizes[place] = bytes_of_dump(&dump, ids);
         self.failed = false;

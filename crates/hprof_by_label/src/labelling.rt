@@ -60,4 +60,27 @@ impl Labelling {
         self.kinds.put(kind, number)?;
         Ok(number)
     }
+
+    /// Returns the number of a kind's label in 32 bits. If memory runs out, or there are more than 2^32 labels, the answer is `AllocError`
+    /// and the labels are unspecified.
+    pub(crate) fn label_of_kind(
+        &mut self,
+        alloc: Global,
+        heap: &Heap,
+        names: &ClassNames,
+        kind: Kind,
+    ) -> Result<u32, AllocError>
+        requires sound { IsSound self.old }
+        ensures sound { OnOk result (IsSound self.new) }
+        ensures labelling { AreClassNames (facts_of heap.now) names.now → IsLabelling (facts_of heap.now) self.old
+            → IfOk result (λ label. IsLabelling (facts_of heap.now) self.new × IsNumberOfKind (facts_of heap.now) self.new kind label) }
+        ensures within { IfOk result (λ label. label < length self.new.texts.texts.items) }
+        ensures stays { OnOk result (StaysIn self.old.texts.texts.items self.new.texts.texts.items) }
+    {
+        let number = self.number_of_kind(alloc, heap, names, kind)?;
+        match u32::try_from(number) {
+            Ok(label) => Ok(label),
+            Err(_) => Err(AllocError),
+        }
+    }
 }

@@ -48,7 +48,7 @@ pub fn labels_over<O: Objects>(
         Ok(()) => {}
         Err(stop) => return Err(stop),
     }
-    match sink.finish() {
+    match sink.finish(retained.len()) {
         Ok(labels) => Ok(labels),
         Err(fault) => Err(PassStop::Sink(fault)),
     }
