@@ -1,6 +1,6 @@
 -- Places that have the labels and the sizes of their nodes, object by object.
 use Rattle.std.specs.Prelude.{replicate, vec_len}
-use Rattle.std.proofs.Common.{◌≡◌, ◌≢◌, ◌<◌, ◌∙◌, ℕ, List, [], ◌∷◌, ◌++◌, Option, Some, None, length, refl, sym, ap, subst, arith}
+use Rattle.std.proofs.Common.{◌≡◌, ◌<◌, ◌∙◌, ℕ, List, [], ◌∷◌, ◌++◌, Option, Some, None, length, sym, ap, subst, arith}
 use Rattle.std.proofs.Common.{append_assoc, slice_index, slice_set}
 use Rattle.std.proofs.lemmas.List.{append-nil, get_or-replicate, get_or-set_other, get_or-set_same}
 use Rattle.hprof_values.specs.declared.ids.IdSize.{IdSize}
@@ -22,12 +22,10 @@ use Rattle.hprof_retained.specs.Retained.{size_of_found}
 use Rattle.hprof_retained.specs.Tree.{count_of, node_at}
 use Rattle.hprof_retained.specs.declared.retained.Retained.{Retained}
 use Rattle.hprof_retained.proofs.SizedNodes.{all_now, all_still, found_of_all, node_of, place_in, places_apart, size_put}
-use Rattle.hprof_by_label.specs.Kinds.{IsKindLabel}
 use Rattle.hprof_by_label.specs.Labels.{AreNodeLabels, HaveSizes, label_at, label_count, label_text}
-use Rattle.hprof_by_label.specs.Labelling.{AreLabelled, IsLabelling, IsNumberOfFound, IsNumberOfKind, IsSoFar, TakesLabel}
+use Rattle.hprof_by_label.specs.Labelling.{AreLabelled, IsNumberOfFound, IsSoFar, TakesLabel}
 use Rattle.hprof_by_label.specs.NodeLabel.{IsFoundLabel, IsNodeLabel, IsObjectLabel}
-use Rattle.hprof_by_label.specs.Texts.{IsTextIn, StaysIn, text_in}
-use Rattle.hprof_by_label.specs.declared.kinds.Kind.{Kind}
+use Rattle.hprof_by_label.specs.Texts.{IsTextIn, StaysIn}
 use Rattle.hprof_by_label.specs.declared.label_sink.LabelSink.{LabelSink}
 use Rattle.hprof_by_label.specs.declared.labelling.Labelling.{Labelling}
 use Rattle.hprof_by_label.specs.declared.node_labels.NodeLabels.{NodeLabels}

@@ -1,5 +1,5 @@
 -- How far the labels of nodes have come; no public contract speaks of it.
-use Rattle.std.specs.Prelude.{◌≡◌, ◌<◌, ℕ, List, [], ◌∷◌, ◌++◌, Option, All, length, slice_index, vec_len}
+use Rattle.std.specs.Prelude.{◌≡◌, ◌<◌, ℕ, List, [], ◌∷◌, ◌++◌, Option, length, slice_index}
 use Rattle.hprof_values.specs.declared.ids.IdSize.{IdSize}
 use Rattle.hprof_items.specs.FactValue.{FactValue}
 use Rattle.hprof_heap.specs.Found.{IsObjectFound}
@@ -11,7 +11,7 @@ use Rattle.hprof_retained.specs.Retained.{IsSizeOf}
 use Rattle.hprof_retained.specs.declared.retained.Retained.{Retained}
 use Rattle.hprof_by_label.specs.Kinds.{IsKept, IsKindLabel}
 use Rattle.hprof_by_label.specs.NodeLabel.{IsFoundLabel}
-use Rattle.hprof_by_label.specs.Texts.{AreNumbered, IsTextIn}
+use Rattle.hprof_by_label.specs.Texts.{IsTextIn}
 use Rattle.hprof_by_label.specs.declared.kinds.Kind.{Kind}
 use Rattle.hprof_by_label.specs.declared.labelling.Labelling.{Labelling}
 use Rattle.hprof_by_label.specs.declared.label_sink.LabelSink.{LabelSink}

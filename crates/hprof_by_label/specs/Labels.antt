@@ -1,13 +1,12 @@
 -- The labels of the nodes of a tree of dominators, by numbers, and their sizes.
-use Rattle.std.specs.Prelude.{◌≡◌, ◌<◌, ℕ, List, String, length, slice_index, vec_len}
-use Rattle.std.proofs.Props.{props}
+use Rattle.std.specs.Prelude.{◌≡◌, ◌<◌, ℕ, List, length, slice_index, vec_len}
 use Rattle.hprof_values.specs.declared.ids.IdSize.{IdSize}
 use Rattle.hprof_items.specs.FactValue.{FactValue}
 use Rattle.hprof_retained.specs.Retained.{IsSizeOf}
 use Rattle.hprof_retained.specs.Tree.{count_of, node_at}
 use Rattle.hprof_retained.specs.declared.retained.Retained.{Retained}
 use Rattle.hprof_by_label.specs.NodeLabel.{IsNodeLabel}
-use Rattle.hprof_by_label.specs.Texts.{AreApart, text_in}
+use Rattle.hprof_by_label.specs.Texts.{text_in}
 use Rattle.hprof_by_label.specs.declared.node_labels.NodeLabels.{NodeLabels}
 
 -- how many labels there are

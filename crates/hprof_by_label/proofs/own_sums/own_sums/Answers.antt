@@ -1,7 +1,6 @@
-use Rattle.std.proofs.Common.{◌≡◌, ◌<◌, ◌∙◌, ◌+◌, ℕ, Global, Vec, ap, length, rules, replicate, sym, subst, subst₂, arith, slice_index}
+use Rattle.std.proofs.Common.{◌≡◌, ◌<◌, ◌∙◌, ◌+◌, ℕ, Global, Vec, ap, length, rules, replicate, sym, subst₂, arith, slice_index}
 use Rattle.std.proofs.Common.{slice_set}
 use Rattle.std.proofs.lemmas.Grind.{get_or_default_zero}
-use Rattle.std.proofs.lemmas.List.{length-replicate}
 use Rattle.hprof_numbers.specs.Numbered.{nodes_in}
 use Rattle.hprof_numbers.specs.declared.numbered.Numbered.{Numbered}
 use Rattle.hprof_retained.specs.Retained.{IsSizeOf}

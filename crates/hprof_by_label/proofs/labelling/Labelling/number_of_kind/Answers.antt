@@ -1,4 +1,4 @@
-use Rattle.std.proofs.Common.{◌≡◌, ◌<◌, ℕ, length, refl, string_bytes, sym, subst, subst₂, inl, inr}
+use Rattle.std.proofs.Common.{◌<◌, ℕ, length, refl, string_bytes, sym, subst, subst₂, inl, inr}
 use Rattle.hprof_heap.specs.HeapFacts.{facts_of}
 use Rattle.hprof_by_label.specs.Labelling.{IsNumberOfKind}
 use Rattle.hprof_by_label.specs.declared.kinds.Kind.{Kind}
