@@ -80,7 +80,8 @@ module _ (ids : IdSize) (facts objects : List FactValue) (object : FactValue) (i
         (λ number found. IsNumberOfFound facts old (slice_index of_places (place_in retained number)) found) so.labels at low at_is
         (λ number found. IsNumberOfFound facts new
         (slice_index (slice_set of_places (place_in retained at) label) (place_in retained number)) found)
-        (subst (λ n. IsNumberOfFound facts new n (Some object)) (sym (get_or-set_same of_places (place_in retained at) label 0 within)) here)
+        (subst (λ n. IsNumberOfFound facts new n (Some object))
+        (sym (get_or-set_same of_places (place_in retained at) label 0 within)) here)
         (λ number placed_too other found was.
         subst (λ n. IsNumberOfFound facts new n found)
         (sym (get_or-set_other of_places (place_in retained at) (place_in retained number) label 0

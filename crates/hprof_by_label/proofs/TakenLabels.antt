@@ -1,7 +1,7 @@
 -- What a sink does to the labels of places that takes an object.
 use Rattle.std.specs.Prelude.{slice_set, vec_len}
-use Rattle.std.proofs.Common.{◌≡◌, ◌<◌, ◌∙◌, ℕ, List, [], ◌∷◌, ◌++◌, Global, Some, None, String, Vec, length, refl, sym, ap, subst, subst₂, arith}
-use Rattle.std.proofs.Common.{slice_index}
+use Rattle.std.proofs.Common.{◌≡◌, ◌<◌, ◌∙◌, ℕ, List, [], ◌∷◌, ◌++◌, Global, Some, None, String, Vec, length, refl, sym, ap, subst}
+use Rattle.std.proofs.Common.{subst₂, arith, slice_index}
 use Rattle.std.specs.BTreeMap.{get_by_text}
 use Rattle.std.specs.List.{All}
 use Rattle.std.proofs.lemmas.List.Elements.{All-set, All-weaker}
@@ -70,7 +70,7 @@ module _ (ids : IdSize) (object : FactValue) (sink : LabelSink) where
   pub takes_none : ((id : ℕ) → IsObject id object → ⊥) → TakesLabel ids object sink sink
   takes_none none = stays (λ objects so. record {
     labels = λ number low placed. found_still objects object (node_of retained number)
-        (λ found. IsNumberOfFound (facts_of sink.heap.now) sink.labelling (slice_index sink.of_places.items (place_in retained number)) found)
+        (IsNumberOfFound (facts_of sink.heap.now) sink.labelling (slice_index sink.of_places.items (place_in retained number)))
         (none (node_of retained number)) (so.labels number low placed);
     sizes = λ number low placed. found_still objects object (node_of retained number)
         (λ found. slice_index sink.sizes.items (place_in retained number) ≡ size_of_found ids found)
@@ -81,7 +81,8 @@ module _ (ids : IdSize) (object : FactValue) (sink : LabelSink) where
     takes_other : ((number : ℕ) → number < length (nodes_in retained.nodes) → 0 < place_in retained number
         → id ≡ node_of retained number → ⊥) → TakesLabel ids object sink sink
     takes_other apart = stays (λ objects so.
-        labelled_still ids (facts_of sink.heap.now) objects object id is retained sink.labelling sink.of_places.items sink.sizes.items so apart)
+        labelled_still ids (facts_of sink.heap.now) objects object id is retained sink.labelling sink.of_places.items sink.sizes.items so
+        apart)
 
     -- it is that of no node
     pub takes_no_node : number_in (nodes_in retained.nodes) id ≡ None → TakesLabel ids object sink sink

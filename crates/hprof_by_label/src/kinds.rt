@@ -30,7 +30,8 @@ pub(crate) enum Kind {
 /// Returns the kind of a node that has an object.
 #[inline(always)]
 pub(crate) fn kind_of(object: &ObjectDump<'_>) -> Kind
-    ensures { (facts : List FactValue) (text : List ℕ) → IsKindLabel facts result text → IsObjectLabel facts (fact_of_object object.now) text }
+    ensures { (facts : List FactValue) (text : List ℕ) → IsKindLabel facts result text
+        → IsObjectLabel facts (fact_of_object object.now) text }
 {
     match *object {
         ObjectDump::Instance { class, .. } => Kind::Class(class),

@@ -125,9 +125,9 @@ impl ObjectSink for LabelSink<'_> {
             return Err(AllocError);
         }
         self.failed = true;
-        let label =
-            self.labelling
-                .label_of_kind(self.alloc, self.heap, self.names, kind_of(&dump))?;
+        let label = self
+            .labelling
+            .label_of_kind(self.alloc, self.heap, self.names, kind_of(&dump))?;
         self.of_places[place] = label;
         self.sizes[place] = bytes_of_dump(&dump, ids);
         self.failed = false;

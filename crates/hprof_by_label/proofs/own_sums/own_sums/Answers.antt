@@ -6,7 +6,8 @@ use Rattle.hprof_numbers.specs.declared.numbered.Numbered.{Numbered}
 use Rattle.hprof_retained.specs.Retained.{IsSizeOf}
 use Rattle.hprof_by_label.specs.Labels.{label_at, label_count, size_at}
 use Rattle.hprof_by_label.proofs.Labelled.{numbered_place, numbered_place_node}
-use Rattle.hprof_by_label.proofs.OwnSoFar.{AreCountedTo, AreOwnTo, counted_begin, counted_more, counted_none, own_begin, own_end, own_more, own_more_none}
+use Rattle.hprof_by_label.proofs.OwnSoFar.{AreCountedTo, AreOwnTo, counted_begin, counted_more, counted_none, own_begin, own_end}
+use Rattle.hprof_by_label.proofs.OwnSoFar.{own_more, own_more_none}
 use Rattle.hprof_by_label.proofs.own_sums.own_sums.Goals as goal
 use Rattle.hprof_by_label.proofs.own_sums.own_sums.Goals.{then-place-ne0, else-place-ne0}
 

@@ -21,7 +21,8 @@ returns-in_default-clause-takes c =
       sized = λ objects sized number low placed.
           let node = slice_index (nodes_in retained.nodes) number in
           found_still objects object node
-          (λ found. slice_index retained.bytes.items (place_of retained.tree number) ≡ size_of_found c.args.ids found) (λ of. c.in_default.ensures.none node of) (sized number low placed);
+          (λ found. slice_index retained.bytes.items (place_of retained.tree number) ≡ size_of_found c.args.ids found)
+          (λ of. c.in_default.ensures.none node of) (sized number low placed);
     }
 
 pub returns-in_default-number_of-clause-takes : goal.returns-in_default-number_of-clause-takes
@@ -33,7 +34,8 @@ returns-in_default-number_of-clause-takes c =
     record {
       same = λ graph over. over;
       sized = λ objects sized. all_still retained objects object c.id_of.result is
-          (λ number found. slice_index retained.bytes.items (place_of retained.tree number) ≡ size_of_found c.args.ids found) sized (λ number low placed same.
+          (λ number found. slice_index retained.bytes.items (place_of retained.tree number) ≡ size_of_found c.args.ids found) sized
+          (λ number low placed same.
           let found = has_place nodes (slice_index nodes number) retained.nodes.ascend number low refl in
           let clash : None ≡ Some number =
           sym c.in_default-number_of.is ∙ c.number_of.ensures ∙ ap (number_in nodes) same ∙ found in
@@ -50,7 +52,8 @@ returns-then-place-eq0-clause-takes c =
     record {
       same = λ graph over. over;
       sized = λ objects sized. all_still retained objects object c.id_of.result is
-          (λ number found. slice_index retained.bytes.items (place_of retained.tree number) ≡ size_of_found c.args.ids found) sized (λ number low placed same.
+          (λ number found. slice_index retained.bytes.items (place_of retained.tree number) ≡ size_of_found c.args.ids found) sized
+          (λ number low placed same.
           let e = one_place nodes retained.nodes.ascend number c.in-Some-number_of.number low found.0 (sym same ∙ sym found.1) in
           omega (arith, placed, ap (place_of retained.tree) e, c.place_of-place.ensures, c.if-place-eq0.true));
     }
