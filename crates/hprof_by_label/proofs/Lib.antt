@@ -1,6 +1,6 @@
-pub mod Found
 pub mod Numbering
 pub mod Labelled
+pub mod TakenLabels
 pub mod OneLabel
 pub mod Joined
 pub mod OwnSoFar

@@ -20,7 +20,7 @@ use Rattle.hprof_by_label.specs.Labels.{AreNodeLabels, label_at, label_count, la
 use Rattle.hprof_by_label.specs.NodeLabel.{IsNodeLabel}
 use Rattle.hprof_by_label.specs.RowValues.{AreRowsTo, row_at, same_label}
 use Rattle.hprof_by_label.specs.Sums.{AreOwnSums, AreRetainedSums}
-use Rattle.hprof_by_label.specs.declared.labels.NodeLabels.{NodeLabels}
+use Rattle.hprof_by_label.specs.declared.node_labels.NodeLabels.{NodeLabels}
 use Rattle.hprof_by_label.proofs.OneLabel.{one_node_label}
 
 -- one more that differs from all

@@ -3,6 +3,7 @@ pub mod LabelRows
 pub mod RetainedText
 pub mod Texts
 pub mod Kinds
+pub mod Sound
 pub mod Labelling
 pub mod Labels
 pub mod Sums

@@ -3,7 +3,7 @@ use Rattle.std.specs.Prelude.{◌≡◌, ◌<◌, ℕ, List, Bool, Contains, byt
 use Rattle.std.specs.List.{IsDistinct}
 use Rattle.hprof_by_label.specs.LabelRows.{RowValue}
 use Rattle.hprof_by_label.specs.Labels.{label_text}
-use Rattle.hprof_by_label.specs.declared.labels.NodeLabels.{NodeLabels}
+use Rattle.hprof_by_label.specs.declared.node_labels.NodeLabels.{NodeLabels}
 use Rattle.hprof_by_label.specs.declared.row.Row.{Row}
 
 -- what a row says

@@ -16,6 +16,10 @@ IsTextIn texts number text = (number < length texts) × (text_in texts number �
 abbrev pub StaysIn : {A : Type 0} → List (String A) → List (String A) → Type 0
 StaysIn old new = (number : ℕ) (text : List ℕ) → IsTextIn old number text → IsTextIn new number text
 
+-- no two numbers have one label
+abbrev pub AreApart : {A : Type 0} → List (String A) → Type 0
+AreApart texts = (one other : ℕ) → one < length texts → other < length texts → text_in texts one ≡ text_in texts other → one ≡ other
+
 -- each label is found at its number
 pub record AreNumbered (texts : Texts) : Type 0 where
   pub found : (number : ℕ) → number < length texts.texts.items → get_by_text texts.numbers (text_in texts.texts.items number) ≡ Some number

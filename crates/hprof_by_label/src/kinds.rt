@@ -1,14 +1,16 @@
 //! What the label of a node comes from.
 
 ghost use Rattle.std.specs.Prelude.{◌≡◌, ◌++◌, ◌⊎◌, ℕ, List, IfOk, IfSome, OnOk, codes, string_bytes};
+ghost use Rattle.hprof_items.specs.FactValue.{FactValue};
 ghost use Rattle.hprof_heap.specs.HeapFacts.{facts_of};
+ghost use Rattle.hprof_heap.specs.ObjectDump.{fact_of_object};
 ghost use Rattle.hprof_naming.specs.ClassNames.{AreClassNames};
 ghost use Rattle.hprof_naming.specs.TypeWord.{type_word};
 ghost use Rattle.hprof_by_label.specs.declared.kinds.Kind.{Kind};
 ghost use Rattle.hprof_by_label.specs.Kinds.{IsKindLabel};
-ghost use Rattle.hprof_by_label.specs.NodeLabel.{IsNodeLabel};
+ghost use Rattle.hprof_by_label.specs.NodeLabel.{IsObjectLabel};
 
-use hprof_heap::{Finger, Heap, ObjectDump, find_object_near};
+use hprof_heap::{Heap, ObjectDump};
 use hprof_meaning::{array_label, bare_label};
 use hprof_naming::ClassNames;
 use hprof_values::Basic;
@@ -25,15 +27,16 @@ pub(crate) enum Kind {
     ClassDump,
 }
 
-/// Returns the kind of a node. `near` is where the last object was found; it affects only speed.
-pub(crate) fn kind_of(heap: &Heap, node: u64, near: &mut Finger) -> Kind
-    ensures { (text : List ℕ) → IsKindLabel (facts_of heap.now) result text → IsNodeLabel (facts_of heap.now) node text }
+/// Returns the kind of a node that has an object.
+#[inline(always)]
+pub(crate) fn kind_of(object: &ObjectDump<'_>) -> Kind
+    ensures { (facts : List FactValue) (text : List ℕ) → IsKindLabel facts result text
+        → IsObjectLabel facts (fact_of_object object.now) text }
 {
-    match find_object_near(heap, node, near) {
-        Some(ObjectDump::Instance { class, .. }) => Kind::Class(class),
-        Some(ObjectDump::ObjArray { class, .. }) => Kind::Class(class),
-        Some(ObjectDump::PrimArray { elem, .. }) => Kind::Prim(elem),
-        None => Kind::ClassDump,
+    match *object {
+        ObjectDump::Instance { class, .. } => Kind::Class(class),
+        ObjectDump::ObjArray { class, .. } => Kind::Class(class),
+        ObjectDump::PrimArray { elem, .. } => Kind::Prim(elem),
     }
 }
 
@@ -44,8 +47,7 @@ pub(crate) fn kind_label(
     names: &ClassNames,
     kind: Kind,
 ) -> Result<String, AllocError>
-    requires { AreClassNames (facts_of heap.now) names.now }
-    ensures { IfOk result (λ text. IsKindLabel (facts_of heap.now) kind (string_bytes text)) }
+    ensures { AreClassNames (facts_of heap.now) names.now → IfOk result (λ text. IsKindLabel (facts_of heap.now) kind (string_bytes text)) }
 {
     match kind {
         Kind::Class(class) => bare_label(alloc, heap, names.name_of(class)),

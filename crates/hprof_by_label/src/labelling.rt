@@ -1,9 +1,9 @@
 //! Labelling nodes one after the other.
 
 use crate::kind_numbers::KindNumbers;
-use crate::kinds::{Kind, kind_label, kind_of};
+use crate::kinds::{Kind, kind_label};
 use crate::texts::Texts;
-use hprof_heap::{Finger, Heap};
+use hprof_heap::Heap;
 use hprof_naming::ClassNames;
 use std::alloc::{AllocError, Global};
 
@@ -17,17 +17,18 @@ pub(crate) struct Labelling {
 }
 
 impl Labelling {
-    ghost use Rattle.std.specs.Prelude.{◌≡◌, ◌≤◌, ◌+◌, ℕ, List, [], IfOk, OnOk, length};
+    ghost use Rattle.std.specs.Prelude.{◌≡◌, ◌<◌, List, [], IfOk, OnOk, length};
     ghost use Rattle.hprof_heap.specs.HeapFacts.{facts_of};
     ghost use Rattle.hprof_items.specs.FactValue.{FactValue};
     ghost use Rattle.hprof_naming.specs.ClassNames.{AreClassNames};
-    ghost use Rattle.hprof_by_label.specs.Kinds.{IsKindLabel};
-    ghost use Rattle.hprof_by_label.specs.Labelling.{IsLabelling, IsNumberOf};
-    ghost use Rattle.hprof_by_label.specs.Texts.{IsTextIn, StaysIn};
+    ghost use Rattle.hprof_by_label.specs.Labelling.{IsLabelling, IsNumberOfKind};
+    ghost use Rattle.hprof_by_label.specs.Sound.{IsSound};
+    ghost use Rattle.hprof_by_label.specs.Texts.{StaysIn};
 
     /// Returns no labels. Allocates nothing.
     pub(crate) fn new(alloc: Global) -> Labelling
         ensures none { result.texts.texts.items ≡ [] }
+        ensures sound { IsSound result }
         ensures labelling { (facts : List FactValue) → IsLabelling facts result }
     {
         Labelling {
@@ -37,20 +38,19 @@ impl Labelling {
     }
 
     /// Returns the number of a kind's label. If memory runs out, the answer is `AllocError` and the labels are unspecified.
-    fn number_of_kind(
+    pub(crate) fn number_of_kind(
         &mut self,
         alloc: Global,
         heap: &Heap,
         names: &ClassNames,
         kind: Kind,
     ) -> Result<usize, AllocError>
-        requires names { AreClassNames (facts_of heap.now) names.now }
-        requires labelling { IsLabelling (facts_of heap.now) self.old }
-        ensures labelling { OnOk result (IsLabelling (facts_of heap.now) self.new) }
-        ensures number { IfOk result (λ number. (text : List ℕ) × IsKindLabel (facts_of heap.now) kind text
-            × IsTextIn self.new.texts.texts.items number text) }
+        requires sound { IsSound self.old }
+        ensures sound { OnOk result (IsSound self.new) }
+        ensures labelling { AreClassNames (facts_of heap.now) names.now → IsLabelling (facts_of heap.now) self.old
+            → IfOk result (λ number. IsLabelling (facts_of heap.now) self.new × IsNumberOfKind (facts_of heap.now) self.new kind number) }
+        ensures within { IfOk result (λ number. number < length self.new.texts.texts.items) }
         ensures stays { OnOk result (StaysIn self.old.texts.texts.items self.new.texts.texts.items) }
-        ensures few { OnOk result (length self.new.texts.texts.items ≤ length self.old.texts.texts.items + 1) }
     {
         if let Some(number) = self.kinds.number_of(kind) {
             return Ok(number);
@@ -61,24 +61,26 @@ impl Labelling {
         Ok(number)
     }
 
-    /// Returns the number of a node's label. `near` is where the last object was found; it affects only speed. If memory runs out, the
-    /// answer is `AllocError` and the labels are unspecified.
-    pub(crate) fn number_of(
+    /// Returns the number of a kind's label in 32 bits. If memory runs out, or there are more than 2^32 labels, the answer is `AllocError`
+    /// and the labels are unspecified.
+    pub(crate) fn label_of_kind(
         &mut self,
         alloc: Global,
         heap: &Heap,
         names: &ClassNames,
-        node: u64,
-        near: &mut Finger,
-    ) -> Result<usize, AllocError>
-        requires names { AreClassNames (facts_of heap.now) names.now }
-        requires labelling { IsLabelling (facts_of heap.now) self.old }
-        ensures labelling { OnOk result (IsLabelling (facts_of heap.now) self.new) }
-        ensures number { IfOk result (IsNumberOf (facts_of heap.now) self.new node) }
+        kind: Kind,
+    ) -> Result<u32, AllocError>
+        requires sound { IsSound self.old }
+        ensures sound { OnOk result (IsSound self.new) }
+        ensures labelling { AreClassNames (facts_of heap.now) names.now → IsLabelling (facts_of heap.now) self.old
+            → IfOk result (λ label. IsLabelling (facts_of heap.now) self.new × IsNumberOfKind (facts_of heap.now) self.new kind label) }
+        ensures within { IfOk result (λ label. label < length self.new.texts.texts.items) }
         ensures stays { OnOk result (StaysIn self.old.texts.texts.items self.new.texts.texts.items) }
-        ensures few { OnOk result (length self.new.texts.texts.items ≤ length self.old.texts.texts.items + 1) }
     {
-        let kind = kind_of(heap, node, near);
-        self.number_of_kind(alloc, heap, names, kind)
+        let number = self.number_of_kind(alloc, heap, names, kind)?;
+        match u32::try_from(number) {
+            Ok(label) => Ok(label),
+            Err(_) => Err(AllocError),
+        }
     }
 }

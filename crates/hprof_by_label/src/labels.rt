@@ -1,84 +1,74 @@
 //! The labels of the nodes of a tree of dominators.
 
-ghost use Rattle.std.specs.Prelude.{IfOk};
+ghost use Rattle.std.specs.Prelude.{◌≡◌, IfOk};
 ghost use Rattle.hprof_heap.specs.HeapFacts.{facts_of, size_of};
 ghost use Rattle.hprof_naming.specs.ClassNames.{AreClassNames};
-ghost use Rattle.hprof_retained.specs.Tree.{IsTreeOf};
-ghost use Rattle.hprof_by_label.specs.Labels.{AreNodeLabels};
+ghost use Rattle.hprof_passes.specs.Finding.{Finds};
+ghost use Rattle.hprof_retained.specs.Tree.{count_of};
+ghost use Rattle.hprof_by_label.specs.Labels.{AreNodeLabels, HaveSizes, place_count};
 
-use crate::labelling::Labelling;
-use hprof_heap::{Finger, Heap};
+use crate::label_sink::LabelSink;
+use crate::node_labels::NodeLabels;
+use hprof_heap::{Heap, holds_of_heap};
 use hprof_naming::ClassNames;
-use hprof_numbers::Numbers;
+use hprof_passes::{InHeap, Objects, PassStop};
 use hprof_retained::Retained;
 use std::alloc::{AllocError, Global};
 
-/// The labels of the nodes of a tree of dominators, each label with a number.
-#[derive(Drop)]
-pub struct NodeLabels {
-    /// For each number its label.
-    pub(crate) texts: Vec<String>,
-    /// For each place the number of its node's label. That of place 0 is unspecified.
-    pub(crate) of_places: Numbers,
-}
-
-impl NodeLabels {
-    ghost use Rattle.std.specs.Prelude.{◌≡◌, ◌<◌, length};
-    ghost use Rattle.hprof_numbers.specs.Numbers.{items_in};
-    ghost use Rattle.hprof_by_label.specs.Labels.{label_at, label_count, label_text};
-
-    /// Returns the number of labels.
-    pub fn len(&self) -> usize
-        ensures { result ≡ label_count self.now }
-    {
-        self.texts.len()
-    }
-
-    /// Returns the label with a number.
-    pub fn text(&self, number: usize) -> &str
-        requires { number < label_count self.now }
-        ensures { result.now ≡ label_text self.now number }
-    {
-        self.texts[number].as_str()
-    }
-
-    /// Returns the number of the label of the node at a place. That of place 0 is unspecified.
-    #[inline(always)]
-    pub fn number(&self, place: usize) -> usize
-        requires { place < length (items_in self.now.of_places) }
-        ensures { result ≡ label_at self.now place }
-    {
-        self.of_places.get(place)
-    }
-}
-
-/// Returns the labels of the nodes of a tree, in one pass over the heap's nodes. If memory runs out, the answer is `AllocError`.
+/// Returns the labels and the sizes of the nodes of a tree that objects make up with a heap. The heap has all facts but objects, which are
+/// gone through once.
 ///
 /// Nodes with the same label have the same number: those of two classes with one label, and arrays of a type and instances of a class whose
 /// label reads the same.
+///
+/// # Errors
+///
+/// - `Sink`: memory ran out, or there are more than 2^32 labels.
+/// - `Lost`: the objects cannot be gone through.
+pub fn labels_over<O: Objects>(
+    alloc: Global,
+    heap: &Heap,
+    objects: &O,
+    names: &ClassNames,
+    retained: &Retained,
+) -> Result<NodeLabels, PassStop<AllocError, O::Fault>>
+    requires { AreClassNames (facts_of heap.now) names.now }
+    ensures as_many { IfOk result (λ labels. place_count labels ≡ count_of retained.now) }
+    ensures labels { Finds (O.make_up objects.now (size_of heap.now) (facts_of heap.now))
+        (O.agree objects.now (size_of heap.now) (facts_of heap.now))
+        (O.tells objects.now (size_of heap.now) (facts_of heap.now))
+        (λ all labels. AreNodeLabels all retained.now labels × HaveSizes (size_of heap.now) all retained.now labels) result }
+{
+    holds_of_heap(heap);
+    let mut sink = match LabelSink::new(alloc, heap, names, retained) {
+        Ok(sink) => sink,
+        Err(fault) => return Err(PassStop::Sink(fault)),
+    };
+    match objects.pass(alloc, heap, &mut sink) {
+        Ok(()) => {}
+        Err(stop) => return Err(stop),
+    }
+    match sink.finish(retained.len()) {
+        Ok(labels) => Ok(labels),
+        Err(fault) => Err(PassStop::Sink(fault)),
+    }
+}
+
+/// Returns the labels and the sizes of the nodes of a tree of a heap with its objects in memory, as [`labels_over`] does. If memory runs
+/// out, the answer is `AllocError`.
 pub fn labels_of(
     alloc: Global,
     heap: &Heap,
     names: &ClassNames,
     retained: &Retained,
 ) -> Result<NodeLabels, AllocError>
-    requires names { AreClassNames (facts_of heap.now) names.now }
-    requires tree { IsTreeOf (size_of heap.now) (facts_of heap.now) retained.now }
-    ensures { IfOk result (AreNodeLabels (facts_of heap.now) retained.now) }
+    requires { AreClassNames (facts_of heap.now) names.now }
+    ensures labels { IfOk result (AreNodeLabels (facts_of heap.now) retained.now) }
+    ensures sizes { IfOk result (HaveSizes (size_of heap.now) (facts_of heap.now) retained.now) }
 {
-    let nodes = retained.nodes();
-    let mut labelling = Labelling::new(alloc);
-    let mut of_places = Numbers::zeros(alloc, retained.len(), nodes.len())?;
-    let mut near = Finger::start();
-    for number in 0..nodes.len() {
-        let place = retained.place_by_number(number);
-        if place != 0 {
-            let label = labelling.number_of(alloc, heap, names, nodes.node(number), &mut near)?;
-            of_places.set(place, label);
-        }
+    holds_of_heap(heap);
+    match labels_over(alloc, heap, &InHeap, names, retained) {
+        Ok(labels) => Ok(labels),
+        Err(stop) => Err(stop.of_sink()),
     }
-    Ok(NodeLabels {
-        texts: labelling.texts.texts,
-        of_places,
-    })
 }

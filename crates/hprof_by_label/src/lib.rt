@@ -5,9 +5,11 @@
 
 mod kind_numbers;
 mod kinds;
+mod label_sink;
 mod labelling;
 mod labels;
 pub mod laws;
+mod node_labels;
 mod own_sums;
 mod report;
 mod retained_sums;
@@ -15,5 +17,6 @@ mod row;
 mod rows;
 mod texts;
 
-pub use labels::{NodeLabels, labels_of};
-pub use report::write_retained;
+pub use labels::{labels_of, labels_over};
+pub use node_labels::NodeLabels;
+pub use report::{write_retained, write_retained_over};

@@ -1,14 +1,15 @@
 //! The bytes and the number of the nodes of each label.
 
-ghost use Rattle.std.specs.Prelude.{IfOk};
-ghost use Rattle.hprof_heap.specs.HeapFacts.{facts_of, size_of};
-ghost use Rattle.hprof_retained.specs.Tree.{IsTreeOf};
-ghost use Rattle.hprof_by_label.specs.Labels.{AreNodeLabels};
+ghost use Rattle.std.specs.Prelude.{◌≡◌, IfOk, List, length};
+ghost use Rattle.hprof_values.specs.declared.ids.IdSize.{IdSize};
+ghost use Rattle.hprof_items.specs.FactValue.{FactValue};
+ghost use Rattle.hprof_rows.specs.Conflict.{IsConsistent};
+ghost use Rattle.hprof_retained.specs.Tree.{IsTreeOf, count_of};
+ghost use Rattle.hprof_by_label.specs.Labels.{AreNodeLabels, HaveSizes, label_count, place_count};
 ghost use Rattle.hprof_by_label.specs.Sums.{AreOwnSums};
 
-use crate::labels::NodeLabels;
-use hprof_heap::{Finger, Heap, holds_of_heap};
-use hprof_retained::{Retained, size_of_node};
+use crate::node_labels::NodeLabels;
+use hprof_retained::Retained;
 use std::alloc::{AllocError, Global};
 
 /// For each label, by its number, the sums over the nodes that have it.
@@ -20,28 +21,28 @@ pub(crate) struct OwnSums {
     pub(crate) counts: Vec<usize>,
 }
 
-/// Returns the bytes and the number of the nodes of each label, in one pass over the heap's nodes. If memory runs out, the answer is
+/// Returns the bytes and the number of the nodes of each label, in one pass over the nodes of a tree. If memory runs out, the answer is
 /// `AllocError`.
 pub(crate) fn own_sums(
     alloc: Global,
-    heap: &Heap,
     retained: &Retained,
     labels: &NodeLabels,
 ) -> Result<OwnSums, AllocError>
-    requires tree { IsTreeOf (size_of heap.now) (facts_of heap.now) retained.now }
-    requires labels { AreNodeLabels (facts_of heap.now) retained.now labels.now }
-    ensures { IfOk result (λ sums. AreOwnSums (size_of heap.now) (facts_of heap.now) labels.now sums.bytes.items sums.counts.items) }
+    requires { place_count labels.now ≡ count_of retained.now }
+    ensures bytes { IfOk result (λ sums. length sums.bytes.items ≡ label_count labels.now) }
+    ensures counts { IfOk result (λ sums. length sums.counts.items ≡ label_count labels.now) }
+    ensures sums { (ids : IdSize) (facts : List FactValue) → IsConsistent facts → IsTreeOf ids facts retained.now
+        → AreNodeLabels facts retained.now labels.now → HaveSizes ids facts retained.now labels.now
+        → IfOk result (λ sums. AreOwnSums ids facts labels.now sums.bytes.items sums.counts.items) }
 {
-    holds_of_heap(heap);
     let nodes = retained.nodes();
     let mut bytes: Vec<u128> = vec![in alloc; 0; labels.len()]?;
     let mut counts: Vec<usize> = vec![in alloc; 0; labels.len()]?;
-    let mut near = Finger::start();
     for number in 0..nodes.len() {
         let place = retained.place_by_number(number);
         if place != 0 {
             let label = labels.number(place);
-            bytes[label] += size_of_node(heap, nodes.node(number), &mut near) as u128;
+            bytes[label] += labels.size(place) as u128;
             counts[label] += 1;
         }
     }

@@ -1,10 +1,10 @@
 //! The rows of the report `retained`.
 
-ghost use Rattle.std.specs.Prelude.{◌≡◌, ◌<◌, ℕ, IfOk, length, map};
-ghost use Rattle.hprof_by_label.specs.Labels.{label_count, label_text};
+ghost use Rattle.std.specs.Prelude.{◌≡◌, ◌<◌, IfOk, length, map};
+ghost use Rattle.hprof_by_label.specs.Labels.{label_count};
 ghost use Rattle.hprof_by_label.specs.RowValues.{AreRowsTo, row_at, row_value};
 
-use crate::labels::NodeLabels;
+use crate::node_labels::NodeLabels;
 use crate::own_sums::OwnSums;
 use std::alloc::{AllocError, Global};
 
@@ -47,8 +47,6 @@ pub(crate) fn rows_of<'a>(
     requires bytes { length own.now.bytes.items ≡ label_count labels.now }
     requires counts { length own.now.counts.items ≡ label_count labels.now }
     requires retained { length retained.now ≡ label_count labels.now }
-    requires apart { (one other : ℕ) → one < label_count labels.now → other < label_count labels.now
-        → label_text labels.now one ≡ label_text labels.now other → one ≡ other }
     ensures { IfOk result (λ rows. AreRowsTo labels.now own.now.bytes.items own.now.counts.items retained.now (label_count labels.now)
         (map row_value rows.items)) }
 {

@@ -1,19 +1,20 @@
 //! The rows of all labels, in the order of the report.
 
-ghost use Rattle.std.specs.Prelude.{◌≡◌, IfOk, map};
+ghost use Rattle.std.specs.Prelude.{◌≡◌, IfOk, List, map};
 ghost use Rattle.std.specs.List.{IsDistinct};
 ghost use Rattle.std.specs.List.Sorted.{IsPermutation, IsStrictlySortedBy};
-ghost use Rattle.hprof_heap.specs.HeapFacts.{facts_of, size_of};
-ghost use Rattle.hprof_retained.specs.Tree.{IsTreeOf};
+ghost use Rattle.hprof_values.specs.declared.ids.IdSize.{IdSize};
+ghost use Rattle.hprof_items.specs.FactValue.{FactValue};
+ghost use Rattle.hprof_rows.specs.Conflict.{IsConsistent};
+ghost use Rattle.hprof_retained.specs.Tree.{IsTreeOf, count_of};
 ghost use Rattle.hprof_by_label.specs.LabelRows.{AreRows, row_cmp};
-ghost use Rattle.hprof_by_label.specs.Labels.{AreNodeLabels};
+ghost use Rattle.hprof_by_label.specs.Labels.{AreNodeLabels, HaveSizes, place_count};
 ghost use Rattle.hprof_by_label.specs.RowValues.{row_value, same_label};
 
-use crate::labels::NodeLabels;
+use crate::node_labels::NodeLabels;
 use crate::own_sums::own_sums;
 use crate::retained_sums::retained_sums;
 use crate::row::{Row, rows_of};
-use hprof_heap::{Heap, holds_of_heap};
 use hprof_retained::Retained;
 use std::alloc::{AllocError, Global};
 use std::cmp::Ordering;
@@ -38,21 +39,20 @@ fn sort_rows(rows: &mut Vec<Row<'_>>)
     rows.sort_unstable_by(|row, other| compare(row, other));
 }
 
-/// Returns the rows of all labels that some node has which strong references reach, in the order of the report. If memory runs out, the
-/// answer is `AllocError`.
+/// Returns the rows of all labels that some node of a tree has, in the order of the report. If memory runs out, the answer is
+/// `AllocError`.
 pub(crate) fn rows_in<'a>(
     alloc: Global,
-    heap: &Heap,
     retained: &Retained,
     labels: &'a NodeLabels,
 ) -> Result<Vec<Row<'a>>, AllocError>
-    requires tree { IsTreeOf (size_of heap.now) (facts_of heap.now) retained.now }
-    requires labels { AreNodeLabels (facts_of heap.now) retained.now labels.now }
-    ensures { IfOk result (λ rows. AreRows (size_of heap.now) (facts_of heap.now) (map row_value rows.items)) }
+    requires { place_count labels.now ≡ count_of retained.now }
+    ensures { (ids : IdSize) (facts : List FactValue) → IsConsistent facts → IsTreeOf ids facts retained.now
+        → AreNodeLabels facts retained.now labels.now → HaveSizes ids facts retained.now labels.now
+        → IfOk result (λ rows. AreRows ids facts (map row_value rows.items)) }
 {
-    holds_of_heap(heap);
-    let own = own_sums(alloc, heap, retained, labels)?;
-    let sums = retained_sums(alloc, heap, retained, labels)?;
+    let own = own_sums(alloc, retained, labels)?;
+    let sums = retained_sums(alloc, retained, labels)?;
     let mut rows = rows_of(alloc, labels, &own, &sums)?;
     sort_rows(&mut rows);
     Ok(rows)

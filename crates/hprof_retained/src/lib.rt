@@ -16,5 +16,5 @@ mod weakly;
 pub use beyond::weakly_held;
 pub use making::{retained_of, retained_over};
 pub use retained::Retained;
-pub use sizes::size_of_node;
+pub use sizes::{bytes_of_dump, size_of_node};
 pub use weakly::WeaklyHeld;

@@ -11,7 +11,7 @@ use hprof_values::IdSize;
 
 /// Returns the bytes of the fields or the elements of an object with identifiers of that size.
 #[inline(always)]
-pub(crate) fn bytes_of_dump(dump: &ObjectDump<'_>, ids: IdSize) -> u64
+pub fn bytes_of_dump(dump: &ObjectDump<'_>, ids: IdSize) -> u64
     requires { ElementsHave ids dump.now }
     ensures { result ≡ size_of_object ids (fact_of_object dump.now) }
 {

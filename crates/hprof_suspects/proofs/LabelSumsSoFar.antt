@@ -13,7 +13,7 @@ use Rattle.hprof_keeps.specs.Order.{node_of, retained_in}
 use Rattle.hprof_keeps.proofs.Places as places
 use Rattle.hprof_by_label.specs.Labels.{AreNodeLabels, label_at, label_count, label_text}
 use Rattle.hprof_by_label.specs.NodeLabel.{IsNodeLabel}
-use Rattle.hprof_by_label.specs.declared.labels.NodeLabels.{NodeLabels}
+use Rattle.hprof_by_label.specs.declared.node_labels.NodeLabels.{NodeLabels}
 use Rattle.hprof_suspects.specs.Groups.{IsBelow}
 use Rattle.hprof_suspects.specs.Heads.{AreHeads}
 use Rattle.hprof_suspects.specs.LabelSums.{AreLabelSums, IsPieceAt}

@@ -4,7 +4,7 @@ use Rattle.std.proofs.Common.{arith}
 use Rattle.std.specs.BTreeMap.{BTreeMap, get, is_at}
 use Rattle.std.proofs.lemmas.Bool.{both_ways, cases_eq}
 use Rattle.hprof_retained.specs.declared.retained.Retained.{Retained}
-use Rattle.hprof_by_label.specs.declared.labels.NodeLabels.{NodeLabels}
+use Rattle.hprof_by_label.specs.declared.node_labels.NodeLabels.{NodeLabels}
 use Rattle.hprof_suspects.specs.PartPlaces.{AreOnlyTo, IsLargeHead, IsLargeWith, IsOnlyOf, key_cmp, key_in, noted}
 use Rattle.hprof_suspects.specs.declared.only.GroupLabel.{GroupLabel}
 use Rattle.hprof_suspects.proofs.MapKeys.{at_is, is_at_own}

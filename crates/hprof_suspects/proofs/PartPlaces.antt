@@ -11,7 +11,7 @@ use Rattle.hprof_keeps.specs.Order.{node_of, retained_in}
 use Rattle.hprof_keeps.proofs.Held.{sum_there}
 use Rattle.hprof_keeps.proofs.Places as places
 use Rattle.hprof_by_label.specs.Labels.{AreNodeLabels}
-use Rattle.hprof_by_label.specs.declared.labels.NodeLabels.{NodeLabels}
+use Rattle.hprof_by_label.specs.declared.node_labels.NodeLabels.{NodeLabels}
 use Rattle.hprof_suspects.specs.Groups.{HaveOneLabel, IsBelow}
 use Rattle.hprof_suspects.specs.Heads.{AreHeads, head_in}
 use Rattle.hprof_suspects.specs.Parts.{IsLarge, IsOnlyLarge, IsPart, IsSingled, Large, Roots}

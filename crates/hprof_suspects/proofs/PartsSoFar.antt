@@ -11,7 +11,7 @@ use Rattle.hprof_rows.specs.Conflict.{IsConsistent}
 use Rattle.hprof_retained.specs.Tree.{IsTreeOf, count_of}
 use Rattle.hprof_retained.specs.declared.retained.Retained.{Retained}
 use Rattle.hprof_by_label.specs.Labels.{AreNodeLabels}
-use Rattle.hprof_by_label.specs.declared.labels.NodeLabels.{NodeLabels}
+use Rattle.hprof_by_label.specs.declared.node_labels.NodeLabels.{NodeLabels}
 use Rattle.hprof_suspects.specs.Heads.{AreHeads}
 use Rattle.hprof_suspects.specs.Parts.{Roots}
 use Rattle.hprof_suspects.specs.PartPlaces.{AreOnlyTo, AreParts, IsMarked, IsPartAt, IsPartBy, over_in}

@@ -31,7 +31,7 @@ use Rattle.hprof_retained.specs.declared.retained.Retained.{Retained}
 use Rattle.hprof_retained.proofs.OneSums.{one_count}
 use Rattle.hprof_by_label.specs.Labels.{AreNodeLabels, label_at, label_count, label_text}
 use Rattle.hprof_by_label.specs.NodeLabel.{IsNodeLabel}
-use Rattle.hprof_by_label.specs.declared.labels.NodeLabels.{NodeLabels}
+use Rattle.hprof_by_label.specs.declared.node_labels.NodeLabels.{NodeLabels}
 use Rattle.hprof_suspects.specs.LabelSums.{AreLabelSums, AreLinesTo, IsLineTo, line_cmp, sum_of}
 use Rattle.hprof_suspects.specs.Parts.{AddUp, IsPiece, IsPieceSum, PieceSum}
 use Rattle.hprof_suspects.specs.SuspectsText.{ArePieceSums, piece_cmp}

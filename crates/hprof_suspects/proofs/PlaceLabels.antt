@@ -6,7 +6,7 @@ use Rattle.hprof_retained.specs.Tree.{count_of, node_at}
 use Rattle.hprof_retained.specs.declared.retained.Retained.{Retained}
 use Rattle.hprof_by_label.specs.Labels.{AreNodeLabels, label_at, label_text}
 use Rattle.hprof_by_label.specs.NodeLabel.{IsNodeLabel}
-use Rattle.hprof_by_label.specs.declared.labels.NodeLabels.{NodeLabels}
+use Rattle.hprof_by_label.specs.declared.node_labels.NodeLabels.{NodeLabels}
 use Rattle.hprof_by_label.proofs.OneLabel.{one_node_label}
 use Rattle.hprof_suspects.specs.Groups.{HaveOneLabel, IsClassAlone}
 

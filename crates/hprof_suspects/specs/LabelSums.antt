@@ -7,7 +7,7 @@ use Rattle.hprof_keeps.specs.Order.{node_of, retained_in}
 use Rattle.hprof_retained.specs.Tree.{total_of}
 use Rattle.hprof_retained.specs.declared.retained.Retained.{Retained}
 use Rattle.hprof_by_label.specs.Labels.{label_count, label_text}
-use Rattle.hprof_by_label.specs.declared.labels.NodeLabels.{NodeLabels}
+use Rattle.hprof_by_label.specs.declared.node_labels.NodeLabels.{NodeLabels}
 use Rattle.hprof_suspects.specs.Heads.{head_in}
 use Rattle.hprof_suspects.specs.PartPlaces.{IsMarked, over_in}
 use Rattle.hprof_suspects.specs.Parts.{AddUp, IsPiece, PieceSum}

@@ -9,7 +9,7 @@ use Rattle.hprof_keeps.specs.Order.{node_of, retained_in}
 use Rattle.hprof_retained.specs.Tree.{count_of, node_at, sum_at, total_of}
 use Rattle.hprof_retained.specs.declared.retained.Retained.{Retained}
 use Rattle.hprof_by_label.specs.Labels.{AreNodeLabels, label_at}
-use Rattle.hprof_by_label.specs.declared.labels.NodeLabels.{NodeLabels}
+use Rattle.hprof_by_label.specs.declared.node_labels.NodeLabels.{NodeLabels}
 use Rattle.hprof_suspects.specs.Groups.{IsClassAlone}
 use Rattle.hprof_suspects.specs.Heads.{head_in, up}
 use Rattle.hprof_suspects.specs.Parts.{IsPart}

@@ -32,7 +32,7 @@ loop-number-preserved c =
     c.index.ensures ∙ get_or_default_zero counts number c.index.result.now (omega (arith, many, end, test)) in
     elim c.if-index-gt0.branch [
       | then-index-gt0+in_ok-push w ↦
-          let added = rows_added labels bytes counts retained number rows c.loop-number.invariant c.requires.apart
+          let added = rows_added labels bytes counts retained number rows c.loop-number.invariant c.args.labels.now.apart
           (omega (arith, end, test))
           (omega (arith, at, w.if-index-gt0.true)) in
           let items = ap (λ (v : Vec Row Global). map row_value v.items) w.rows-is

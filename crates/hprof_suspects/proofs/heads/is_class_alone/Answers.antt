@@ -14,7 +14,7 @@ returns-else-eq c = (
       let label = label_of_class (facts_of c.args.heap.now) c.holds_of_heap.ensures.agree c.args.retained.now c.args.labels.now
       c.requires.labels c.args.place c.requires.some c.requires.within alone in
       let text : c.text.result.now ≡ codes "java/lang/Class" =
-      c.text.ensures ∙ ap (label_text c.args.labels.now) c.number.ensures ∙ label in
+      c.text.ensures ∙ ap (label_text c.args.labels.now) c.number.ensures.value ∙ label in
       let decides = slice_eq-Decides Decides-eqb c.text.result.now (codes "java/lang/Class") c.eq.result c.eq.ensures in
       absurd (both_ways c.eq.result c.if-eq.false (decides.1 text)),
 )

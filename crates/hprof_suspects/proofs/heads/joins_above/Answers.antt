@@ -22,7 +22,7 @@ returns-then-number c = (
       (up retained c.args.place) c.requires.some c.requires.within at.0 at.1 joins.1.alike in
       let other : label_at labels c.above-above.result ≡ label_at labels (up retained c.args.place) = ap (label_at labels)
       c.above-above.ensures in
-      absurd (omega (arith, same, other, c.number.ensures, c.number-2.ensures, c.if-number.true)),
+      absurd (omega (arith, same, other, c.number.ensures.value, c.number-2.ensures.value, c.if-number.true)),
 )
 
 pub returns-then-is_class_alone : goal.returns-then-is_class_alone
@@ -47,7 +47,7 @@ returns c = (
       in
       let other : label_at labels c.above-above.result ≡ label_at labels (up retained c.args.place) = ap (label_at labels) above in
       let same : label_at labels c.args.place ≡ label_at labels (up retained c.args.place) =
-      omega (arith, other, c.number.ensures, c.number-2.ensures, c.if-number.false) in (
+      omega (arith, other, c.number.ensures.value, c.number-2.ensures.value, c.if-number.false) in (
         some,
         record {
           below = has_parent (size_of c.args.heap.now) facts retained c.requires.tree c.args.place (c.requires.some, c.requires.within)

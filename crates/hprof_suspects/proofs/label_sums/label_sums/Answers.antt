@@ -40,7 +40,7 @@ overflow_add-index_mut c =
     part c.requires.within
     bytes counts place so some low piece in
     let within = c.requires.labels.within place some low in
-    let same : c.number-label.result ≡ label = c.number-label.ensures in
+    let same : c.number-label.result ≡ label = c.number-label.ensures.value in
     let many = so.as_many in
     let at = c.index_mut.ensures.value
     ∙ get_or_default_zero bytes c.number-label.result c.index_mut.result.now (omega (arith, same, many, within)) ∙ ap (slice_index bytes)
@@ -65,7 +65,7 @@ overflow_add-index_mut-then-is_piece c =
     let low : place < count_of retained = omega (arith, c.loop-place-test.true, c.len-place-end.ensures) in
     let label = label_at labels place in
     let within = c.requires.labels.within place some low in
-    let same : c.number-label.result ≡ label = c.number-label.ensures in
+    let same : c.number-label.result ≡ label = c.number-label.ensures.value in
     let many = so.as_many_counts in
     let at = c.index_mut-then-is_piece.ensures.value
     ∙ get_or_default_zero counts c.number-label.result c.index_mut-then-is_piece.result.now (omega (arith, same, many, within))
@@ -96,7 +96,7 @@ loop-place-preserved c =
       | then-is_piece w ↦
           let piece = c.is_piece.ensures.0 w.if-is_piece.true in
           let within = c.requires.labels.within place some low in
-          let same : w.number-label.result ≡ label = w.number-label.ensures in
+          let same : w.number-label.result ≡ label = w.number-label.ensures.value in
           let bytes_at : w.index_mut.result.now ≡ slice_index bytes label = w.index_mut.ensures.value
           ∙ get_or_default_zero bytes w.number-label.result w.index_mut.result.now (omega (arith, same, many, within))
           ∙ ap (slice_index bytes) same in

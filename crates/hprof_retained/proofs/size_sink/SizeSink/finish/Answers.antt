@@ -1,7 +1,7 @@
-use Rattle.std.proofs.Common.{◌<◌, ◌∙◌, ℕ, ap, sym, subst, arith, length}
-use Rattle.std.specs.Prelude.{slice_index, vec_len}
+use Rattle.std.proofs.Common.{◌∙◌, ℕ, sym, subst, arith}
+use Rattle.std.specs.Prelude.{slice_index}
 use Rattle.hprof_dominators.specs.Retained.{IsSumBelow}
-use Rattle.hprof_dominators.specs.Tree.{number_at, place_of}
+use Rattle.hprof_dominators.specs.Tree.{number_at}
 use Rattle.hprof_dominators.proofs.Counted.{counted_in_preorder}
 use Rattle.hprof_numbers.specs.Numbered.{nodes_in}
 use Rattle.hprof_numbers.specs.Numbers.{items_in}

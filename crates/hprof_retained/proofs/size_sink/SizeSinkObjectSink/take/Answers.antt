@@ -1,6 +1,6 @@
 use Rattle.std.specs.Prelude.{slice_index}
-use Rattle.std.proofs.Common.{◌≡◌, ◌<◌, ◌∙◌, ℕ, Some, None, length, refl, sym, ap, subst, arith}
-use Rattle.hprof_items.specs.FactValue.{FactValue, value_of}
+use Rattle.std.proofs.Common.{◌≡◌, ◌<◌, ◌∙◌, Some, None, refl, sym, ap, subst, arith}
+use Rattle.hprof_items.specs.FactValue.{value_of}
 use Rattle.hprof_heap.specs.Objects.{IsObject}
 use Rattle.hprof_histogram.specs.Histogram.{size_of_object}
 use Rattle.hprof_dominators.specs.Tree.{place_of}
@@ -8,7 +8,8 @@ use Rattle.hprof_numbers.specs.Numbered.{nodes_in}
 use Rattle.hprof_numbers.specs.Places.{number_in}
 use Rattle.hprof_numbers.proofs.Ascending.{one_place}
 use Rattle.hprof_numbers.proofs.Placed.{has_place, stands}
-use Rattle.hprof_retained.proofs.SizedNodes.{size_still, sized_now, sized_still}
+use Rattle.hprof_retained.specs.Retained.{size_of_found}
+use Rattle.hprof_retained.proofs.SizedNodes.{all_still, found_still, size_put}
 use Rattle.hprof_retained.proofs.size_sink.SizeSinkObjectSink.take.Goals as goal
 
 pub returns-in_default-clause-takes : goal.returns-in_default-clause-takes
@@ -19,7 +20,8 @@ returns-in_default-clause-takes c =
       same = λ graph over. over;
       sized = λ objects sized number low placed.
           let node = slice_index (nodes_in retained.nodes) number in
-          size_still c.args.ids objects object node (slice_index retained.bytes.items (place_of retained.tree number))
+          found_still objects object node
+          (λ found. slice_index retained.bytes.items (place_of retained.tree number) ≡ size_of_found c.args.ids found)
           (λ of. c.in_default.ensures.none node of) (sized number low placed);
     }
 
@@ -31,7 +33,9 @@ returns-in_default-number_of-clause-takes c =
     let is = subst (IsObject c.id_of.result) c.in-Some.ensures.found c.id_of.ensures in
     record {
       same = λ graph over. over;
-      sized = λ objects sized. sized_still c.args.ids objects object c.id_of.result is retained sized (λ number low placed same.
+      sized = λ objects sized. all_still retained objects object c.id_of.result is
+          (λ number found. slice_index retained.bytes.items (place_of retained.tree number) ≡ size_of_found c.args.ids found) sized
+          (λ number low placed same.
           let found = has_place nodes (slice_index nodes number) retained.nodes.ascend number low refl in
           let clash : None ≡ Some number =
           sym c.in_default-number_of.is ∙ c.number_of.ensures ∙ ap (number_in nodes) same ∙ found in
@@ -47,7 +51,9 @@ returns-then-place-eq0-clause-takes c =
     let found = stands nodes c.id_of.result c.in-Some-number_of.number (sym c.in-Some-number_of.ensures) in
     record {
       same = λ graph over. over;
-      sized = λ objects sized. sized_still c.args.ids objects object c.id_of.result is retained sized (λ number low placed same.
+      sized = λ objects sized. all_still retained objects object c.id_of.result is
+          (λ number found. slice_index retained.bytes.items (place_of retained.tree number) ≡ size_of_found c.args.ids found) sized
+          (λ number low placed same.
           let e = one_place nodes retained.nodes.ascend number c.in-Some-number_of.number low found.0 (sym same ∙ sym found.1) in
           omega (arith, placed, ap (place_of retained.tree) e, c.place_of-place.ensures, c.if-place-eq0.true));
     }
@@ -67,8 +73,8 @@ returns-clause-takes c =
     record {
       same = λ graph over. record { nodes = over.nodes; tree_is = over.tree_is; preorder = over.preorder };
       sized = λ objects sized. rw c.place_of-place.ensures
-          (sized_now c.args.ids objects object c.id_of.result is retained sized at found.0 found.1 placed c.bytes_of_dump.result size_is
-          (omega (arith, within, retained.sized, retained.bytes.ok.0)));
+          (size_put retained c.args.ids objects object c.id_of.result is retained.bytes.items sized at found.0 found.1 placed
+          (omega (arith, within, retained.sized, retained.bytes.ok.0)) c.bytes_of_dump.result size_is);
     }
 
 pub bytes_of_dump-requires : goal.bytes_of_dump-requires
