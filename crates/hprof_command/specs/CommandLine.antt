@@ -68,6 +68,7 @@ heap_reads_again heaps.Check = true
 heap_reads_again heaps.Histogram = true
 heap_reads_again heaps.Classes = true
 heap_reads_again heaps.Threads = true
+heap_reads_again heaps.Retained = true
 heap_reads_again other = false
 
 abbrev pub kind_reads_again : KindReport → Bool
@@ -80,6 +81,8 @@ node_reads_again nodes.Object = true
 node_reads_again nodes.Show = true
 node_reads_again nodes.Refs = true
 node_reads_again nodes.Path = true
+node_reads_again nodes.Why = true
+node_reads_again nodes.Who = true
 node_reads_again other = false
 
 abbrev pub reads_again : ReportWord → Bool

@@ -15,6 +15,8 @@ abbrev pub node_report_of : PassedNodeReport → NodeReport
 node_report_of passed_nodes.Show = nodes.Show
 node_report_of passed_nodes.Text = nodes.Text
 node_report_of passed_nodes.Object = nodes.Object
+node_report_of passed_nodes.Why = nodes.Why
+node_report_of passed_nodes.Who = nodes.Who
 node_report_of passed_nodes.Refs = nodes.Refs
 node_report_of passed_nodes.Path = nodes.Path
 
@@ -24,5 +26,6 @@ report_of passed.Check = reports.Heap heaps.Check
 report_of passed.Histogram = reports.Heap heaps.Histogram
 report_of passed.Classes = reports.Heap heaps.Classes
 report_of passed.Threads = reports.Heap heaps.Threads
+report_of passed.Retained = reports.Heap heaps.Retained
 report_of (passed.Objects these) = reports.Kind kinds.Objects these
 report_of (passed.Node report node) = reports.Node (node_report_of report) node

@@ -8,10 +8,12 @@ ghost use Rattle.hprof_lines.specs.Passed.{EndsPassed};
 use hprof_devices::Target;
 use hprof_engine::WriteStop;
 use hprof_heap::Heap;
+use hprof_holders::write_who_over;
 use hprof_passes::{Objects, PassStop};
 use hprof_questions::NodeReport;
 use hprof_reports::{write_object_over, write_path_over, write_refs_over, write_text_over};
 use hprof_show::write_show_over;
+use hprof_why::write_why_over;
 use std::alloc::Global;
 
 /// A report on a class, an instance or an array that goes through all objects, wherever they are, and picks those that it needs.
@@ -23,6 +25,10 @@ pub enum PassedNodeReport {
     Text,
     /// `object`: the contents of a class and an object.
     Object,
+    /// `why`: the shortest path of strong references from a GC root, with names.
+    Why,
+    /// `who`: what refers to an identifier, with names.
+    Who,
     /// `refs`: each reference to an identifier.
     Refs,
     /// `path`: the shortest path from a GC root to an identifier.
@@ -44,9 +50,11 @@ impl PassedNodeReport {
             NodeReport::Show => Some(PassedNodeReport::Show),
             NodeReport::Text => Some(PassedNodeReport::Text),
             NodeReport::Object => Some(PassedNodeReport::Object),
+            NodeReport::Why => Some(PassedNodeReport::Why),
+            NodeReport::Who => Some(PassedNodeReport::Who),
             NodeReport::Refs => Some(PassedNodeReport::Refs),
             NodeReport::Path => Some(PassedNodeReport::Path),
-            NodeReport::Why | NodeReport::Who | NodeReport::Keeps => None,
+            NodeReport::Keeps => None,
         }
     }
 
@@ -58,6 +66,8 @@ impl PassedNodeReport {
             PassedNodeReport::Show => NodeReport::Show,
             PassedNodeReport::Text => NodeReport::Text,
             PassedNodeReport::Object => NodeReport::Object,
+            PassedNodeReport::Why => NodeReport::Why,
+            PassedNodeReport::Who => NodeReport::Who,
             PassedNodeReport::Refs => NodeReport::Refs,
             PassedNodeReport::Path => NodeReport::Path,
         }
@@ -81,6 +91,8 @@ impl PassedNodeReport {
             PassedNodeReport::Show => write_show_over(alloc, heap, objects, id, target),
             PassedNodeReport::Text => write_text_over(alloc, heap, objects, id, target),
             PassedNodeReport::Object => write_object_over(alloc, heap, objects, id, target),
+            PassedNodeReport::Why => write_why_over(alloc, heap, objects, id, target),
+            PassedNodeReport::Who => write_who_over(alloc, heap, objects, id, target),
             PassedNodeReport::Refs => write_refs_over(alloc, heap, objects, id, target),
             PassedNodeReport::Path => write_path_over(alloc, heap, objects, id, target),
         }

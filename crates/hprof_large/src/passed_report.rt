@@ -7,6 +7,7 @@ use crate::named::write_objects;
 use crate::node::write_node;
 use crate::passed_node_report::PassedNodeReport;
 use hprof_ask::Reporting;
+use hprof_by_label::write_retained_over;
 use hprof_devices::Target;
 use hprof_engine::{Summaries, WriteStop};
 use hprof_heap::Heap;
@@ -30,6 +31,8 @@ pub enum PassedReport<'a> {
     Classes,
     /// `threads`: each thread, its stack, and the objects that its frames hold.
     Threads,
+    /// `retained`: what the classes keep in memory.
+    Retained,
     /// `objects`: the objects of a class or a type, or of all classes that a name means, the largest first.
     Objects(Kinds<'a>),
     /// A report on a class, an instance or an array.
@@ -51,12 +54,12 @@ impl<'a> PassedReport<'a> {
             Report::Heap(HeapReport::Histogram) => Some(PassedReport::Histogram),
             Report::Heap(HeapReport::Classes) => Some(PassedReport::Classes),
             Report::Heap(HeapReport::Threads) => Some(PassedReport::Threads),
+            Report::Heap(HeapReport::Retained) => Some(PassedReport::Retained),
             Report::Kind(KindReport::Objects, kinds) => Some(PassedReport::Objects(kinds)),
             Report::Node(report, node) => {
                 Some(PassedReport::Node(PassedNodeReport::of(report)?, node))
             }
-            Report::Heap(HeapReport::Suspects | HeapReport::Retained)
-            | Report::Kind(KindReport::Biggest, _) => None,
+            Report::Heap(HeapReport::Suspects) | Report::Kind(KindReport::Biggest, _) => None,
         }
     }
 
@@ -69,6 +72,7 @@ impl<'a> PassedReport<'a> {
             PassedReport::Histogram => Report::Heap(HeapReport::Histogram),
             PassedReport::Classes => Report::Heap(HeapReport::Classes),
             PassedReport::Threads => Report::Heap(HeapReport::Threads),
+            PassedReport::Retained => Report::Heap(HeapReport::Retained),
             PassedReport::Objects(kinds) => Report::Kind(KindReport::Objects, kinds),
             PassedReport::Node(report, node) => Report::Node(report.report(), node),
         }
@@ -135,6 +139,7 @@ impl PassProduct for PassedReport<'_> {
             PassedReport::Histogram => write_histogram_over(alloc, heap, objects, known, target),
             PassedReport::Classes => write_classes_over(alloc, heap, objects, known, target),
             PassedReport::Threads => write_threads_over(alloc, heap, objects, target),
+            PassedReport::Retained => write_retained_over(alloc, heap, objects, target),
             PassedReport::Objects(kinds) => write_objects(alloc, heap, objects, kinds, target),
             PassedReport::Node(report, node) => {
                 write_node(alloc, heap, objects, report, node, target)

@@ -32,9 +32,12 @@ is_passed (passed.Objects kind) = tt
 is_passed (passed.Node nodes_passed.Show node) = tt
 is_passed (passed.Node nodes_passed.Text node) = tt
 is_passed (passed.Node nodes_passed.Object node) = tt
+is_passed (passed.Node nodes_passed.Why node) = tt
+is_passed (passed.Node nodes_passed.Who node) = tt
 is_passed (passed.Node nodes_passed.Refs node) = tt
 is_passed (passed.Node nodes_passed.Path node) = tt
 is_passed passed.Threads = tt
+is_passed passed.Retained = tt
 
 -- the report is another one than those
 some_passed : (report : Report) → ((p : PassedReport) → report_of p ≢ report) → IsPassed report → ⊥
@@ -42,7 +45,7 @@ some_passed (reports.Heap heaps.Check) other is = other passed.Check refl
 some_passed (reports.Heap heaps.Histogram) other is = other passed.Histogram refl
 some_passed (reports.Heap heaps.Classes) other is = other passed.Classes refl
 some_passed (reports.Heap heaps.Suspects) other is = is
-some_passed (reports.Heap heaps.Retained) other is = is
+some_passed (reports.Heap heaps.Retained) other is = other passed.Retained refl
 some_passed (reports.Heap heaps.Threads) other is = other passed.Threads refl
 some_passed (reports.Kind kinds.Objects these) other is = other (passed.Objects these) refl
 some_passed (reports.Kind kinds.Biggest these) other is = is
@@ -51,8 +54,8 @@ some_passed (reports.Node nodes.Text node) other is = other (passed.Node nodes_p
 some_passed (reports.Node nodes.Object node) other is = other (passed.Node nodes_passed.Object node) refl
 some_passed (reports.Node nodes.Refs node) other is = other (passed.Node nodes_passed.Refs node) refl
 some_passed (reports.Node nodes.Path node) other is = other (passed.Node nodes_passed.Path node) refl
-some_passed (reports.Node nodes.Why node) other is = is
-some_passed (reports.Node nodes.Who node) other is = is
+some_passed (reports.Node nodes.Why node) other is = other (passed.Node nodes_passed.Why node) refl
+some_passed (reports.Node nodes.Who node) other is = other (passed.Node nodes_passed.Who node) refl
 some_passed (reports.Node nodes.Keeps node) other is = is
 
 never_true : false ≡ true → ⊥

@@ -130,9 +130,12 @@ fn heap_reads_again(report: HeapReport) -> bool
     ensures { result ≡ heap_reads_again report }
 {
     match report {
-        HeapReport::Check | HeapReport::Histogram | HeapReport::Classes | HeapReport::Threads =>
-            true,
-        HeapReport::Suspects | HeapReport::Retained => false,
+        HeapReport::Check
+        | HeapReport::Histogram
+        | HeapReport::Classes
+        | HeapReport::Threads
+        | HeapReport::Retained => true,
+        HeapReport::Suspects => false,
     }
 }
 
@@ -152,11 +155,13 @@ fn node_reads_again(report: NodeReport) -> bool
 {
     match report {
         NodeReport::Show
+        | NodeReport::Why
+        | NodeReport::Who
         | NodeReport::Text
         | NodeReport::Object
         | NodeReport::Refs
         | NodeReport::Path => true,
-        NodeReport::Why | NodeReport::Who | NodeReport::Keeps => false,
+        NodeReport::Keeps => false,
     }
 }
 

@@ -51,3 +51,21 @@ returns-in-Path g c =
     subst (λ (report : PassedNodeReport). EndsPassed (g.O.Objects.make_up objects ids facts) (g.O.Objects.agree objects ids facts)
     (g.O.Objects.tells objects ids facts) (λ all. IsNodeReport ids all (node_report_of report) c.args.id) g.W.Target.written
     g.W.Target.health c.args.target.now c.write_path_over.new.target c.write_path_over.result) (sym c.in-Path.is) c.write_path_over.ensures
+
+pub returns-in-Why : goal.returns-in-Why
+returns-in-Why g c =
+    let ids = size_of c.args.heap.now in
+    let facts = facts_of c.args.heap.now in
+    let objects = c.args.objects.now in
+    subst (λ (report : PassedNodeReport). EndsPassed (g.O.Objects.make_up objects ids facts) (g.O.Objects.agree objects ids facts)
+    (g.O.Objects.tells objects ids facts) (λ all. IsNodeReport ids all (node_report_of report) c.args.id) g.W.Target.written
+    g.W.Target.health c.args.target.now c.write_why_over.new.target c.write_why_over.result) (sym c.in-Why.is) c.write_why_over.ensures
+
+pub returns-in-Who : goal.returns-in-Who
+returns-in-Who g c =
+    let ids = size_of c.args.heap.now in
+    let facts = facts_of c.args.heap.now in
+    let objects = c.args.objects.now in
+    subst (λ (report : PassedNodeReport). EndsPassed (g.O.Objects.make_up objects ids facts) (g.O.Objects.agree objects ids facts)
+    (g.O.Objects.tells objects ids facts) (λ all. IsNodeReport ids all (node_report_of report) c.args.id) g.W.Target.written
+    g.W.Target.health c.args.target.now c.write_who_over.new.target c.write_who_over.result) (sym c.in-Who.is) c.write_who_over.ensures
