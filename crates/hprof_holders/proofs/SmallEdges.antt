@@ -1,5 +1,5 @@
 -- The edges from an object in a small heap, the names of their places and whether they are weak are those in the whole.
-use Rattle.std.specs.Prelude.{◌↔◌, Contains, IsTrue}
+use Rattle.std.specs.Prelude.{IsTrue}
 use Rattle.std.proofs.Common.{ℕ, List, Option, Some, None, inl, inr, refl}
 use Rattle.hprof_values.specs.declared.ids.IdSize.{IdSize}
 use Rattle.hprof_items.specs.FactValue.{FactValue, Instance, ObjArray}

@@ -1,6 +1,6 @@
 -- The report `who` of a small heap that has all objects which it is read from is that of the whole.
-use Rattle.std.specs.Prelude.{Contains, IsTrue, if◌then◌else◌}
-use Rattle.std.proofs.Common.{◌≡◌, ◌==◌, ℕ, Bool, true, false, List, [], ◌++◌, map, Option, codes, inl, inr, refl, ap, subst, ◌∙◌}
+use Rattle.std.specs.Prelude.{Contains, if◌then◌else◌}
+use Rattle.std.proofs.Common.{◌≡◌, ◌==◌, ℕ, Bool, true, false, List, [], ◌++◌, codes, inl, inr, ap, subst, ◌∙◌}
 use Rattle.std.specs.List.{AllByRecursion}
 use Rattle.hprof_values.specs.declared.ids.IdSize.{IdSize}
 use Rattle.hprof_values.specs.declared.root.Root.{Root}

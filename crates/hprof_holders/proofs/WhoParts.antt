@@ -1,8 +1,7 @@
 -- The report `who`, in parts.
 use Rattle.std.specs.Prelude.{Contains, nat_le, if◌then◌else◌}
-use Rattle.std.proofs.Common.{◌≡◌, ℕ, Bool, true, false, List, [], ◌∷◌, ◌++◌, length, map, Option, codes}
-use Rattle.std.proofs.Common.{refl, sym, ap, ◌∙◌, append_assoc, inl, inr}
-use Rattle.std.specs.Fmt.{decimal}
+use Rattle.std.proofs.Common.{◌≡◌, ℕ, Bool, false, List, [], ◌∷◌, ◌++◌, length, map, codes}
+use Rattle.std.proofs.Common.{refl, sym, ap, append_assoc, inl, inr}
 use Rattle.std.specs.List.{AllByRecursion, flat_map}
 use Rattle.hprof_values.specs.declared.ids.IdSize.{IdSize}
 use Rattle.hprof_values.specs.declared.root.Root.{Root}

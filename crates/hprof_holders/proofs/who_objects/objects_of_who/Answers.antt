@@ -1,4 +1,3 @@
-use Rattle.std.proofs.Common.{[]}
 use Rattle.hprof_heap.specs.HeapFacts.{facts_of}
 use Rattle.hprof_holders.proofs.RootObjects.{from_there, own_there, threads_there}
 use Rattle.hprof_holders.proofs.who_objects.objects_of_who.Goals as goal
