@@ -95,7 +95,7 @@ class Bash(Folder):
 
     def test_a_size_is_no_argument(self):
         self.assertEqual(self.replies("check", "--m"), ["--memory"])
-        self.assertEqual(self.replies("threads", "--m"), [])
+        self.assertEqual(self.replies("suspects", "--m"), [])
         for begun in (("--memory", ""), ("--memory", "5"), ("--memory", "="), ("--memory", "=", ""), ("--memory=",), ("--memory=5",)):
             self.assertEqual(self.replies("check", *begun), [], begun)
         for size in (("--memory", "1M"), ("--memory", "=", "1M"), ("--memory=1M",)):
@@ -157,7 +157,7 @@ class Fish(Folder):
 
     def test_a_size_is_no_argument(self):
         self.assertEqual(self.replies("hprof check --m"), {"--memory"})
-        self.assertEqual(self.replies("hprof threads --m"), set())
+        self.assertEqual(self.replies("hprof suspects --m"), set())
         for size in ("--memory 1M", "--memory=1M"):
             self.assertEqual(self.replies(f"hprof objects {size} "), TYPES, size)
             self.assertIn("friday.hprof", self.replies(f"hprof objects byte[] {size} f"), size)
@@ -222,7 +222,7 @@ class Zsh(Folder):
             "hprof diff a f": "hprof diff a friday.hprof ",
             "hprof diff a b f": "hprof diff a b f",
             "hprof check --m": "hprof check --memory=",
-            "hprof threads --m": "hprof threads --m",
+            "hprof suspects --m": "hprof suspects --m",
             "hprof check --memory f": "hprof check --memory f",
             "hprof objects --memory 1M by": "hprof objects --memory 1M byte\\[\\] ",
             "hprof join --memory=1M out f": "hprof join --memory=1M out friday.hprof ",
@@ -259,11 +259,11 @@ class Words(unittest.TestCase):
             self.assertEqual({line.split(":")[1] for line in lines}, {" biggest", " retained"}, name)
 
     def test_commands_with_the_option_for_the_memory(self):
-        words = "check histo classes threads objects object show text refs path diff join join101"
+        words = "check histo classes threads objects object show text refs path diff join join101 salvage"
         self.assertEqual(completions.sized(), set(words.split()))
         for name in ("hprof.bash", "_hprof", "hprof.fish"):
-            faults = self.faults(name, "join join101 check histo", "join check path histo")
-            self.assertEqual(faults, [f"{name}: join101 with --memory", f"{name}: path with --memory"])
+            faults = self.faults(name, "join101 salvage check", "salvage check keeps")
+            self.assertEqual(faults, [f"{name}: join101 with --memory", f"{name}: keeps with --memory"])
 
     def test_types_and_options(self):
         for name in ("hprof.bash", "_hprof", "hprof.fish"):

@@ -1,5 +1,5 @@
 -- What saving what can be saved of parts tells, into a stream and of files.
-use Rattle.std.proofs.Common.{◌≡◌, ℕ, List, length, Option, Result, Ok, Err, refl, sym, ap, subst}
+use Rattle.std.proofs.Common.{◌≡◌, ◌⊎◌, inl, inr, ℕ, List, length, Option, Result, Ok, Err, refl, sym, ap, subst}
 use Rattle.std.specs.Prelude.{IfOk, IfErr, OnOk, OnErr}
 use Rattle.std.specs.Borrow.{Bor}
 use Rattle.std.specs.Io.KnownBytes.{Appends, Keeps, append_known}
@@ -7,15 +7,15 @@ use Rattle.std.proofs.KnownBytes.{Appends-kept}
 use Rattle.std.proofs.Math.Seq.{take-length}
 use Rattle.hprof_devices.specs.declared.health.Health.{Health}
 use Rattle.hprof_devices.specs.declared.health.Health.TheVariants as healths
+use Rattle.hprof_devices.specs.declared.health.WriteFault.{WriteFault}
 use Rattle.hprof_devices.specs.declared.health.WriteFault.TheVariants as write_faults
 use Rattle.hprof_dump.specs.Dump.{canonical_dump}
 use Rattle.hprof_heap.specs.declared.standing.Refusal.{Refusal}
 use Rattle.hprof_engine.specs.declared.tool_fault.ToolFault.{ToolFault}
 use Rattle.hprof_engine.specs.declared.tool_fault.ToolFault.TheVariants as tool
 use Rattle.hprof_engine.specs.declared.salvaged.Salvaged.{Salvaged}
-use Rattle.hprof_engine.specs.declared.salvaged.SalvagedHeap.{SalvagedHeap}
-use Rattle.hprof_engine.specs.Through.{salvaged_in}
-use Rattle.hprof_engine.specs.Salvaging.{RefusesAll, Salvages}
+use Rattle.hprof_engine.specs.Salvaging.{RefusesAll, Salvages, SavesAll, StopsWriting}
+use Rattle.hprof_stored.specs.SalvagingStored.{SalvagesStored, WritesFrontOrNothing}
 use Rattle.hprof_tool.specs.Folder.{Answered, AreOpened}
 use Rattle.hprof_tool.specs.declared.program.refused.Refused.{Refused}
 use Rattle.hprof_tool.specs.declared.program.refused.Refused.TheVariants as refusals
@@ -23,14 +23,33 @@ use Rattle.hprof_tool.specs.Program.{usual_limits, refused_of, IsOfStarting}
 use Rattle.hprof_tool.specs.SalvagedFiles.{SalvagesStream, SalvagesFiles, IsSalvageRefusal}
 
 module _ {R : Type 0} (left : R → Option (List ℕ)) (health : R → Health) (pulls : R → ℕ) (old new : List R) where
+  -- what saving came to, of what holds this and is so, before and afterwards
+  module _ {W : Type 0} (written : W → Option (List ℕ)) (well : W → Health) where
+    abbrev IsSaved : (before after : W) → Result Salvaged ToolFault → Type 0
+    IsSaved before after ended = Salvages left health pulls usual_limits old new written well before after ended
+
+    abbrev IsStored : (before after : W) → Result Salvaged ToolFault → Type 0
+    IsStored before after ended = SalvagesStored left health pulls usual_limits old new written well before after ended
+
   -- what saving came to, of a stream that held this and was so, and holds that and is so
-  abbrev pub OfStream : (held : Option (List ℕ)) (was : Health) (holds : Option (List ℕ)) (is : Health) → Result Salvaged ToolFault → Type 0
-  OfStream held was holds is ended = Salvages left health pulls usual_limits old new {W = Option (List ℕ) × Health} (λ stream. stream.0)
-      (λ stream. stream.1) (held, was) (holds, is) ended
+  module _ (held : Option (List ℕ)) (was : Health) (holds : Option (List ℕ)) (is : Health) (ended : Result Salvaged ToolFault) where
+    abbrev pub OfHeap : Type 0
+    OfHeap = IsSaved {W = Option (List ℕ) × Health} (λ stream. stream.0) (λ stream. stream.1) (held, was) (holds, is) ended
+
+    -- objects were read again
+    abbrev pub OfStored : Type 0
+    OfStored = IsStored {W = Option (List ℕ) × Health} (λ stream. stream.0) (λ stream. stream.1) (held, was) (holds, is) ended
+
+    abbrev pub OfStream : Type 0
+    OfStream = OfHeap ⊎ OfStored
 
   -- ---- a device that is taken apart
 
   module _ {W : Type 0} (written : W → Option (List ℕ)) (well : W → Health) (before after : W) where
+    -- it is as it was
+    same_stream : after ≡ before → ◌≡◌ {A = Option (List ℕ) × Health} (written after, well after) (written before, well before)
+    same_stream same = ap (λ (w : W). (written w, well w)) same
+
     -- nothing was written
     untouched : (refusal : Refusal) → RefusesAll left health pulls usual_limits old new written well before after refusal
         → RefusesAll left health pulls usual_limits old new {W = Option (List ℕ) × Health} (λ stream. stream.0) (λ stream. stream.1)
@@ -38,13 +57,14 @@ module _ {R : Type 0} (left : R → Option (List ℕ)) (health : R → Health) (
     untouched refusal is = record {
       reads = is.reads;
       through = is.through;
-      unwritten = ap (λ (w : W). (written w, well w)) is.unwritten;
+      unwritten = same_stream is.unwritten;
     }
 
-    -- what it holds, and its health
-    pub shown_saving : (ended : Result Salvaged ToolFault) → Salvages left health pulls usual_limits old new written well before after ended
-        → OfStream (written before) (well before) (written after) (well after) ended
-    shown_saving (Ok salvaged) is = record {
+    -- all was written
+    all_saved : (salvaged : Salvaged) → SavesAll left health pulls usual_limits old new written well before after salvaged
+        → SavesAll left health pulls usual_limits old new {W = Option (List ℕ) × Health} (λ stream. stream.0) (λ stream. stream.1)
+        (written before, well before) (written after, well after) salvaged
+    all_saved salvaged is = record {
       reads = is.reads;
       heap = is.heap;
       through = is.through;
@@ -54,12 +74,12 @@ module _ {R : Type 0} (left : R → Option (List ℕ)) (health : R → Health) (
       wrote = is.wrote;
       is_well = is.is_well;
     }
-    shown_saving (Err (tool.Part index fault)) is = (is.0, ap (λ (w : W). (written w, well w)) is.1)
-    shown_saving (Err tool.NoParts) is = untouched _ is
-    shown_saving (Err tool.IdSizes) is = untouched _ is
-    shown_saving (Err (tool.Conflict key)) is = untouched _ is
-    shown_saving (Err (tool.Refused refusal)) is = absurd is
-    shown_saving (Err (tool.Write fault)) is = record {
+
+    -- the writer failed
+    stopped : (fault : WriteFault) → StopsWriting left health pulls usual_limits old new written well before after fault
+        → StopsWriting left health pulls usual_limits old new {W = Option (List ℕ) × Health} (λ stream. stream.0) (λ stream. stream.1)
+        (written before, well before) (written after, well after) fault
+    stopped fault is = record {
       reads = is.reads;
       heap = is.heap;
       through = is.through;
@@ -67,16 +87,71 @@ module _ {R : Type 0} (left : R → Option (List ℕ)) (health : R → Health) (
       wrote = is.wrote;
       ill = is.ill;
     }
-    shown_saving (Err (tool.Lost loss)) is = absurd is
-    shown_saving (Err tool.OutOfMemory) is = (is.0, ap (λ (w : W). (written w, well w)) is.1)
+
+    -- a front was written, or nothing
+    front_or_nothing : WritesFrontOrNothing left health pulls usual_limits old new written well before after
+        → WritesFrontOrNothing left health pulls usual_limits old new {W = Option (List ℕ) × Health} (λ stream. stream.0)
+        (λ stream. stream.1) (written before, well before) (written after, well after)
+    front_or_nothing is = elim is [
+      | inl same ↦ inl (same_stream same)
+      | inr front ↦ inr (λ parts told.
+          let it = front parts told in
+          record {
+            reads = it.reads;
+            heap = it.heap;
+            through = it.through;
+            count = it.count;
+            wrote = it.wrote;
+          })
+    ]
+
+    -- what it holds, and its health
+    shown_of_heap : (ended : Result Salvaged ToolFault) → IsSaved written well before after ended
+        → OfHeap (written before) (well before) (written after) (well after) ended
+    shown_of_heap (Ok salvaged) is = all_saved salvaged is
+    shown_of_heap (Err (tool.Part index fault)) is = (is.0, same_stream is.1)
+    shown_of_heap (Err tool.NoParts) is = untouched _ is
+    shown_of_heap (Err tool.IdSizes) is = untouched _ is
+    shown_of_heap (Err (tool.Conflict key)) is = untouched _ is
+    shown_of_heap (Err (tool.Refused refusal)) is = absurd is
+    shown_of_heap (Err (tool.Write fault)) is = stopped fault is
+    shown_of_heap (Err (tool.Lost loss)) is = absurd is
+    shown_of_heap (Err tool.OutOfMemory) is = (is.0, same_stream is.1)
+
+    -- the same where objects were read again
+    shown_of_stored : (ended : Result Salvaged ToolFault) → IsStored written well before after ended
+        → OfStored (written before) (well before) (written after) (well after) ended
+    shown_of_stored (Ok salvaged) is = record {
+      read = is.read;
+      listed = is.listed;
+      is_well = is.is_well;
+      saves = λ parts told. all_saved salvaged (is.saves parts told);
+    }
+    shown_of_stored (Err (tool.Part index fault)) is = (is.0, same_stream is.1)
+    shown_of_stored (Err tool.NoParts) is = untouched _ is
+    shown_of_stored (Err tool.IdSizes) is = untouched _ is
+    shown_of_stored (Err (tool.Conflict key)) is = (same_stream is.0, λ parts told. untouched _ (is.1 parts told))
+    shown_of_stored (Err (tool.Refused refusal)) is = absurd is
+    shown_of_stored (Err (tool.Write fault)) is = (is.0, λ parts told. stopped fault (is.1 parts told))
+    shown_of_stored (Err (tool.Lost loss)) is = (front_or_nothing is.0, is.1)
+    shown_of_stored (Err tool.OutOfMemory) is = elim is [
+      | inl none ↦ inl (none.0, same_stream none.1)
+      | inr all ↦ inr (all.0, all.1, front_or_nothing all.2)
+    ]
+
+    pub shown_saving : (ended : Result Salvaged ToolFault) → IsSaved written well before after ended ⊎ IsStored written well before after ended
+        → OfStream (written before) (well before) (written after) (well after) ended
+    shown_saving ended is = elim is [
+      | inl heap ↦ inl (shown_of_heap ended heap)
+      | inr stored ↦ inr (shown_of_stored ended stored)
+    ]
 
   -- ---- a buffer that is flushed
 
-  module _ (held holds end : Option (List ℕ)) (was is : Health) (keeps : Keeps holds end) (salvaged : Salvaged)
-      (saves : OfStream held was holds is (Ok salvaged)) where
+  module _ (held holds end : Option (List ℕ)) (was is : Health) (keeps : Keeps holds end) (salvaged : Salvaged) where
     -- all was written, and what is held stays
-    kept_saving : OfStream held was end healths.Well (Ok salvaged)
-    kept_saving = record {
+    kept_of_heap : OfHeap held was holds is (Ok salvaged) → OfHeap held was end healths.Well (Ok salvaged)
+    kept_of_heap saves = record {
       reads = saves.reads;
       heap = saves.heap;
       through = saves.through;
@@ -87,9 +162,20 @@ module _ {R : Type 0} (left : R → Option (List ℕ)) (health : R → Health) (
       is_well = refl;
     }
 
+    kept_saving : OfStream held was holds is (Ok salvaged) → OfStream held was end healths.Well (Ok salvaged)
+    kept_saving saves = elim saves [
+      | inl heap ↦ inl (kept_of_heap heap)
+      | inr stored ↦ inr (record {
+        read = stored.read;
+        listed = stored.listed;
+        is_well = refl;
+        saves = λ parts told. kept_of_heap (stored.saves parts told);
+      })
+    ]
+
     -- all was written, and then the writer failed
-    failed_saving : OfStream held was end healths.Failed (Err (tool.Write write_faults.Failed))
-    failed_saving =
+    failed_of_heap : OfHeap held was holds is (Ok salvaged) → OfHeap held was end healths.Failed (Err (tool.Write write_faults.Failed))
+    failed_of_heap saves =
         let dump : List ℕ = canonical_dump saves.heap.ids saves.heap.millis saves.heap.facts in
         record {
           reads = saves.reads;
@@ -100,39 +186,43 @@ module _ {R : Type 0} (left : R → Option (List ℕ)) (health : R → Health) (
           ill = refl;
         }
 
+    failed_saving : OfStream held was holds is (Ok salvaged) → OfStream held was end healths.Failed (Err (tool.Write write_faults.Failed))
+    failed_saving saves = elim saves [
+      | inl heap ↦ inl (failed_of_heap heap)
+      | inr stored ↦ inr (refl, λ parts told. failed_of_heap (stored.saves parts told))
+    ]
+
   module _ (held holds end : Option (List ℕ)) (was is : Health) where
     -- what was saved, and then flushed
-    flushed_saving : (made outcome : Result SalvagedHeap ToolFault) → OfStream held was holds is (salvaged_in made)
+    flushed_saving : (made outcome : Result Salvaged ToolFault) → OfStream held was holds is made
         → IfOk outcome (λ value. made ≡ Ok value) → OnOk made (OnErr outcome (outcome ≡ Err (tool.Write write_faults.Failed)))
         → IfErr made (λ fault. outcome ≡ Err fault) → Keeps holds end → OnErr made (end ≡ holds)
-        → (last : Health) × OfStream held was end last (salvaged_in outcome)
-    flushed_saving (Ok kept) (Ok value) saves done failed refused keeps same = (
+        → (last : Health) × OfStream held was end last outcome
+    flushed_saving (Ok salvaged) (Ok value) saves done failed refused keeps same = (
       healths.Well,
-      subst (λ (o : Result SalvagedHeap ToolFault). OfStream held was end healths.Well (salvaged_in o)) done
-          (kept_saving held holds end was is keeps kept.salvaged saves),
+      subst (OfStream held was end healths.Well) done (kept_saving held holds end was is keeps salvaged saves),
     )
-    flushed_saving (Ok kept) (Err fault) saves done failed refused keeps same = (
+    flushed_saving (Ok salvaged) (Err fault) saves done failed refused keeps same = (
       healths.Failed,
-      subst (λ (o : Result SalvagedHeap ToolFault). OfStream held was end healths.Failed (salvaged_in o)) (sym failed)
-          (failed_saving held holds end was is keeps kept.salvaged saves),
+      subst (OfStream held was end healths.Failed) (sym failed) (failed_saving held holds end was is keeps salvaged saves),
     )
     flushed_saving (Err fault) outcome saves done failed refused keeps same = (
       is,
-      subst (λ (o : Result SalvagedHeap ToolFault). OfStream held was end is (salvaged_in o)) (sym refused)
+      subst (OfStream held was end is) (sym refused)
           (subst (λ (h : Option (List ℕ)). OfStream held was h is (Err fault)) (sym same) saves),
     )
 
     -- the same of the stream that was there at first, and is at last
-    pub streamed_saving : (first last : Option (List ℕ)) (made outcome : Result SalvagedHeap ToolFault) → held ≡ first
-        → was ≡ healths.Well → end ≡ last → OfStream held was holds is (salvaged_in made) → IfOk outcome (λ value. made ≡ Ok value)
+    pub streamed_saving : (first last : Option (List ℕ)) (made outcome : Result Salvaged ToolFault) → held ≡ first
+        → was ≡ healths.Well → end ≡ last → OfStream held was holds is made → IfOk outcome (λ value. made ≡ Ok value)
         → OnOk made (OnErr outcome (outcome ≡ Err (tool.Write write_faults.Failed))) → IfErr made (λ fault. outcome ≡ Err fault)
-        → Keeps holds end → OnErr made (end ≡ holds) → SalvagesStream left health pulls old new first last (salvaged_in outcome)
+        → Keeps holds end → OnErr made (end ≡ holds) → SalvagesStream left health pulls old new first last outcome
     streamed_saving first last made outcome at_first well at_last saves done failed refused keeps same =
         let it = flushed_saving made outcome saves done failed refused keeps same in (
           it.0,
-          subst (λ (h : Option (List ℕ)). OfStream h healths.Well last it.0 (salvaged_in outcome)) at_first
-              (subst (λ (w : Health). OfStream held w last it.0 (salvaged_in outcome)) well
-              (subst (λ (h : Option (List ℕ)). OfStream held was h it.0 (salvaged_in outcome)) at_last it.1)),
+          subst (λ (h : Option (List ℕ)). OfStream h healths.Well last it.0 outcome) at_first
+              (subst (λ (w : Health). OfStream held w last it.0 outcome) well
+              (subst (λ (h : Option (List ℕ)). OfStream held was h it.0 outcome) at_last it.1)),
         )
 
 -- ---- files

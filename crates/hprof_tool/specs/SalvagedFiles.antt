@@ -1,5 +1,5 @@
 -- What saving what can be saved of files comes to.
-use Rattle.std.specs.Prelude.{ℕ, List, Option, Result, Ok, Err}
+use Rattle.std.specs.Prelude.{◌⊎◌, ℕ, List, Option, Result, Ok, Err}
 use Rattle.std.specs.Borrow.{Bor}
 use Rattle.std.specs.Io.KnownBytes.{append_known}
 use Rattle.hprof_devices.specs.declared.health.Health.{Health}
@@ -8,18 +8,21 @@ use Rattle.hprof_engine.specs.declared.tool_fault.ToolFault.{ToolFault}
 use Rattle.hprof_engine.specs.declared.tool_fault.ToolFault.TheVariants as tool
 use Rattle.hprof_engine.specs.declared.salvaged.Salvaged.{Salvaged}
 use Rattle.hprof_engine.specs.Salvaging.{Salvages}
+use Rattle.hprof_stored.specs.SalvagingStored.{SalvagesStored}
 use Rattle.hprof_tool.specs.declared.program.refused.Refused.{Refused}
 use Rattle.hprof_tool.specs.declared.program.refused.Refused.TheVariants as refusals
 use Rattle.hprof_tool.specs.Folder.{Answered, AreOpened, CannotOpenAt}
 use Rattle.hprof_tool.specs.Program.{usual_limits}
 
--- as `Salvages` with the usual limits, for a stream whose health nothing tells
+-- as `Salvages` with the usual limits, or, where objects are read again, as `SalvagesStored`, for a stream whose health nothing tells
 --   held, holds: what the stream and the buffer before it hold, before and afterwards, where the stream tells
 abbrev pub SalvagesStream : {R : Type 0} → (R → Option (List ℕ)) → (R → Health) → (R → ℕ) → (old new : List R)
     → (held holds : Option (List ℕ)) → Result Salvaged ToolFault → Type 0
 SalvagesStream left health pulls old new held holds ended = (end : Health)
-    × Salvages left health pulls usual_limits old new {W = Option (List ℕ) × Health} (λ stream. stream.0) (λ stream. stream.1)
+    × (Salvages left health pulls usual_limits old new {W = Option (List ℕ) × Health} (λ stream. stream.0) (λ stream. stream.1)
     (held, healths.Well) (holds, end) ended
+    ⊎ SalvagesStored left health pulls usual_limits old new {W = Option (List ℕ) × Health} (λ stream. stream.0) (λ stream. stream.1)
+    (held, healths.Well) (holds, end) ended)
 
 -- the parts of these names were opened, and saving what can be saved of them, to a stream that held this before and that afterwards,
 -- came to that

@@ -5,7 +5,8 @@ ghost use Rattle.hprof_devices.specs.declared.health.Health.TheVariants.{Well};
 ghost use Rattle.hprof_devices.specs.Device.{health_of};
 
 use crate::engine::{
-    Call, Ways, outcome_of, plain, readers_of, target_of, text_of_difference, text_of_fault,
+    Answer, Call, Ways, of_salvaged, outcome_of, plain, readers_of, target_of, text_of_difference,
+    text_of_fault,
 };
 use crate::outcome::Outcome;
 use crate::streams::{Reader, Writer};
@@ -18,7 +19,7 @@ use hprof_making::make_stored;
 use hprof_objects::Keeping;
 use hprof_parts::Slices;
 use hprof_runs::MemoryScratch;
-use hprof_stored::join_stored;
+use hprof_stored::{join_stored, salvage_stored};
 use hprof_stored101::join101_stored;
 use hprof_stream::Limits;
 use std::alloc::{AllocError, Global};
@@ -81,8 +82,8 @@ fn compare_stored(
     }
 }
 
-/// Makes the call of parts whose objects are kept so, and returns the text of its answer, if it can be made so. `done` is that of a call
-/// that was done.
+/// Makes the call of parts whose objects are kept so, and returns its answer, if it can be made so. `done` is the text of a call that was
+/// done.
 fn answer_stored(
     alloc: Global,
     call: Call<'_>,
@@ -92,7 +93,7 @@ fn answer_stored(
     limits: Limits,
     keeping: Keeping,
     done: &str,
-) -> Result<Option<String>, AllocError>
+) -> Result<Option<Answer>, AllocError>
     requires readers { All (λ reader. health_of reader ≡ Well) readers.old }
     requires writer { health_of target.old ≡ Well }
 {
@@ -101,6 +102,10 @@ fn answer_stored(
     let answer = match call {
         Call::Join => join_stored(alloc, readers, &again, limits, keeping, scratch, target),
         Call::Join101 => join101_stored(alloc, readers, &again, limits, keeping, scratch, target),
+        Call::Salvage => {
+            let answer = salvage_stored(alloc, readers, &again, limits, keeping, scratch, target);
+            return Ok(Some(of_salvaged(alloc, answer)?));
+        }
         Call::Report(report) => {
             let Some(report) = PassedReport::of(report) else {
                 return Ok(None);
@@ -111,11 +116,11 @@ fn answer_stored(
         }
         Call::Diff => {
             let answer = compare_stored(alloc, parts, readers, target, limits, keeping);
-            return Ok(Some(text_of_difference(alloc, answer)?));
+            return Ok(Some(plain(alloc, text_of_difference(alloc, answer)?)));
         }
         _ => return Ok(None),
     };
-    Ok(Some(text_of(alloc, done, answer)?))
+    Ok(Some(plain(alloc, text_of(alloc, done, answer)?)))
 }
 
 /// Makes the call of parts whose objects are kept so, and returns its result, if it can be made so. `done` is the answer of a call that was
@@ -130,7 +135,7 @@ fn made_stored(
 ) -> Result<Option<Outcome>, AllocError> {
     let mut readers = readers_of(alloc, parts, ways.feed)?;
     let mut target = target_of(alloc, ways.room);
-    let Some(text) = answer_stored(
+    let Some(answer) = answer_stored(
         alloc,
         call,
         parts,
@@ -143,7 +148,7 @@ fn made_stored(
     else {
         return Ok(None);
     };
-    let found = outcome_of(plain(alloc, text), readers, target.into_inner());
+    let found = outcome_of(answer, readers, target.into_inner());
     Ok(Some(found))
 }
 

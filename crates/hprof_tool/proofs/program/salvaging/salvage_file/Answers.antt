@@ -21,8 +21,15 @@ remove_out-requires g c = (
       (sym c.as_str-name.ensures) c.in_ok-parts.ensures.created,
 )
 
-pub returns-in-Ok-clause-ok : goal.returns-in-Ok-clause-ok
-returns-in-Ok-clause-ok g c =
+pub remove_out-requires-in-Err : goal.remove_out-requires-in-Err
+remove_out-requires-in-Err g c = (
+  writer_inner c.in_ok-parts.field-0.buffered,
+  subst (λ (name : List ℕ). (g.F.Folder.answered c.args.files.now).IsCreated name (writer_inner c.in_ok-parts.field-0.buffered))
+      (sym c.as_str-name.ensures) c.in_ok-parts.ensures.created,
+)
+
+pub returns-in-Ok-outcome-clause-ok : goal.returns-in-Ok-outcome-clause-ok
+returns-in-Ok-outcome-clause-ok g c =
     let answered = g.F.Folder.answered c.args.files.now in
     let contents = g.F.Out.Write.contents in
     let buffered = c.in_ok-parts.field-0.buffered in
@@ -31,20 +38,20 @@ returns-in-Ok-clause-ok g c =
     c.in_ok-parts.ensures.opened in
     let empty : writer_contents contents buffered ≡ contents (writer_inner buffered) =
     ap (append_known (contents (writer_inner buffered))) c.in_ok-parts.ensures.empty ∙ none_added (contents (writer_inner buffered)) in
-    let flushed = rw c.in-Ok.is at made.ensures.flushed in
+    let flushed = rw c.in-Ok-outcome.is at made.ensures.flushed in
     let whole : append_known (contents made.result.writer) made.result.unwritten.items ≡ contents made.result.writer =
     rw (flushed, none_added (contents made.result.writer)) in
-    let saves = rw c.in-Ok.is at made.ensures.salvages in (
+    let saves = rw c.in-Ok-outcome.is at made.ensures.salvages in (
       writer_inner buffered,
       c.in_ok-parts.ensures.created,
       files_saved answered g.F.Part.Source.left g.F.Part.Source.health g.F.Part.Source.pulls contents c.args.names.now c.args.out.name.now
           c.deref_mut.result.now made.new.readers opened (writer_inner buffered) made.result.writer made.result.unwritten.items
-          (contents made.result.writer) (Ok c.in-Ok.kept.salvaged)
+          (contents made.result.writer) (Ok c.in-Ok-outcome.salvaged)
           (subst (λ (holds : Option (List ℕ)). SalvagesStream g.F.Part.Source.left g.F.Part.Source.health g.F.Part.Source.pulls
-          c.deref_mut.result.now made.new.readers (contents (writer_inner buffered)) holds (Ok c.in-Ok.kept.salvaged)) whole
+          c.deref_mut.result.now made.new.readers (contents (writer_inner buffered)) holds (Ok c.in-Ok-outcome.salvaged)) whole
           (subst (λ (held : Option (List ℕ)). SalvagesStream g.F.Part.Source.left g.F.Part.Source.health g.F.Part.Source.pulls
           c.deref_mut.result.now made.new.readers held (append_known (contents made.result.writer) made.result.unwritten.items)
-          (Ok c.in-Ok.kept.salvaged)) empty saves)),
+          (Ok c.in-Ok-outcome.salvaged)) empty saves)),
     )
 
 pub returns-clause-refused : goal.returns-clause-refused
@@ -65,4 +72,9 @@ returns-clause-refused g c =
     (subst (λ (held : Option (List ℕ)). SalvagesStream g.F.Part.Source.left g.F.Part.Source.health g.F.Part.Source.pulls
     c.deref_mut.result.now made.new.readers held (append_known (contents made.result.writer) made.result.unwritten.items)
     (Err c.in-Err.fault)) empty saves) c.in_ok-parts.ensures.created
-    (subst answered.HasNone c.as_str-name.ensures c.remove_out.ensures))
+    (subst answered.HasNone c.as_str-name.ensures c.remove_out-in-Err.ensures))
+
+-- there was no memory to read parts again
+
+pub returns-in_default-clause-refused : goal.returns-in_default-clause-refused
+returns-in_default-clause-refused g c = subst (g.F.Folder.answered c.args.files.now).HasNone c.as_str-name.ensures c.remove_out.ensures
