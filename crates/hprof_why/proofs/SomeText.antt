@@ -34,7 +34,7 @@ module _ (P Q : Edge → Type 0) (ids : IdSize) (facts : List FactValue) (found 
   links_same _ _ _ (OneLink from to nodes edge links least rest) =
       OneLink from to nodes edge links (least_of_same P Q ids facts same from to (Some edge) least) (links_same to nodes links rest)
 
-  told_same : (distance : ℕ) (nodes text : List ℕ) → IsToldPath P ids facts found distance nodes text
+  pub told_same : (distance : ℕ) (nodes text : List ℕ) → IsToldPath P ids facts found distance nodes text
       → IsToldPath Q ids facts found distance nodes text
   told_same distance nodes text told = record {
     first = told.first;
@@ -104,7 +104,7 @@ module _ (ids : IdSize) (facts : List FactValue) (agree : IsConsistent facts) wh
     ]
 
     -- what is found of an edge tells whether it is strong
-    told_strong : (edges : EdgeFindings) → AreEdgeFindings ids facts edges → (edge : Edge) → IsEdge ids facts edge
+    pub told_strong : (edges : EdgeFindings) → AreEdgeFindings ids facts edges → (edge : Edge) → IsEdge ids facts edge
         → (edges.is_weak edge ≡ false) ↔ IsStrong facts edge
     told_strong edges are edge is = (
       λ e weak. both_ways (edges.is_weak edge) e ((are.weak edge is).1 weak),
@@ -114,7 +114,7 @@ module _ (ids : IdSize) (facts : List FactValue) (agree : IsConsistent facts) wh
       by true e strong = absurd (strong ((are.weak edge is).0 e))
       by false e strong = e
 
-    no_answer : (b : Bool) → (b ≡ false) ⊎ (b ≡ false → ⊥)
+    pub no_answer : (b : Bool) → (b ≡ false) ⊎ (b ≡ false → ⊥)
     no_answer true = inr (λ e. absurd cc)
     no_answer false = inl refl
 
