@@ -8,6 +8,7 @@ pub mod SomeLinks
 pub mod SomeText
 pub mod OneText
 pub mod Reaching
+mod HowReached
 mod WhyInSmall
 mod WhyHeaps
 pub mod Stretches

@@ -1,6 +1,6 @@
 -- How an identifier is reached, told in words, is the report on it.
 use Rattle.std.specs.Prelude.{◌↔◌}
-use Rattle.std.proofs.Common.{◌≡◌, ℕ, Bool, true, false, List, ◌++◌, Option, Some, None, codes, inl, inr, refl}
+use Rattle.std.proofs.Common.{◌≡◌, ℕ, false, List, ◌++◌, Option, Some, None, codes, inl, inr, refl}
 use Rattle.hprof_values.specs.declared.ids.IdSize.{IdSize}
 use Rattle.hprof_items.specs.FactValue.{FactValue}
 use Rattle.hprof_rows.specs.Conflict.{IsConsistent}
@@ -29,7 +29,8 @@ module _ (ids : IdSize) (facts : List FactValue) (agree : IsConsistent facts) (f
   told_by_strong path is =
       let Told = λ (edge : Edge). found.edges.is_weak edge ≡ false in
       let same = told_strong ids facts agree found id found.edges are.are_edges in
-      let back = λ (edge : Edge) (edge_is : IsEdge ids facts edge). ((same edge edge_is).1, (same edge edge_is).0) in
+      let back : (edge : Edge) → IsEdge ids facts edge → IsStrong facts edge ↔ (found.edges.is_weak edge ≡ false) =
+      λ edge edge_is. ((same edge edge_is).1, (same edge edge_is).0) in
       let some = told_exists Told ids facts agree (λ edge. no_answer ids facts agree found id (found.edges.is_weak edge)) found id
       path.distance path.nodes.items (same_path (IsStrong facts) Told ids facts back id (Some path.nodes.items) is.1) in
       (some.0, told_same Told (IsStrong facts) ids facts found same path.distance path.nodes.items some.0 some.1)

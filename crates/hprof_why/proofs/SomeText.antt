@@ -19,7 +19,6 @@ use Rattle.hprof_holders.specs.Steps.{AreEdgeFindings, EdgeFindings}
 use Rattle.hprof_holders.proofs.SomeSteps.{names_exist}
 use Rattle.hprof_holders.proofs.SomeThreads.{threads_exist}
 use Rattle.hprof_why.specs.Folding.{Link}
-use Rattle.hprof_why.specs.Paths.{IsOtherwise}
 use Rattle.hprof_why.specs.WhyText.{AreLinks, ArePathFindings, IsFoundText, IsReachedBy, IsReachedText, IsToldPath, IsWhyText, NoLink}
 use Rattle.hprof_why.specs.WhyText.{OneLink, PathFindings}
 use Rattle.hprof_why.proofs.SomeLinks.{told_exists}
@@ -62,7 +61,13 @@ module _ (P Q : Edge → Type 0) (ids : IdSize) (facts : List FactValue) (found 
 
 -- ---- what there is
 
-pub otherwise_is : (ids : IdSize) (facts : List FactValue) (found : PathFindings) (id : ℕ) (text : List ℕ)
+-- the report on an identifier that no strong edges lead to
+abbrev IsOtherwise : IdSize → List FactValue → PathFindings → ℕ → List ℕ → Type 0
+IsOtherwise ids facts found id text =
+    ((path : List ℕ) × IsReachedBy AnyEdge ids facts found id path × (text ≡ codes "only by weak references\n" ++ path))
+    ⊎ (IsDistanceBy AnyEdge ids facts id None × (text ≡ codes "not reached\n"))
+
+otherwise_is : (ids : IdSize) (facts : List FactValue) (found : PathFindings) (id : ℕ) (text : List ℕ)
     → IsDistanceBy (IsStrong facts) ids facts id None → IsOtherwise ids facts found id text → IsReachedText ids facts found id text
 otherwise_is ids facts found id text none (inl some) = inr (inl (none, some))
 otherwise_is ids facts found id text none (inr none_too) = inr (inr none_too)
@@ -97,7 +102,7 @@ module _ (ids : IdSize) (facts : List FactValue) (agree : IsConsistent facts) wh
       go (Some distance) None is_distance none = absurd (none distance is_distance.reaches)
       go None path none is_path = inr (same_distance P Q ids facts same id None none)
 
-    pub otherwise_exists : (text : List ℕ) × IsOtherwise ids facts found id text
+    otherwise_exists : (text : List ℕ) × IsOtherwise ids facts found id text
     otherwise_exists = elim (reached_or_not AnyEdge AnyEdge (λ edge. inl tt) (λ edge is. (λ any. any, λ any. any))) [
       | inl reached ↦ (codes "only by weak references\n" ++ reached.0, inl (reached.0, reached.1, refl))
       | inr none ↦ (codes "not reached\n", inr (none, refl))
@@ -118,7 +123,7 @@ module _ (ids : IdSize) (facts : List FactValue) (agree : IsConsistent facts) wh
     no_answer true = inr (λ e. absurd cc)
     no_answer false = inl refl
 
-    pub reached_exists : ArePathFindings ids facts found → (text : List ℕ) × IsReachedText ids facts found id text
+    reached_exists : ArePathFindings ids facts found → (text : List ℕ) × IsReachedText ids facts found id text
     reached_exists are = elim (reached_or_not (λ edge. found.edges.is_weak edge ≡ false) (IsStrong facts)
         (λ edge. no_answer (found.edges.is_weak edge)) (told_strong found.edges are.are_edges)) [
           | inl reached ↦ (reached.0, inl reached.1)

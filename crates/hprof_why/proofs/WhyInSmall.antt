@@ -1,7 +1,7 @@
 -- A path is told in the same words of a small heap that has all objects which they are read from.
 use Rattle.std.specs.Prelude.{◌↔◌, Contains, IsTrue}
-use Rattle.std.specs.List.{AllByRecursion, flat_map}
-use Rattle.std.proofs.Common.{◌≡◌, ℕ, List, [], ◌∷◌, ◌++◌, Option, Some, None, codes, inl, inr, refl, sym, ap, subst, ◌∙◌}
+use Rattle.std.specs.List.{flat_map}
+use Rattle.std.proofs.Common.{◌≡◌, ℕ, List, ◌∷◌, ◌++◌, Option, Some, None, codes, inl, inr, refl, sym, ap, subst, ◌∙◌}
 use Rattle.hprof_values.specs.declared.ids.IdSize.{IdSize}
 use Rattle.hprof_values.specs.declared.root.Root.{Root}
 use Rattle.hprof_items.specs.FactValue.{FactValue}
@@ -11,7 +11,7 @@ use Rattle.hprof_histogram.specs.Chosen.{is_among}
 use Rattle.hprof_histogram.proofs.Members.{Contains-from_in, IsIn}
 use Rattle.hprof_edges.specs.declared.edge.Edge.{Edge}
 use Rattle.hprof_edges.specs.Edges.{AnyEdge, IsEdge}
-use Rattle.hprof_edges.specs.LeastEdge.{IsEdgeBetween, IsLeastEdgeBy}
+use Rattle.hprof_edges.specs.LeastEdge.{IsLeastEdgeBy}
 use Rattle.hprof_naming.specs.Naming.{Naming}
 use Rattle.hprof_naming.proofs.Lookups.{class_once, object_once}
 use Rattle.hprof_reach.specs.Roots.{AreRootsOf}
@@ -141,13 +141,13 @@ module _ (ids : IdSize) (wanted : List ℕ) (all small : List FactValue) (agree 
     roots_text_is : (first : ℕ) (roots : List Root) → AreRootsOf all first roots → HasRootWords ids all wanted first
         → roots_text one.nodes one.threads roots ≡ roots_text other.nodes other.threads roots
     roots_text_is first roots are_roots words =
-        let alike = λ (root : Root) (there : Contains roots root). (λ (serial : ℕ) (thread : _ ≡ Some serial).
+        let alike : (root : Root) → Contains roots root → SameRoot one.nodes other.nodes one.threads root = λ root there serial thread.
         let it = (are_roots.exact root).0 there in
         elim (words serial (one.threads.object serial) (record { root = root; has = it.0; of = it.1; thread = thread })
         (are.are_threads.objects serial)) [
           | inl zero ↦ inl zero
           | inr of ↦ inr (sym (node_is (one.threads.object serial) of))
-        ]) in
+        ] in
         roots_same one.nodes other.nodes one.threads roots (all_of_each (SameRoot one.nodes other.nodes one.threads) roots alike)
         ∙ ap (λ (t : ThreadFindings). roots_text other.nodes t roots) (sym threads_is)
 

@@ -12,7 +12,7 @@ ghost use Rattle.hprof_why.specs.Paths.{IsReached, IsWithoutStrong};
 
 use crate::path::{Path, path_by_all, path_to};
 use hprof_edges::LeftOut;
-use hprof_heap::{Heap, holds_of_heap};
+use hprof_heap::Heap;
 use hprof_passes::{Objects, PassStop};
 use hprof_reach::{Reach, reach_over};
 use hprof_weak::weak_fields_over;
@@ -27,6 +27,25 @@ pub(crate) enum Reached {
     Weakly(Path),
     /// By no edges.
     Nowise,
+}
+
+/// Returns how an identifier of a heap with its objects in memory is reached, where no strong edges lead to it. `all` is the search by all
+/// edges; it is made, and kept there, if it is not there yet. If memory runs out, the answer is `AllocError`.
+fn reached_without_strong(
+    alloc: Global,
+    heap: &Heap,
+    all: &mut Option<Reach>,
+    id: u64,
+) -> Result<Reached, AllocError>
+    requires { IfSome all.old (IsReach (size_of heap.now) (facts_of heap.now)) }
+    ensures reached { IfOk result (IsWithoutStrong (size_of heap.now) (facts_of heap.now) id) }
+    ensures all { IfSome all.new (IsReach (size_of heap.now) (facts_of heap.now)) }
+{
+    let weakly = path_by_all(alloc, heap, all, id)?;
+    match weakly {
+        Some(path) => Ok(Reached::Weakly(path)),
+        None => Ok(Reached::Nowise),
+    }
 }
 
 /// Returns how an identifier of a heap with its objects in memory is reached. `strong` is the search without the weak fields, which are in
@@ -47,15 +66,10 @@ pub(crate) fn reached_of(
     ensures reached { IfOk result (IsReached (size_of heap.now) (facts_of heap.now) id) }
     ensures all { IfSome all.new (IsReach (size_of heap.now) (facts_of heap.now)) }
 {
-    holds_of_heap(heap);
     let strongly = path_to(alloc, strong, id)?;
-    if let Some(path) = strongly {
-        return Ok(Reached::Strongly(path));
-    }
-    let weakly = path_by_all(alloc, heap, all, id)?;
-    match weakly {
-        Some(path) => Ok(Reached::Weakly(path)),
-        None => Ok(Reached::Nowise),
+    match strongly {
+        Some(path) => Ok(Reached::Strongly(path)),
+        None => reached_without_strong(alloc, heap, all, id),
     }
 }
 
@@ -64,7 +78,7 @@ pub(crate) fn reached_of(
 /// # Errors
 ///
 /// Those of `reach_over`.
-fn reached_without_strong<O: Objects>(
+fn reached_without_strong_over<O: Objects>(
     alloc: Global,
     heap: &Heap,
     objects: &O,
@@ -110,13 +124,12 @@ pub(crate) fn reached_over<O: Objects>(
         Ok(strong) => strong,
         Err(stop) => return Err(stop),
     };
-    let strongly = match path_to(alloc, &strong, id) {
-        Ok(strongly) => strongly,
-        Err(fault) => return Err(PassStop::Sink(fault)),
-    };
-    if let Some(path) = strongly {
-        return Ok(Reached::Strongly(path));
+    match path_to(alloc, &strong, id) {
+        Ok(Some(path)) => Ok(Reached::Strongly(path)),
+        Ok(None) => {
+            drop(strong);
+            reached_without_strong_over(alloc, heap, objects, id)
+        }
+        Err(fault) => Err(PassStop::Sink(fault)),
     }
-    drop(strong);
-    reached_without_strong(alloc, heap, objects, id)
 }

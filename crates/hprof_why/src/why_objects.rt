@@ -1,12 +1,10 @@
 //! The objects that the report `why` names.
 
-ghost use Rattle.std.specs.Prelude.{◌≡◌, ◌∷◌, ℕ, List, Contains, IfOk, OnOk};
+ghost use Rattle.std.specs.Prelude.{◌≡◌, ◌++◌, ℕ, List, Contains, IfOk, OnOk};
 ghost use Rattle.std.specs.List.Sorted.{IsStrictlyIncreasing};
 ghost use Rattle.hprof_heap.specs.HeapFacts.{facts_of};
-ghost use Rattle.hprof_holders.specs.WhoObjects.{HasRootObjects};
 ghost use Rattle.hprof_why.specs.WhyObjects.{HasPathObjects, path_nodes};
 
-use crate::path::Path;
 use crate::reached::Reached;
 use hprof_heap::Heap;
 use hprof_holders::push_root_threads;
@@ -34,7 +32,7 @@ fn push_path(
     ensures grows { OnOk result ((more : List ℕ) × (nodes.new.items ≡ nodes.old.items ++ more)) }
     ensures has { OnOk result (HasPathObjects (facts_of heap.now) nodes.new.items path.now) }
 {
-    let Some((first, _)) = path.split_first() else {
+    let Some((first, _rest)) = path.split_first() else {
         return Ok(());
     };
     let threads = ThreadRoots::of(alloc, heap)?;

@@ -62,9 +62,9 @@ fn write_in_memory<W: Target>(
     write_told(alloc, tables.view(heap), id, reached, target)
 }
 
-/// Writes the report `why` on an identifier, as [`write_why`](crate::write_why) does. The heap has all facts but the objects, which are gone
-/// through three to eight times. Memory holds the identifiers of all nodes and the numbers of what each refers to, and then, of the objects,
-/// only these:
+/// Writes the report `why` on an identifier, as [`write_why`](crate::write_why) does. The heap has all facts but the objects, which are
+/// gone through three to eight times. Memory holds the identifiers of all nodes and the numbers of what each refers to, and then, of the
+/// objects, only these:
 ///
 /// - the object itself, and those on the path;
 /// - those of the threads of the roots of the first one;

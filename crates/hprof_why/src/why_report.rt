@@ -21,8 +21,8 @@ use hprof_lines::{nothing_line, write_line, write_str};
 use hprof_reach::Reach;
 use std::alloc::Global;
 
-/// Writes how an identifier is reached: the path by strong edges; or the line that tells that there is none, and the path by all; or that no
-/// edges lead there. If it stops, some of it was written, from the front.
+/// Writes how an identifier is reached: the path by strong edges; or the line that tells that there is none, and the path by all; or that
+/// no edges lead there. If it stops, some of it was written, from the front.
 fn write_reached<W: Target>(
     alloc: Global,
     view: HeapView<'_>,
