@@ -41,8 +41,8 @@ some_alike : (P : Root → Type 0) (roots : List Root) (none : Bool) → AllByRe
 some_alike P roots true all = tt
 some_alike P roots false all = all
 
-module _ (ids : IdSize) (wanted : List ℕ) (all small : List FactValue) (agree : IsConsistent all) (is : IsSmall ids wanted all small) (id : ℕ)
-    (has : HasWhoWords ids all wanted id) (text : List ℕ) (of : IsWhoText ids small id text) (whole : Findings)
+module _ (ids : IdSize) (wanted : List ℕ) (all small : List FactValue) (agree : IsConsistent all) (is : IsSmall ids wanted all small)
+    (id : ℕ) (has : HasWhoWords ids all wanted id) (text : List ℕ) (of : IsWhoText ids small id text) (whole : Findings)
     (are : AreFindings ids all whole) (names : EdgeFindings) (are_names : AreEdgeFindings ids all names) where
   abbrev others : Findings
   others = with_others of.found whole.object whole.text whole.thread_name

@@ -31,8 +31,8 @@ pub fn one_who_text()
         → IsWhoText ids facts id other → one ≡ other }
 {}
 
-/// The report `who` on an identifier depends on few objects: the object itself, those that refer to it, those of the threads of its roots, and
-/// those that the words for them are read from. A heap that has of all objects only some, and these among them, has the same report.
+/// The report `who` on an identifier depends on few objects: the object itself, those that refer to it, those of the threads of its roots,
+/// and those that the words for them are read from. A heap that has of all objects only some, and these among them, has the same report.
 pub fn who_depends_on_few_objects()
     ensures { (ids : IdSize) (wanted : List ℕ) (all small : List FactValue) (id : ℕ) (text : List ℕ) → IsConsistent all
         → IsSmall ids wanted all small → HasWhoWords ids all wanted id → IsWhoText ids small id text → IsWhoText ids all id text }

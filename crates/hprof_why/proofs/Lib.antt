@@ -7,5 +7,8 @@ pub mod SomeParts
 pub mod SomeLinks
 pub mod SomeText
 pub mod OneText
-pub mod Finding
+pub mod Reaching
+mod HowReached
+mod WhyInSmall
+mod WhyHeaps
 pub mod Stretches

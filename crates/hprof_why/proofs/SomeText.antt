@@ -19,7 +19,6 @@ use Rattle.hprof_holders.specs.Steps.{AreEdgeFindings, EdgeFindings}
 use Rattle.hprof_holders.proofs.SomeSteps.{names_exist}
 use Rattle.hprof_holders.proofs.SomeThreads.{threads_exist}
 use Rattle.hprof_why.specs.Folding.{Link}
-use Rattle.hprof_why.specs.Paths.{IsOtherwise}
 use Rattle.hprof_why.specs.WhyText.{AreLinks, ArePathFindings, IsFoundText, IsReachedBy, IsReachedText, IsToldPath, IsWhyText, NoLink}
 use Rattle.hprof_why.specs.WhyText.{OneLink, PathFindings}
 use Rattle.hprof_why.proofs.SomeLinks.{told_exists}
@@ -34,7 +33,7 @@ module _ (P Q : Edge → Type 0) (ids : IdSize) (facts : List FactValue) (found 
   links_same _ _ _ (OneLink from to nodes edge links least rest) =
       OneLink from to nodes edge links (least_of_same P Q ids facts same from to (Some edge) least) (links_same to nodes links rest)
 
-  told_same : (distance : ℕ) (nodes text : List ℕ) → IsToldPath P ids facts found distance nodes text
+  pub told_same : (distance : ℕ) (nodes text : List ℕ) → IsToldPath P ids facts found distance nodes text
       → IsToldPath Q ids facts found distance nodes text
   told_same distance nodes text told = record {
     first = told.first;
@@ -62,7 +61,13 @@ module _ (P Q : Edge → Type 0) (ids : IdSize) (facts : List FactValue) (found 
 
 -- ---- what there is
 
-pub otherwise_is : (ids : IdSize) (facts : List FactValue) (found : PathFindings) (id : ℕ) (text : List ℕ)
+-- the report on an identifier that no strong edges lead to
+abbrev IsOtherwise : IdSize → List FactValue → PathFindings → ℕ → List ℕ → Type 0
+IsOtherwise ids facts found id text =
+    ((path : List ℕ) × IsReachedBy AnyEdge ids facts found id path × (text ≡ codes "only by weak references\n" ++ path))
+    ⊎ (IsDistanceBy AnyEdge ids facts id None × (text ≡ codes "not reached\n"))
+
+otherwise_is : (ids : IdSize) (facts : List FactValue) (found : PathFindings) (id : ℕ) (text : List ℕ)
     → IsDistanceBy (IsStrong facts) ids facts id None → IsOtherwise ids facts found id text → IsReachedText ids facts found id text
 otherwise_is ids facts found id text none (inl some) = inr (inl (none, some))
 otherwise_is ids facts found id text none (inr none_too) = inr (inr none_too)
@@ -97,14 +102,14 @@ module _ (ids : IdSize) (facts : List FactValue) (agree : IsConsistent facts) wh
       go (Some distance) None is_distance none = absurd (none distance is_distance.reaches)
       go None path none is_path = inr (same_distance P Q ids facts same id None none)
 
-    pub otherwise_exists : (text : List ℕ) × IsOtherwise ids facts found id text
+    otherwise_exists : (text : List ℕ) × IsOtherwise ids facts found id text
     otherwise_exists = elim (reached_or_not AnyEdge AnyEdge (λ edge. inl tt) (λ edge is. (λ any. any, λ any. any))) [
       | inl reached ↦ (codes "only by weak references\n" ++ reached.0, inl (reached.0, reached.1, refl))
       | inr none ↦ (codes "not reached\n", inr (none, refl))
     ]
 
     -- what is found of an edge tells whether it is strong
-    told_strong : (edges : EdgeFindings) → AreEdgeFindings ids facts edges → (edge : Edge) → IsEdge ids facts edge
+    pub told_strong : (edges : EdgeFindings) → AreEdgeFindings ids facts edges → (edge : Edge) → IsEdge ids facts edge
         → (edges.is_weak edge ≡ false) ↔ IsStrong facts edge
     told_strong edges are edge is = (
       λ e weak. both_ways (edges.is_weak edge) e ((are.weak edge is).1 weak),
@@ -114,11 +119,11 @@ module _ (ids : IdSize) (facts : List FactValue) (agree : IsConsistent facts) wh
       by true e strong = absurd (strong ((are.weak edge is).0 e))
       by false e strong = e
 
-    no_answer : (b : Bool) → (b ≡ false) ⊎ (b ≡ false → ⊥)
+    pub no_answer : (b : Bool) → (b ≡ false) ⊎ (b ≡ false → ⊥)
     no_answer true = inr (λ e. absurd cc)
     no_answer false = inl refl
 
-    pub reached_exists : ArePathFindings ids facts found → (text : List ℕ) × IsReachedText ids facts found id text
+    reached_exists : ArePathFindings ids facts found → (text : List ℕ) × IsReachedText ids facts found id text
     reached_exists are = elim (reached_or_not (λ edge. found.edges.is_weak edge ≡ false) (IsStrong facts)
         (λ edge. no_answer (found.edges.is_weak edge)) (told_strong found.edges are.are_edges)) [
           | inl reached ↦ (reached.0, inl reached.1)

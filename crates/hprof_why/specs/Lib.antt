@@ -3,3 +3,4 @@ pub mod WhyText
 pub mod Kinds
 pub mod Walks
 pub mod Paths
+pub mod WhyObjects

@@ -8,8 +8,12 @@ mod fronts;
 pub mod laws;
 mod parts;
 mod path;
+mod reached;
 mod told_path;
 mod walk;
+mod why_objects;
+mod why_over;
 mod why_report;
 
+pub use why_over::write_why_over;
 pub use why_report::write_why;

@@ -1,10 +1,11 @@
 //! A path that a search tells, with its distance.
 
-ghost use Rattle.std.specs.Prelude.{List, [], IfOk, IfSome};
+ghost use Rattle.std.specs.Prelude.{List, IfOk, IfSome};
 ghost use Rattle.hprof_values.specs.declared.ids.IdSize.{IdSize};
 ghost use Rattle.hprof_items.specs.FactValue.{FactValue};
 ghost use Rattle.hprof_heap.specs.HeapFacts.{facts_of, size_of};
 ghost use Rattle.hprof_edges.specs.declared.field_place.FieldPlace.{FieldPlace};
+ghost use Rattle.hprof_edges.specs.Edges.{AnyEdge};
 ghost use Rattle.hprof_edges.specs.LeftOut.{IsKept};
 ghost use Rattle.hprof_reach.specs.Reaching.{IsReach, IsReachBy};
 ghost use Rattle.hprof_why.specs.Paths.{IsPathTo};
@@ -44,7 +45,7 @@ pub(crate) fn path_by_all(
     id: u64,
 ) -> Result<Option<Path>, AllocError>
     requires { IfSome all.old (IsReach (size_of heap.now) (facts_of heap.now)) }
-    ensures path { IfOk result (IsPathTo (IsKept [] (facts_of heap.now)) (size_of heap.now) (facts_of heap.now) id) }
+    ensures path { IfOk result (IsPathTo AnyEdge (size_of heap.now) (facts_of heap.now) id) }
     ensures all { IfSome all.new (IsReach (size_of heap.now) (facts_of heap.now)) }
 {
     if let Some(reach) = all {

@@ -1,34 +1,36 @@
+use Rattle.std.proofs.Common.{◌≡◌, false, true, sym, subst}
+use Rattle.std.proofs.lemmas.Result.{err_from_is_err_and}
 use Rattle.hprof_heap.specs.HeapFacts.{facts_of, size_of}
-use Rattle.hprof_lines.specs.Line.{nothing_line}
-use Rattle.hprof_why.proofs.Finding.{why_nothing, why_reached}
-use Rattle.hprof_why.proofs.SomeText.{found_exist}
+use Rattle.hprof_lines.proofs.TextWriting.{text_unwritten}
+use Rattle.hprof_reach.specs.Reaching.{IsDumped}
+use Rattle.hprof_why.specs.Paths.{IsReached}
+use Rattle.hprof_why.proofs.Reaching.{why_told}
+use Rattle.hprof_why.proofs.SomeText.{found_exist, why_exists}
 use Rattle.hprof_why.proofs.why_report.write_why.Goals as goal
-use Rattle.hprof_why.proofs.why_report.write_why.Goals.{in_default-via-in-None+in_default, in_default-via-in_default}
+use Rattle.hprof_why.proofs.why_report.write_why.Goals.{then-is_dumped+in_ok-reached, else-is_dumped}
 
-pub returns-in-None-None-clause-bytes : goal.returns-in-None-None-clause-bytes
-returns-in-None-None-clause-bytes g c =
+-- memory was wanted before the first line
+pub returns-in_err-reached-clause-bytes : goal.returns-in_err-reached-clause-bytes
+returns-in_err-reached-clause-bytes g c =
+    let it = why_exists (size_of c.args.view.heap.now) (facts_of c.args.view.heap.now) c.holds_of_heap.ensures.agree c.args.id in
+    let r = c.from_residual in
+    let p = err_from_is_err_and r.result r.ensures.1 in
+    (it.0, it.1, text_unwritten r.result (g.W.Target.written c.args.target.now) p.0 it.0 p.1)
+
+pub returns-clause-bytes : goal.returns-clause-bytes
+returns-clause-bytes g c =
     let ids = size_of c.args.view.heap.now in
     let facts = facts_of c.args.view.heap.now in
     let agree = c.holds_of_heap.ensures.agree in
-    let found = found_exist ids facts agree in (
-      nothing_line c.args.id,
-      why_nothing ids facts agree found.0 found.1 c.args.id c.find_class.result c.find_object.result c.find_class.ensures
-          c.find_object.ensures c.in-None-None.is-0 c.in-None-None.is-1,
-      c.write_line.ensures.bytes (nothing_line c.args.id) c.nothing_line.ensures,
-    )
-
-pub returns-in_default-clause-bytes : goal.returns-in_default-clause-bytes
-returns-in_default-clause-bytes g c =
-    let ids = size_of c.args.view.heap.now in
-    let facts = facts_of c.args.view.heap.now in
-    let agree = c.holds_of_heap.ensures.agree in
+    let id = c.args.id in
+    let how = c.if-is_dumped.reached in
+    let is : IsDumped facts id → IsReached ids facts id how = λ dumped. elim c.if-is_dumped.branch [
+      | then-is_dumped+in_ok-reached w ↦ subst (IsReached ids facts id) (sym w.reached-is) w.in_ok-reached.ensures.reached
+      | else-is_dumped w ↦
+          let told : c.is_dumped.result ≡ true = c.is_dumped.ensures.1 dumped in
+          let not : c.is_dumped.result ≡ false = w.if-is_dumped.false in
+          absurd cc
+    ] in
     let found = found_exist ids facts agree in
-    let it = c.write_reached.ensures.bytes found.0 found.1 in (
-      it.0,
-      why_reached ids facts agree found.0 found.1 c.args.id c.find_class.result c.find_object.result c.find_class.ensures
-          c.find_object.ensures (λ no_class no_object. elim c.in_default.branch [
-            | in_default-via-in-None+in_default w ↦ let some = w.in_default.is-1 in cc
-            | in_default-via-in_default w ↦ let some = w.in_default.is-0 in cc
-          ]) it.0 it.1,
-      it.2,
-    )
+    let told = why_told ids facts agree found.0 found.1 id how is in
+    (told.0, told.2, c.write_told.ensures.bytes found.0 told.0 found.1 told.1)

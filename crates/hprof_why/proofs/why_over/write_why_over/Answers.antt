@@ -1,0 +1,40 @@
+use Rattle.std.proofs.Common.{Err, Ok, Result}
+use Rattle.hprof_engine.specs.declared.product.WriteStop.{WriteStop}
+use Rattle.hprof_heap.specs.HeapFacts.{facts_of, size_of}
+use Rattle.hprof_lines.proofs.PassedEnds.{ends_passed}
+use Rattle.hprof_lines.specs.Stopping.{WritesText}
+use Rattle.hprof_why.specs.WhyText.{IsWhyText}
+use Rattle.hprof_why.proofs.WhyHeaps.{why_over}
+use Rattle.hprof_why.proofs.why_over.write_why_over.Goals as goal
+
+pub returns-in-Ok-write_in_memory : goal.returns-in-Ok-write_in_memory
+returns-in-Ok-write_in_memory g c =
+    let ids = size_of c.args.heap.now in
+    let facts = facts_of c.args.heap.now in
+    let objects = c.args.objects.now in
+    let old = g.W.Target.written c.args.target.now in
+    let new = g.W.Target.written c.write_in_memory.new.target in
+    let answer : Result (Unit {0}) WriteStop = Ok c.in-Ok-write_in_memory.field-0 in
+    ends_passed (g.O.Objects.make_up objects ids facts) (g.O.Objects.agree objects ids facts) (g.O.Objects.tells objects ids facts)
+    (λ all. IsWhyText ids all c.args.id) g.W.Target.written g.W.Target.health c.args.target.now c.write_in_memory.new.target answer
+    c.in-Ok.ensures.0
+    (λ all make. why_over ids facts all (g.met.O.Objects.whole objects ids facts all make) c.in-Ok-why_heap.small c.args.id
+    c.in-Ok.reached (WritesText old new answer) (c.in-Ok.ensures.1 all make) (c.in-Ok-why_heap.ensures.1 all make)
+    c.in-Ok-write_in_memory.ensures.bytes)
+    c.in-Ok-write_in_memory.ensures.health
+
+pub returns : goal.returns
+returns g c =
+    let ids = size_of c.args.heap.now in
+    let facts = facts_of c.args.heap.now in
+    let objects = c.args.objects.now in
+    let old = g.W.Target.written c.args.target.now in
+    let new = g.W.Target.written c.write_in_memory.new.target in
+    let answer : Result (Unit {0}) WriteStop = Err c.in-Err-write_in_memory.stop in
+    ends_passed (g.O.Objects.make_up objects ids facts) (g.O.Objects.agree objects ids facts) (g.O.Objects.tells objects ids facts)
+    (λ all. IsWhyText ids all c.args.id) g.W.Target.written g.W.Target.health c.args.target.now c.write_in_memory.new.target answer
+    c.in-Ok.ensures.0
+    (λ all make. why_over ids facts all (g.met.O.Objects.whole objects ids facts all make) c.in-Ok-why_heap.small c.args.id
+    c.in-Ok.reached (WritesText old new answer) (c.in-Ok.ensures.1 all make) (c.in-Ok-why_heap.ensures.1 all make)
+    c.in-Err-write_in_memory.ensures.bytes)
+    c.in-Err-write_in_memory.ensures.health

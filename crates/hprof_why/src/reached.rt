@@ -1,0 +1,135 @@
+//! How an identifier is reached.
+
+ghost use Rattle.std.specs.Prelude.{◌↔◌, IfOk, IfSome};
+ghost use Rattle.hprof_edges.specs.declared.edge.Edge.{Edge};
+ghost use Rattle.hprof_edges.specs.Edges.{IsEdge};
+ghost use Rattle.hprof_edges.specs.LeftOut.{IsKept, IsLeftOut, fields_in};
+ghost use Rattle.hprof_heap.specs.HeapFacts.{facts_of, size_of};
+ghost use Rattle.hprof_passes.specs.Finding.{Finds};
+ghost use Rattle.hprof_reach.specs.Reaching.{IsReach, IsReachBy};
+ghost use Rattle.hprof_weak.specs.Weak.{IsWeak};
+ghost use Rattle.hprof_why.specs.Paths.{IsReached, IsWithoutStrong};
+
+use crate::path::{Path, path_by_all, path_to};
+use hprof_edges::LeftOut;
+use hprof_heap::Heap;
+use hprof_passes::{Objects, PassStop};
+use hprof_reach::{Reach, reach_over};
+use hprof_weak::weak_fields_over;
+use std::alloc::{AllocError, Global};
+
+/// How an identifier is reached from GC roots.
+#[derive(Drop)]
+pub(crate) enum Reached {
+    /// By strong edges, along this path.
+    Strongly(Path),
+    /// By weak edges alone, along this path.
+    Weakly(Path),
+    /// By no edges.
+    Nowise,
+}
+
+/// Returns how an identifier of a heap with its objects in memory is reached, where no strong edges lead to it. `all` is the search by all
+/// edges; it is made, and kept there, if it is not there yet. If memory runs out, the answer is `AllocError`.
+fn reached_without_strong(
+    alloc: Global,
+    heap: &Heap,
+    all: &mut Option<Reach>,
+    id: u64,
+) -> Result<Reached, AllocError>
+    requires { IfSome all.old (IsReach (size_of heap.now) (facts_of heap.now)) }
+    ensures reached { IfOk result (IsWithoutStrong (size_of heap.now) (facts_of heap.now) id) }
+    ensures all { IfSome all.new (IsReach (size_of heap.now) (facts_of heap.now)) }
+{
+    let weakly = path_by_all(alloc, heap, all, id)?;
+    match weakly {
+        Some(path) => Ok(Reached::Weakly(path)),
+        None => Ok(Reached::Nowise),
+    }
+}
+
+/// Returns how an identifier of a heap with its objects in memory is reached. `strong` is the search without the weak fields, which are in
+/// `weak`. `all` is the search by all edges; it is made, and kept there, if it is wanted and not there yet. If memory runs out, the answer
+/// is `AllocError`.
+pub(crate) fn reached_of(
+    alloc: Global,
+    heap: &Heap,
+    weak: &LeftOut,
+    strong: &Reach,
+    all: &mut Option<Reach>,
+    id: u64,
+) -> Result<Reached, AllocError>
+    requires weak { (edge : Edge) → IsEdge (size_of heap.now) (facts_of heap.now) edge
+        → IsLeftOut (fields_in weak.now) (facts_of heap.now) edge ↔ IsWeak (facts_of heap.now) edge }
+    requires strong { IsReachBy (IsKept (fields_in weak.now) (facts_of heap.now)) (size_of heap.now) (facts_of heap.now) strong.now }
+    requires all { IfSome all.old (IsReach (size_of heap.now) (facts_of heap.now)) }
+    ensures reached { IfOk result (IsReached (size_of heap.now) (facts_of heap.now) id) }
+    ensures all { IfSome all.new (IsReach (size_of heap.now) (facts_of heap.now)) }
+{
+    let strongly = path_to(alloc, strong, id)?;
+    match strongly {
+        Some(path) => Ok(Reached::Strongly(path)),
+        None => reached_without_strong(alloc, heap, all, id),
+    }
+}
+
+/// Returns how an identifier is reached by the edges that objects make up with a heap, where no strong ones lead to it.
+///
+/// # Errors
+///
+/// Those of `reach_over`.
+fn reached_without_strong_over<O: Objects>(
+    alloc: Global,
+    heap: &Heap,
+    objects: &O,
+    id: u64,
+) -> Result<Reached, PassStop<AllocError, O::Fault>>
+    ensures { Finds (O.make_up objects.now (size_of heap.now) (facts_of heap.now))
+        (O.agree objects.now (size_of heap.now) (facts_of heap.now)) (O.tells objects.now (size_of heap.now) (facts_of heap.now))
+        (λ all. IsWithoutStrong (size_of heap.now) all id) result }
+{
+    let none = LeftOut::none(alloc);
+    let all = match reach_over(alloc, heap, objects, &none) {
+        Ok(all) => all,
+        Err(stop) => return Err(stop),
+    };
+    match path_to(alloc, &all, id) {
+        Ok(Some(path)) => Ok(Reached::Weakly(path)),
+        Ok(None) => Ok(Reached::Nowise),
+        Err(fault) => Err(PassStop::Sink(fault)),
+    }
+}
+
+/// Returns how an identifier is reached by the edges that objects make up with a heap. The heap has all facts but the objects, which are
+/// gone through two to five times.
+///
+/// # Errors
+///
+/// Those of `weak_fields_over` and `reach_over`.
+pub(crate) fn reached_over<O: Objects>(
+    alloc: Global,
+    heap: &Heap,
+    objects: &O,
+    id: u64,
+) -> Result<Reached, PassStop<AllocError, O::Fault>>
+    ensures { Finds (O.make_up objects.now (size_of heap.now) (facts_of heap.now))
+        (O.agree objects.now (size_of heap.now) (facts_of heap.now)) (O.tells objects.now (size_of heap.now) (facts_of heap.now))
+        (λ all. IsReached (size_of heap.now) all id) result }
+{
+    let weak = match weak_fields_over(alloc, heap, objects) {
+        Ok(weak) => weak,
+        Err(stop) => return Err(stop),
+    };
+    let strong = match reach_over(alloc, heap, objects, &weak) {
+        Ok(strong) => strong,
+        Err(stop) => return Err(stop),
+    };
+    match path_to(alloc, &strong, id) {
+        Ok(Some(path)) => Ok(Reached::Strongly(path)),
+        Ok(None) => {
+            drop(strong);
+            reached_without_strong_over(alloc, heap, objects, id)
+        }
+        Err(fault) => Err(PassStop::Sink(fault)),
+    }
+}
