@@ -48,6 +48,7 @@ pub fn labels_over<O: Objects>(
         Ok(()) => {}
         Err(stop) => return Err(stop),
     }
+    // What a pass does to its sink is said only of objects that make up a heap, so `finish` compares the number of places.
     match sink.finish(retained.len()) {
         Ok(labels) => Ok(labels),
         Err(fault) => Err(PassStop::Sink(fault)),
