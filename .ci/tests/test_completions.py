@@ -95,7 +95,7 @@ class Bash(Folder):
 
     def test_a_size_is_no_argument(self):
         self.assertEqual(self.replies("check", "--m"), ["--memory"])
-        self.assertEqual(self.replies("threads", "--m"), [])
+        self.assertEqual(self.replies("ask", "--m"), [])
         for begun in (("--memory", ""), ("--memory", "5"), ("--memory", "="), ("--memory", "=", ""), ("--memory=",), ("--memory=5",)):
             self.assertEqual(self.replies("check", *begun), [], begun)
         for size in (("--memory", "1M"), ("--memory", "=", "1M"), ("--memory=1M",)):
@@ -262,8 +262,8 @@ class Words(unittest.TestCase):
         words = "check histo classes threads objects object show text refs path diff join join101"
         self.assertEqual(completions.sized(), set(words.split()))
         for name in ("hprof.bash", "_hprof", "hprof.fish"):
-            faults = self.faults(name, "join join101 check histo", "join check path histo")
-            self.assertEqual(faults, [f"{name}: join101 with --memory", f"{name}: path with --memory"])
+            faults = self.faults(name, "join join101 check histo", "join check ask histo")
+            self.assertEqual(faults, [f"{name}: ask with --memory", f"{name}: join101 with --memory"])
 
     def test_types_and_options(self):
         for name in ("hprof.bash", "_hprof", "hprof.fish"):
