@@ -95,7 +95,7 @@ class Bash(Folder):
 
     def test_a_size_is_no_argument(self):
         self.assertEqual(self.replies("check", "--m"), ["--memory"])
-        self.assertEqual(self.replies("suspects", "--m"), [])
+        self.assertEqual(self.replies("ask", "--m"), [])
         for begun in (("--memory", ""), ("--memory", "5"), ("--memory", "="), ("--memory", "=", ""), ("--memory=",), ("--memory=5",)):
             self.assertEqual(self.replies("check", *begun), [], begun)
         for size in (("--memory", "1M"), ("--memory", "=", "1M"), ("--memory=1M",)):
@@ -259,11 +259,11 @@ class Words(unittest.TestCase):
             self.assertEqual({line.split(":")[1] for line in lines}, {" biggest", " retained"}, name)
 
     def test_commands_with_the_option_for_the_memory(self):
-        words = "check histo classes threads objects object show text refs path diff join join101 salvage"
+        words = "check histo classes threads retained objects show why who text object refs path diff join join101 salvage"
         self.assertEqual(completions.sized(), set(words.split()))
         for name in ("hprof.bash", "_hprof", "hprof.fish"):
-            faults = self.faults(name, "join101 salvage check", "salvage check keeps")
-            self.assertEqual(faults, [f"{name}: join101 with --memory", f"{name}: keeps with --memory"])
+            faults = self.faults(name, "join101 salvage check", "salvage check ask")
+            self.assertEqual(faults, [f"{name}: ask with --memory", f"{name}: join101 with --memory"])
 
     def test_types_and_options(self):
         for name in ("hprof.bash", "_hprof", "hprof.fish"):
