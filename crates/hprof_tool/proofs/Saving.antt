@@ -139,7 +139,8 @@ module _ {R : Type 0} (left : R → Option (List ℕ)) (health : R → Health) (
       | inr all ↦ inr (all.0, all.1, front_or_nothing all.2)
     ]
 
-    pub shown_saving : (ended : Result Salvaged ToolFault) → IsSaved written well before after ended ⊎ IsStored written well before after ended
+    pub shown_saving : (ended : Result Salvaged ToolFault)
+        → IsSaved written well before after ended ⊎ IsStored written well before after ended
         → OfStream (written before) (well before) (written after) (well after) ended
     shown_saving ended is = elim is [
       | inl heap ↦ inl (shown_of_heap ended heap)
