@@ -95,7 +95,7 @@ class Bash(Folder):
 
     def test_a_size_is_no_argument(self):
         self.assertEqual(self.replies("check", "--m"), ["--memory"])
-        self.assertEqual(self.replies("suspects", "--m"), [])
+        self.assertEqual(self.replies("ask", "--m"), [])
         for begun in (("--memory", ""), ("--memory", "5"), ("--memory", "="), ("--memory", "=", ""), ("--memory=",), ("--memory=5",)):
             self.assertEqual(self.replies("check", *begun), [], begun)
         for size in (("--memory", "1M"), ("--memory", "=", "1M"), ("--memory=1M",)):
@@ -157,7 +157,7 @@ class Fish(Folder):
 
     def test_a_size_is_no_argument(self):
         self.assertEqual(self.replies("hprof check --m"), {"--memory"})
-        self.assertEqual(self.replies("hprof suspects --m"), set())
+        self.assertEqual(self.replies("hprof ask --m"), set())
         for size in ("--memory 1M", "--memory=1M"):
             self.assertEqual(self.replies(f"hprof objects {size} "), TYPES, size)
             self.assertIn("friday.hprof", self.replies(f"hprof objects byte[] {size} f"), size)
@@ -222,7 +222,7 @@ class Zsh(Folder):
             "hprof diff a f": "hprof diff a friday.hprof ",
             "hprof diff a b f": "hprof diff a b f",
             "hprof check --m": "hprof check --memory=",
-            "hprof suspects --m": "hprof suspects --m",
+            "hprof ask --m": "hprof ask --m",
             "hprof check --memory f": "hprof check --memory f",
             "hprof objects --memory 1M by": "hprof objects --memory 1M byte\\[\\] ",
             "hprof join --memory=1M out f": "hprof join --memory=1M out friday.hprof ",
@@ -262,8 +262,8 @@ class Words(unittest.TestCase):
         words = "check histo classes threads objects object show text refs path diff join join101 salvage"
         self.assertEqual(completions.sized(), set(words.split()))
         for name in ("hprof.bash", "_hprof", "hprof.fish"):
-            faults = self.faults(name, "join101 salvage check", "salvage check keeps")
-            self.assertEqual(faults, [f"{name}: join101 with --memory", f"{name}: keeps with --memory"])
+            faults = self.faults(name, "join101 salvage check", "salvage check ask")
+            self.assertEqual(faults, [f"{name}: ask with --memory", f"{name}: join101 with --memory"])
 
     def test_types_and_options(self):
         for name in ("hprof.bash", "_hprof", "hprof.fish"):
