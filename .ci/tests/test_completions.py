@@ -157,7 +157,7 @@ class Fish(Folder):
 
     def test_a_size_is_no_argument(self):
         self.assertEqual(self.replies("hprof check --m"), {"--memory"})
-        self.assertEqual(self.replies("hprof suspects --m"), set())
+        self.assertEqual(self.replies("hprof ask --m"), set())
         for size in ("--memory 1M", "--memory=1M"):
             self.assertEqual(self.replies(f"hprof objects {size} "), TYPES, size)
             self.assertIn("friday.hprof", self.replies(f"hprof objects byte[] {size} f"), size)
@@ -222,7 +222,7 @@ class Zsh(Folder):
             "hprof diff a f": "hprof diff a friday.hprof ",
             "hprof diff a b f": "hprof diff a b f",
             "hprof check --m": "hprof check --memory=",
-            "hprof suspects --m": "hprof suspects --m",
+            "hprof ask --m": "hprof ask --m",
             "hprof check --memory f": "hprof check --memory f",
             "hprof objects --memory 1M by": "hprof objects --memory 1M byte\\[\\] ",
             "hprof join --memory=1M out f": "hprof join --memory=1M out friday.hprof ",

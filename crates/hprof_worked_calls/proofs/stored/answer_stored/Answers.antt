@@ -7,8 +7,8 @@ pub join_stored-answer-requires-clause-again : goal.join_stored-answer-requires-
 join_stored-answer-requires-clause-again c = λ some told tell. absurd (let no : IsSome {T = List ℕ} None =
     (untold_again _ _ [] None (λ reader. refl) some told tell).1 in cc)
 
-pub salvage_stored-requires-clause-again : goal.salvage_stored-requires-clause-again
-salvage_stored-requires-clause-again c = λ some told tell. absurd (let no : IsSome {T = List ℕ} None =
+pub salvage_stored-answer-requires-clause-again : goal.salvage_stored-answer-requires-clause-again
+salvage_stored-answer-requires-clause-again c = λ some told tell. absurd (let no : IsSome {T = List ℕ} None =
     (untold_again _ _ [] None (λ reader. refl) some told tell).1 in cc)
 
 pub join101_stored-answer-requires-clause-again : goal.join101_stored-answer-requires-clause-again
