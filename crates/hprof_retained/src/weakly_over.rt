@@ -23,18 +23,26 @@ use hprof_passes::{Objects, PassStop};
 use hprof_reach::{Reach, reach_over, sort_once};
 use std::alloc::{AllocError, Global};
 
+/// Appends a node if a search reached it.
+fn push_if_reached(reach: &Reach, node: u64, nodes: &mut Vec<u64>) -> Result<(), AllocError>
+    ensures { OnOk result ((ids : IdSize) (facts : List FactValue) → IsConsistent facts → IsReach ids facts reach.now → (other : ℕ)
+        → Contains nodes.new.items other ↔ (Contains nodes.old.items other
+        ⊎ ((other ≡ node) × IsReached (IsStart facts) (IsStepBy AnyEdge ids facts) other))) }
+{
+    if reach.is_reached(node) {
+        nodes.push(node)?;
+    }
+    Ok(())
+}
+
 /// Appends those of some nodes that a search reached.
 fn push_reached(reach: &Reach, some: &[u64], nodes: &mut Vec<u64>) -> Result<(), AllocError>
     ensures { OnOk result ((ids : IdSize) (facts : List FactValue) → IsConsistent facts → IsReach ids facts reach.now → (node : ℕ)
         → Contains nodes.new.items node ↔ (Contains nodes.old.items node
         ⊎ (Contains some.now node × IsReached (IsStart facts) (IsStepBy AnyEdge ids facts) node))) }
 {
-    let mut rest = some;
-    while let Some((node, after)) = rest.split_first() {
-        if reach.is_reached(*node) {
-            nodes.push(*node)?;
-        }
-        rest = after;
+    for node in some {
+        push_if_reached(reach, *node, nodes)?;
     }
     Ok(())
 }
