@@ -9,6 +9,7 @@ mod choice;
 mod chosen;
 mod dominators;
 mod keeps;
+mod kept;
 pub mod laws;
 mod lines;
 mod nodes;
