@@ -21,3 +21,4 @@ pub mod LargestFirst
 pub mod SomeBiggest
 pub mod OneBiggest
 pub mod SameChoice
+pub mod NamedNodes
