@@ -22,3 +22,4 @@ pub mod SomeBiggest
 pub mod OneBiggest
 pub mod SameChoice
 pub mod NamedNodes
+pub mod PlacesTaken

@@ -6,3 +6,4 @@ pub mod Kept
 pub mod Chosen
 pub mod Gathered
 pub mod BiggestText
+pub mod PlaceTaken

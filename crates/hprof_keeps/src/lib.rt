@@ -4,9 +4,11 @@
 #![tactic(auto)]
 
 mod biggest;
+mod biggest_over;
 mod children;
 mod choice;
 mod chosen;
+mod chosen_over;
 mod dominators;
 mod keeps;
 mod keeps_over;
@@ -16,9 +18,11 @@ pub mod laws;
 mod lines;
 mod named;
 mod nodes;
+mod place_sink;
 mod weakly;
 
 pub use biggest::write_biggest;
+pub use biggest_over::write_biggest_over;
 pub use children::children_of;
 pub use choice::Choice;
 pub use dominators::dominators_of;
