@@ -23,3 +23,5 @@ pub mod OneBiggest
 pub mod SameChoice
 pub mod NamedNodes
 pub mod PlacesTaken
+pub mod ClassIds
+pub mod ChosenLines
