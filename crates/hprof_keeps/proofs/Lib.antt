@@ -5,8 +5,7 @@ pub mod Told
 pub mod Places
 pub mod Reached
 pub mod Texts
-pub mod SomeChildren
-pub mod SomeDominators
+pub mod NodeOrder
 pub mod TreePlaces
 pub mod PlaceOrder
 pub mod RightBelow

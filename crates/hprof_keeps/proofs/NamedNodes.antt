@@ -1,7 +1,7 @@
 -- The words for nodes in a heap of few objects are those in the whole.
-use Rattle.std.specs.Prelude.{◌↔◌, Contains, IsTrue, OnOk, map}
+use Rattle.std.specs.Prelude.{◌↔◌, Contains, IsTrue}
 use Rattle.std.specs.List.{flat_map}
-use Rattle.std.proofs.Common.{◌≡◌, ℕ, List, [], ◌∷◌, ◌++◌, codes, inl, inr, refl, sym, ap, subst, ◌∙◌}
+use Rattle.std.proofs.Common.{◌≡◌, ℕ, List, [], ◌∷◌, ◌++◌, codes, inl, inr, refl, sym, ap, subst}
 use Rattle.std.proofs.lemmas.List.Elements.{Contains-append_left, Contains-append_right}
 use Rattle.hprof_values.specs.declared.ids.IdSize.{IdSize}
 use Rattle.hprof_items.specs.FactValue.{FactValue}
@@ -56,7 +56,7 @@ module _ (one other : Findings) (sums : ℕ → Sum) where
   unfolding retained_line
   line_same node same = ap (λ (text : List ℕ). sum_words (sums node) ++ codes " " ++ text ++ codes "\n") same
 
-  lines_same : (front nodes : List ℕ) → ((node : ℕ) → IsIn node nodes → node_text one node ≡ node_text other node)
+  pub lines_same : (front nodes : List ℕ) → ((node : ℕ) → IsIn node nodes → node_text one node ≡ node_text other node)
       → flat_map (λ node. front ++ retained_line one sums node) nodes ≡ flat_map (λ node. front ++ retained_line other sums node) nodes
   lines_same front [] same = refl
   lines_same front (node ∷ nodes) same =

@@ -1,9 +1,6 @@
 -- The places of chosen objects that a sink was given, and of classes without an object dump in a heap of few objects.
-use Rattle.std.specs.Prelude.{◌↔◌, Contains, IsTrue, All}
+use Rattle.std.specs.Prelude.{◌↔◌, Contains}
 use Rattle.std.proofs.Common.{◌≡◌, ◌⊎◌, ◌∙◌, ◌++◌, ℕ, List, [], ◌∷◌, refl, sym, ap, subst, inl, inr}
-use Rattle.std.specs.List.Sorted.{IsPermutation, IsSorted}
-use Rattle.std.proofs.lemmas.List.Elements.{All-from_recursion}
-use Rattle.std.proofs.lemmas.List.Sorted.{Contains-permutation, IsPermutation-sym}
 use Rattle.hprof_values.specs.declared.ids.IdSize.{IdSize}
 use Rattle.hprof_items.specs.FactValue.{FactValue}
 use Rattle.hprof_rows.specs.declared.key.Key.TheVariants as keys
@@ -12,8 +9,6 @@ use Rattle.hprof_rows.specs.Order.{IsCanonicalOrder}
 use Rattle.hprof_rows.specs.Tables.{number_of_table, stands_in}
 use Rattle.hprof_rows.proofs.ReadBack.{passed_ordered}
 use Rattle.hprof_heap.specs.Classes.{ClassValue, HasDump, fact_of_class}
-use Rattle.hprof_histogram.proofs.Joining.{all_from_in}
-use Rattle.hprof_histogram.proofs.Members.{Contains-from_in}
 use Rattle.hprof_passes.specs.Passing.{IsWhole, TakesObjects, objects_among}
 use Rattle.hprof_passes.proofs.Tables.{has_same}
 use Rattle.hprof_small.specs.Small.{IsSmall}
@@ -22,7 +17,6 @@ use Rattle.hprof_retained.specs.declared.retained.Retained.{Retained}
 use Rattle.hprof_words.proofs.Among.{among_of_contains}
 use Rattle.hprof_keeps.specs.Chosen.{IsClassAlone}
 use Rattle.hprof_keeps.specs.Gathered.{ArePlacesOf, IsChosenObject, IsGiven, places_of_node}
-use Rattle.hprof_keeps.specs.Kept.{ArePlaces}
 use Rattle.hprof_keeps.specs.PlaceTaken.{PutsNone, PutsPlace, TakesPlace}
 use Rattle.hprof_keeps.specs.declared.choice.Choice.{Choice}
 use Rattle.hprof_keeps.specs.declared.place_sink.PlaceSink.{PlaceSink}

@@ -1,6 +1,6 @@
 -- What is told of an identifier is the report on it.
 use Rattle.std.specs.Prelude.{is_some}
-use Rattle.std.proofs.Common.{◌≡◌, ◌∙◌, Bool, true, ℕ, List, [], ◌∷◌, ◌++◌, Option, Some, None, append_assoc, refl, sym, inl, inr}
+use Rattle.std.proofs.Common.{◌≡◌, ◌∙◌, Bool, true, ℕ, List, [], ◌∷◌, Option, Some, None, append_assoc, refl, sym, inl, inr}
 use Rattle.hprof_values.specs.declared.ids.IdSize.{IdSize}
 use Rattle.hprof_items.specs.FactValue.{FactValue}
 use Rattle.hprof_rows.specs.Conflict.{IsConsistent}
@@ -15,7 +15,7 @@ use Rattle.hprof_retained.specs.Retained.{IsHeld}
 use Rattle.hprof_retained.specs.Tree.{IsTreeOf, total_of}
 use Rattle.hprof_retained.specs.declared.retained.Retained.{Retained}
 use Rattle.hprof_keeps.specs.Kept.{IsKept, kept_text, nodes_at}
-use Rattle.hprof_keeps.specs.KeepsText.{IsKeepsText, IsNodeText, IsRootsText, above_lines, child_lines, total_line, weakly_line}
+use Rattle.hprof_keeps.specs.KeepsText.{IsKeepsText, IsNodeText, above_lines, child_lines, total_line, weakly_line}
 use Rattle.hprof_keeps.specs.Order.{retained_in}
 use Rattle.hprof_keeps.specs.WeakSum.{sum_of}
 use Rattle.hprof_keeps.specs.declared.kept.Kept.{Kept}
