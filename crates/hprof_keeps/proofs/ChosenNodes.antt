@@ -125,11 +125,6 @@ one_object_key n m e = cc
 pub one_class_key : (n m : ℕ) → keys.Class n ≡ keys.Class m → n ≡ m
 one_class_key n m e = cc
 
--- a class alone is no object
-pub not_object : (facts : List FactValue) (choice : Choice) (fact : FactValue) (node : ℕ) → IsLoneClass facts fact node
-    → IsGiven (IsChosenObject choice) facts node → ⊥
-not_object facts choice fact node is given = is.none given.0 given.1 given.2.is_object
-
 -- ---- whether a choice has a kind
 
 -- that of a class, if the class is among those of the choice

@@ -6,7 +6,6 @@ use Rattle.std.proofs.lemmas.Bool.{eqb-true, eqb-false}
 use Rattle.std.proofs.lemmas.List.{append-nil, get_or_default}
 use Rattle.std.proofs.lemmas.List.Elements.{Contains-append_cases, Contains-append_left, Contains-push}
 use Rattle.std.proofs.lemmas.List.Quantifiers.{all_pairs_push}
-use Rattle.hprof_values.specs.declared.ids.IdSize.{IdSize}
 use Rattle.hprof_items.specs.FactValue.{FactValue}
 use Rattle.hprof_rows.specs.declared.key.Key.{Key}
 use Rattle.hprof_rows.specs.Facts.{Has}
@@ -15,10 +14,11 @@ use Rattle.hprof_rows.specs.Order.{IsBefore, IsCanonicalOrder}
 use Rattle.hprof_rows.proofs.FactSets.{All-has, Has-back, Has-front, Has-parts}
 use Rattle.hprof_rows.proofs.Order.{IsBefore-key}
 use Rattle.hprof_histogram.proofs.Members.{in_from_Contains}
-use Rattle.hprof_retained.specs.Tree.{IsTreeOf, count_of, node_at, place_of}
+use Rattle.hprof_retained.specs.Tree.{count_of, node_at, place_of}
 use Rattle.hprof_retained.specs.declared.retained.Retained.{Retained}
 use Rattle.hprof_keeps.specs.Gathered.{ArePlacesOf, IsGiven, places_of_node}
 use Rattle.hprof_keeps.proofs.Found.{placed}
+use Rattle.hprof_keeps.proofs.Held.{place_there}
 
 -- ---- places
 
@@ -39,8 +39,7 @@ no_places retained Holds none = record {
   exact = λ place. (λ has. let low = has.1 in absurd (omega arith), λ is. absurd (none (node_at retained place) is.2));
 }
 
-module _ (ids : IdSize) (facts : List FactValue) (retained : Retained) (tree : IsTreeOf ids facts retained) (Holds : ℕ → Type 0) (node : ℕ)
-    (places : List ℕ) (are : ArePlacesOf retained Holds places) where
+module _ (retained : Retained) (Holds : ℕ → Type 0) (node : ℕ) (places : List ℕ) (are : ArePlacesOf retained Holds places) where
   abbrev Next : ℕ → Type 0
   Next n = Holds n ⊎ (n ≡ node)
 
@@ -53,7 +52,7 @@ module _ (ids : IdSize) (facts : List FactValue) (retained : Retained) (tree : I
       λ is. elim is.2 [
         | inl before ↦ (are.exact place).1 (is.0, is.1, before)
         | inr same ↦
-            let at : place_of retained node ≡ place = ap (place_of retained) (sym same) ∙ (tree.held place is.0 is.1).1 in
+            let at : place_of retained node ≡ place = ap (place_of retained) (sym same) ∙ place_there retained place is.0 is.1 in
             let some = is.0 in
             absurd (omega arith)
       ],
@@ -81,7 +80,7 @@ module _ (ids : IdSize) (facts : List FactValue) (retained : Retained) (tree : I
           λ is. elim is.2 [
             | inl before ↦ Contains-append_left places (place ∷ []) x ((are.exact x).1 (is.0, is.1, before))
             | inr same ↦
-                let here : place ≡ x = ap (place_of retained) (sym same) ∙ (tree.held x is.0 is.1).1 in
+                let here : place ≡ x = ap (place_of retained) (sym same) ∙ place_there retained x is.0 is.1 in
                 subst (Contains (places ++ place ∷ [])) here (Contains-push places place)
           ],
         );
@@ -152,6 +151,11 @@ module _ (Gives : FactValue → ℕ → Type 0) where
       left_has : (other : FactValue) → Has (fact ∷ rest) other → Has left other
       left_has other has = subst (λ (l : List FactValue). Has l other) (sym next) has
 
+      -- and of all
+      pub next_has : Has all fact
+      next_has = subst (λ (l : List FactValue). Has l fact) (sym gathering.all_are)
+          (Has-back gathering.came left fact (left_has fact (inl refl)))
+
       -- the fact came
       came_one : (after : List ℕ) → ArePlacesOf retained (Among (gathering.came ++ fact ∷ [])) after → Gathering all rest after
       came_one after are = record {
@@ -198,9 +202,8 @@ module _ (Gives : FactValue → ℕ → Type 0) where
             one_key n node cc
 
         -- it gives one, which was not there before
-        pub came_given : (ids : IdSize) (facts : List FactValue) → IsTreeOf ids facts retained → (Before node → ⊥)
-            → Gathering all rest (places ++ places_of_node retained node)
-        came_given ids facts tree new =
+        pub came_given : (Before node → ⊥) → Gathering all rest (places ++ places_of_node retained node)
+        came_given new =
             let Some_more : ℕ → Type 0 = λ n. Among gathering.came n ⊎ (n ≡ node) in
             came_one (places ++ places_of_node retained node) (same_places retained Some_more (Among (gathering.came ++ fact ∷ []))
             (places ++ places_of_node retained node) (λ n. (
@@ -218,5 +221,5 @@ module _ (Gives : FactValue → ℕ → Type 0) where
                   | inr gives_too ↦ inr (one_node n gives_too)
                 ]
               ],
-            )) (one_node_more ids facts retained tree (Among gathering.came) node places gathering.are
+            )) (one_node_more retained (Among gathering.came) node places gathering.are
             (λ among. elim among [ inl before ↦ new before | inr given ↦ new_node given ])))

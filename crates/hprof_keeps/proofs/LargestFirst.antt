@@ -11,7 +11,7 @@ use Rattle.hprof_retained.proofs.Deciding.{Decided}
 use Rattle.hprof_retained.proofs.NodeLists.{nodes_exist}
 use Rattle.hprof_retained.proofs.SomeSums.{retained_exists}
 use Rattle.hprof_keeps.specs.Order.{AreLargestFirst, AreRetained}
-use Rattle.hprof_keeps.proofs.SomeChildren.{in_order}
+use Rattle.hprof_keeps.proofs.NodeOrder.{in_order}
 
 -- ---- lists of nodes
 

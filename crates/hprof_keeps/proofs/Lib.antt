@@ -5,8 +5,7 @@ pub mod Told
 pub mod Places
 pub mod Reached
 pub mod Texts
-pub mod SomeChildren
-pub mod SomeDominators
+pub mod NodeOrder
 pub mod TreePlaces
 pub mod PlaceOrder
 pub mod RightBelow
@@ -21,3 +20,7 @@ pub mod LargestFirst
 pub mod SomeBiggest
 pub mod OneBiggest
 pub mod SameChoice
+pub mod NamedNodes
+pub mod PlacesTaken
+pub mod ClassIds
+pub mod ChosenLines

@@ -22,7 +22,7 @@ use Rattle.hprof_retained.specs.Weakly.{IsWeaklyHeld}
 use Rattle.hprof_keeps.specs.KeepsText.{IsHeldText, IsKeepsText, IsNodeText, IsNotReached, IsRootsText}
 use Rattle.hprof_keeps.specs.KeepsText.{above_lines, child_lines, retained_line, sum_words, total_line, weakly_line}
 use Rattle.hprof_keeps.specs.Order.{AreChildren, AreDominators, AreLargestFirst, AreRetained, retained_cmp}
-use Rattle.hprof_keeps.proofs.SomeChildren.{order_total}
+use Rattle.hprof_keeps.proofs.NodeOrder.{order_total}
 
 -- ---- lists in which each is before those behind it
 

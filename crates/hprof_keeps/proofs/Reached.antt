@@ -1,6 +1,6 @@
 -- A node is reached exactly if it has a distance.
 use Rattle.std.specs.Prelude.{◌↔◌, IsTrue, is_some}
-use Rattle.std.proofs.Common.{◌⊎◌, ℕ, List, Option, Some, None, codes, refl, inl, inr}
+use Rattle.std.proofs.Common.{◌⊎◌, ℕ, List, Option, Some, None, refl, inl, inr}
 use Rattle.hprof_values.specs.declared.ids.IdSize.{IdSize}
 use Rattle.hprof_items.specs.FactValue.{FactValue}
 use Rattle.hprof_rows.specs.Conflict.{IsConsistent}
@@ -9,8 +9,6 @@ use Rattle.hprof_search.proofs.Forth.{no_walk, some_walk}
 use Rattle.hprof_dominators.specs.Dominating.{IsReached}
 use Rattle.hprof_reach.specs.Reaching.{IsDistanceFromRoots, IsStart, IsStepBy}
 use Rattle.hprof_reach.proofs.SomeReach.{some_distance}
-use Rattle.hprof_retained.specs.Retained.{IsHeld}
-use Rattle.hprof_keeps.specs.Otherwise.{IsOtherwise}
 
 module _ (ids : IdSize) (facts : List FactValue) (node : ℕ) where
   abbrev pub IsReachedByAny : Type 0
@@ -35,9 +33,3 @@ module _ (ids : IdSize) (facts : List FactValue) (node : ℕ) where
     go : (distance : Option ℕ) → (IsTrue (is_some distance) ↔ IsReachedByAny) → IsReachedByAny ⊎ (¬ IsReachedByAny)
     go (Some distance) is = inl (is.0 refl)
     go None is = inr (λ reached. let yes = is.1 reached in absurd cc)
-
-  pub otherwise_exists : IsConsistent facts → ¬ (IsHeld ids facts node) → (text : List ℕ) × IsOtherwise ids facts node text
-  otherwise_exists agree not = elim (reached_or_not agree) [
-    | inl reached ↦ (codes "only by weak references\n", inl ((reached, not), refl))
-    | inr none ↦ (codes "not reached\n", inr (none, refl))
-  ]

@@ -1,5 +1,4 @@
 -- The report `biggest` is the same on choices of the same nodes.
-use Rattle.std.specs.Prelude.{Contains}
 use Rattle.std.proofs.Common.{ℕ, List, ◌↔◌}
 use Rattle.hprof_values.specs.declared.ids.IdSize.{IdSize}
 use Rattle.hprof_items.specs.FactValue.{FactValue}

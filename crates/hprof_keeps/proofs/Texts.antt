@@ -1,117 +1,99 @@
--- The report on an identifier other than 0.
-use Rattle.std.proofs.Common.{◌≡◌, ◌≢◌, ◌<◌, ℕ, List, ◌++◌, Option, Some, None, append_assoc, refl, sym, subst, inl}
-use Rattle.std.proofs.Common.{inr}
+-- What is told of an identifier is the report on it.
+use Rattle.std.specs.Prelude.{is_some}
+use Rattle.std.proofs.Common.{◌≡◌, ◌∙◌, Bool, true, ℕ, List, [], ◌∷◌, Option, Some, None, append_assoc, refl, sym, inl, inr}
 use Rattle.hprof_values.specs.declared.ids.IdSize.{IdSize}
 use Rattle.hprof_items.specs.FactValue.{FactValue}
 use Rattle.hprof_rows.specs.Conflict.{IsConsistent}
 use Rattle.hprof_heap.specs.declared.class_dump.ClassDump.{ClassDump}
-use Rattle.hprof_heap.specs.declared.object_dump.ObjectDump.{ObjectDump}
 use Rattle.hprof_heap.specs.ClassDump.{IsFoundClass, class_value}
-use Rattle.hprof_heap.specs.ObjectDump.{IsFoundObject, fact_of_object}
-use Rattle.hprof_reach.specs.Reaching.{IsNode}
-use Rattle.hprof_lines.specs.Line.{nothing_line}
+use Rattle.hprof_dominators.specs.Walks as listed
+use Rattle.hprof_dominators.proofs.Listed.{same_reached}
+use Rattle.hprof_reach.specs.Reaching.{IsDumped, IsNode, IsStart, IsStepBy}
+use Rattle.hprof_weak.specs.Weak.{IsStrong}
 use Rattle.hprof_describe.specs.Findings.{AreFindings, Findings}
-use Rattle.hprof_retained.specs.Retained.{IsSumOver, Sum}
-use Rattle.hprof_retained.specs.Tree.{IsTreeOf, count_of, node_at, total_of}
+use Rattle.hprof_retained.specs.Retained.{IsHeld}
+use Rattle.hprof_retained.specs.Tree.{IsTreeOf, total_of}
 use Rattle.hprof_retained.specs.declared.retained.Retained.{Retained}
-use Rattle.hprof_retained.specs.Weakly.{IsWeaklyHeld}
-use Rattle.hprof_keeps.specs.KeepsText.{IsHeldText, IsKeepsText, IsNodeText, IsRootsText, above_lines, child_lines, total_line, weakly_line}
-use Rattle.hprof_keeps.specs.Order.{AreChildren, AreDominators, node_of, retained_in}
-use Rattle.hprof_keeps.specs.Otherwise.{IsDumpedText}
+use Rattle.hprof_keeps.specs.Kept.{IsKept, kept_text, nodes_at}
+use Rattle.hprof_keeps.specs.KeepsText.{IsKeepsText, IsNodeText, above_lines, child_lines, total_line, weakly_line}
+use Rattle.hprof_keeps.specs.Order.{retained_in}
+use Rattle.hprof_keeps.specs.WeakSum.{sum_of}
+use Rattle.hprof_keeps.specs.declared.kept.Kept.{Kept}
+use Rattle.hprof_keeps.specs.declared.kept.Kept.TheVariants as kept
 use Rattle.hprof_keeps.proofs.Held.{are_retained}
-use Rattle.hprof_keeps.proofs.Places.{node_of_some}
 
 -- ---- whether it is a node
 
-module _ (ids : IdSize) (facts : List FactValue) (id : ℕ) where
-  pub no_node : (class : Option ClassDump) (object : Option ObjectDump) → IsFoundClass ids facts id class
-      → IsFoundObject ids facts id object → class ≡ None → object ≡ None → ¬ (IsNode facts id)
-  no_node None None is_class is_object no_class no_object node = elim node.1 [
-    | inl dump ↦ is_class.none dump.0 dump.1 dump.2
-    | inr fact ↦ is_object.none fact.0 fact.1 fact.2
-  ]
-  no_node (Some dump) object is_class is_object no_class no_object node = absurd cc
-  no_node None (Some dump) is_class is_object no_class no_object node = absurd cc
+-- an identifier whose class dump was found has a dump
+pub class_dumped : (ids : IdSize) (facts : List FactValue) (id : ℕ) (class : Option ClassDump) → IsFoundClass ids facts id class
+    → (told : Bool) → told ≡ is_some class → told ≡ true → IsDumped facts id
+class_dumped ids facts id (Some dump) found told is same = inl (class_value dump, found.found, found.id)
+class_dumped ids facts id None found told is same = let clash = sym is ∙ same in absurd cc
 
-  pub some_node : (class : Option ClassDump) (object : Option ObjectDump) → IsFoundClass ids facts id class
-      → IsFoundObject ids facts id object → id ≢ 0 → (class ≡ None → object ≡ None → ⊥) → IsNode facts id
-  some_node (Some dump) object is_class is_object other some = (other, inl (class_value dump, is_class.found, is_class.id))
-  some_node None (Some dump) is_class is_object other some = (other, inr (fact_of_object dump, is_object.found, is_object.id))
-  some_node None None is_class is_object other some = absurd (some refl refl)
+module _ (ids : IdSize) (facts : List FactValue) where
+  -- what is held is a node
+  pub held_node : (node : ℕ) → IsHeld ids facts node → IsNode facts node
+  held_node node held = go walk.0 walk.1 where
+    walk : listed.Reached (IsStart facts) (IsStepBy (IsStrong facts) ids facts) node
+    walk = (same_reached (IsStart facts) (IsStepBy (IsStrong facts) ids facts) node).1 held
 
--- ---- a node that is held
+    go : (nodes : List ℕ) → listed.IsWalk (IsStart facts) (IsStepBy (IsStrong facts) ids facts) nodes node → IsNode facts node
+    go [] start = start.0
+    go (before ∷ nodes) step = step.0.1
 
-module _ (ids : IdSize) (facts : List FactValue) (found : Findings) (retained : Retained) (tree : IsTreeOf ids facts retained) (place : ℕ)
-    (above : 0 < place) (within : place < count_of retained) where
-  pub held_text : (dominators children : List ℕ) → AreDominators ids facts (node_at retained place) dominators
-      → AreChildren ids facts (retained_in retained) (node_of retained place) children
-      → IsHeldText ids facts found (retained_in retained) (node_at retained place)
-      (total_line (total_of retained) ++
-      (above_lines found (retained_in retained) dominators ++ child_lines found (retained_in retained) children))
-  held_text dominators children are_dominators are_children = record {
-    held = (tree.held place above within).0;
-    total = total_of retained;
-    is_total = tree.total;
-    dominators = dominators;
-    are_dominators = are_dominators;
-    children = children;
-    are_children = subst (λ (parent : Option ℕ). AreChildren ids facts (retained_in retained) parent children)
-        (node_of_some retained place above) are_children;
-    is = sym (append_assoc (total_line (total_of retained)) (above_lines found (retained_in retained) dominators)
-        (child_lines found (retained_in retained) children));
-  }
+  -- ---- the report
 
--- ---- the report
+  module _ (agree : IsConsistent facts) (found : Findings) (are : AreFindings ids facts found) (retained : Retained)
+      (tree : IsTreeOf ids facts retained) (id : ℕ) where
+    node_report : (text : List ℕ) → (id ≡ 0 → ⊥) → IsNodeText ids facts found (retained_in retained) id text
+        → IsKeepsText ids facts id text
+    node_report text some is = record {
+      agree = agree;
+      found = found;
+      are_found = are;
+      retained = retained_in retained;
+      are_retained = are_retained ids facts retained tree;
+      is = inr (some, is);
+    }
 
-module _ (ids : IdSize) (facts : List FactValue) (agree : IsConsistent facts) (found : Findings) (are : AreFindings ids facts found)
-    (retained : Retained) (tree : IsTreeOf ids facts retained) (id : ℕ) (other : id ≢ 0) where
-  node_report : (text : List ℕ) → IsNodeText ids facts found (retained_in retained) id text → IsKeepsText ids facts id text
-  node_report text is = record {
-    agree = agree;
-    found = found;
-    are_found = are;
-    retained = retained_in retained;
-    are_retained = are_retained ids facts retained tree;
-    is = inr (other, is);
-  }
-
-  pub keeps_nothing : ¬ (IsNode facts id) → IsKeepsText ids facts id (nothing_line id)
-  keeps_nothing not = node_report (nothing_line id) (inl (not, refl))
-
-  pub keeps_dumped : IsNode facts id → (text : List ℕ) → IsDumpedText ids facts found (retained_in retained) id text
-      → IsKeepsText ids facts id text
-  keeps_dumped node text is = node_report text (inr (elim is [
-    | inl held ↦ inl (node, held)
-    | inr otherwise ↦ inr (elim otherwise [ inl weakly ↦ inl (node, weakly.0, weakly.1) | inr none ↦ inr (node, none.0, none.1) ])
-  ]))
-
--- ---- the roots together
-
-module _ (ids : IdSize) (facts : List FactValue) (found : Findings) (retained : Retained) (tree : IsTreeOf ids facts retained) where
-  abbrev pub roots_text : Sum → List ℕ → List ℕ
-  roots_text weakly children =
-      total_line (total_of retained) ++ (weakly_line weakly ++ child_lines found (retained_in retained) children)
-
-  pub are_roots_text : (weakly : Sum) (children : List ℕ) → IsSumOver ids facts (IsWeaklyHeld ids facts) weakly
-      → AreChildren ids facts (retained_in retained) None children
-      → IsRootsText ids facts found (retained_in retained) (roots_text weakly children)
-  are_roots_text weakly children are_weakly are_children = record {
-    total = total_of retained;
-    is_total = tree.total;
-    weakly = weakly;
-    are_weakly = are_weakly;
-    children = children;
-    are_children = are_children;
-    is = sym (append_assoc (total_line (total_of retained)) (weakly_line weakly) (child_lines found (retained_in retained) children));
-  }
-
-  pub keeps_roots : IsConsistent facts → AreFindings ids facts found → (id : ℕ) → id ≡ 0 → (text : List ℕ)
-      → IsRootsText ids facts found (retained_in retained) text → IsKeepsText ids facts id text
-  keeps_roots agree are id none text is = record {
-    agree = agree;
-    found = found;
-    are_found = are;
-    retained = retained_in retained;
-    are_retained = are_retained ids facts retained tree;
-    is = inl (none, is);
-  }
+    pub keeps_told : (told : Kept) → IsKept ids facts retained id told → IsKeepsText ids facts id (kept_text found retained id told)
+    keeps_told (kept.Roots weakly below) is = record {
+      agree = agree;
+      found = found;
+      are_found = are;
+      retained = retained_in retained;
+      are_retained = are_retained ids facts retained tree;
+      is = inl (
+        is.0,
+        record {
+          total = total_of retained;
+          is_total = tree.total;
+          weakly = sum_of weakly;
+          are_weakly = is.1;
+          children = nodes_at retained below.items;
+          are_children = is.2;
+          is = sym (append_assoc (total_line (total_of retained)) (weakly_line (sum_of weakly))
+              (child_lines found (retained_in retained) (nodes_at retained below.items)));
+        },
+      );
+    }
+    keeps_told (kept.Held above below) is =
+        let node = held_node id is.0 in
+        node_report (kept_text found retained id (kept.Held above below)) node.0 (inr (inl (
+          node,
+          record {
+            held = is.0;
+            total = total_of retained;
+            is_total = tree.total;
+            dominators = nodes_at retained above.items;
+            are_dominators = is.1;
+            children = nodes_at retained below.items;
+            are_children = is.2;
+            is = sym (append_assoc (total_line (total_of retained))
+                (above_lines found (retained_in retained) (nodes_at retained above.items))
+                (child_lines found (retained_in retained) (nodes_at retained below.items)));
+          },
+        )))
+    keeps_told kept.Weakly is = node_report (kept_text found retained id kept.Weakly) is.0.0 (inr (inr (inl (is.0, is.1, refl))))
+    keeps_told kept.Nowise is = node_report (kept_text found retained id kept.Nowise) is.0.0 (inr (inr (inr (is.0, is.1, refl))))
+    keeps_told kept.Nothing is = node_report (kept_text found retained id kept.Nothing) is.0 (inl (is.1, refl))

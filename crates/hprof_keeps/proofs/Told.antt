@@ -1,7 +1,7 @@
 -- The lines of nodes, one behind the other.
 use Rattle.std.specs.Prelude.{map}
 use Rattle.std.specs.List.{flat_map}
-use Rattle.std.proofs.Common.{◌≡◌, ◌+◌, ◌<◌, ℕ, List, ◌++◌, ap, drop, length, get_or}
+use Rattle.std.proofs.Common.{◌≡◌, ◌+◌, ◌<◌, ℕ, List, ◌++◌, drop, length, get_or}
 use Rattle.std.proofs.lemmas.List.{at_drop_more}
 use Rattle.hprof_describe.specs.Findings.{Findings}
 use Rattle.hprof_retained.specs.Tree.{node_at}

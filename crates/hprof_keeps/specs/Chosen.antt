@@ -1,6 +1,7 @@
 -- The classes and objects that the report `biggest` is on. The choices are this project's own.
 use Rattle.std.specs.Prelude.{◌≡◌, ◌⊎◌, ℕ, Bool, List, Some, Contains, IsTrue, ⊤}
 use Rattle.std.specs.List.Sorted.{IsStrictlyIncreasing}
+use Rattle.std.proofs.Props.{props}
 use Rattle.hprof_items.specs.FactValue.{FactValue}
 use Rattle.hprof_rows.specs.Facts.{Has}
 use Rattle.hprof_heap.specs.Classes.{ClassValue, HasDump}
@@ -40,3 +41,8 @@ IsChosen facts (OfClasses classes with_class_dumps) node = IsOfClasses facts cla
 abbrev pub ClassesAscend : Choice → Type 0
 ClassesAscend (Of kind) = ⊤
 ClassesAscend (OfClasses classes with_class_dumps) = IsStrictlyIncreasing classes.now
+
+-- that has at most one proof
+pub ascend-prop : (choice : Choice) → IsProp (ClassesAscend choice)
+ascend-prop (Of kind) = hlevel props
+ascend-prop (OfClasses classes with_class_dumps) = hlevel props

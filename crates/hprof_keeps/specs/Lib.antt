@@ -1,8 +1,9 @@
 pub mod Order
 pub mod Places
 pub mod KeepsText
-pub mod Otherwise
 pub mod WeakSum
+pub mod Kept
 pub mod Chosen
 pub mod Gathered
 pub mod BiggestText
+pub mod PlaceTaken

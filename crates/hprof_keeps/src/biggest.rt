@@ -43,6 +43,6 @@ pub fn write_biggest<W: Target>(
     ensures health { LeavesTarget result (W.health target.new) }
 {
     holds_of_heap(heap);
-    let places = chosen_places(alloc, heap, retained, &choice)?;
+    let places = chosen_places(alloc, heap, retained, choice)?;
     write_nodes(alloc, heap, classes, retained, "", &places, target)
 }

@@ -1,24 +1,34 @@
 //! The places of chosen classes and objects, those that retain most first.
 
-ghost use Rattle.std.specs.Prelude.{◌≡◌, ◌<◌, ◌++◌, ℕ, All, IfOk, List, MatchOption, OnOk, map};
-ghost use Rattle.hprof_items.specs.FactValue.{value_of};
+ghost use Rattle.std.specs.Prelude.{◌≡◌, ◌⊎◌, ◌++◌, ℕ, IfOk, List, MatchOption, OnOk};
+ghost use Rattle.hprof_items.specs.FactValue.{FactValue, value_of};
 ghost use Rattle.hprof_heap.specs.HeapFacts.{facts_of, size_of};
-ghost use Rattle.hprof_retained.specs.Retained.{IsHeld};
-ghost use Rattle.hprof_retained.specs.Tree.{IsTreeOf, count_of, node_at};
-ghost use Rattle.hprof_keeps.specs.Chosen.{ClassesAscend, IsChosen};
-ghost use Rattle.hprof_keeps.specs.Gathered.{ArePlacesOf, IsChosenObject, IsGiven, IsLoneClass, IsObjectOrClass, places_of_node};
-ghost use Rattle.hprof_keeps.specs.Order.{AreLargestFirst, retained_in};
+ghost use Rattle.hprof_heap.specs.Objects.{HasNoObject};
+ghost use Rattle.hprof_passes.specs.Finding.{Finds};
+ghost use Rattle.hprof_retained.specs.Tree.{IsTreeOf};
+ghost use Rattle.hprof_keeps.specs.Chosen.{ClassesAscend, IsChosen, IsClassAlone};
+ghost use Rattle.hprof_keeps.specs.Gathered.{ArePlacesOf, IsChosenObject, IsGiven, IsLoneClass, places_of_node};
+ghost use Rattle.hprof_keeps.specs.Kept.{ArePlaces};
+ghost use Rattle.hprof_keeps.specs.PlaceTaken.{AreChosenPlaces};
 ghost use Rattle.hprof_keeps.specs.declared.choice.Choice.{Choice};
 
 use crate::children::sort_places;
-use crate::choice::{Choice, chosen_object, has_class_dumps};
-use hprof_heap::{Finger, Heap, Table, find_object_near, table_facts, to_class_dump};
+use crate::choice::{Choice, has_class_dumps};
+use crate::place_sink::PlaceSink;
+use hprof_heap::{
+    Finger, Heap, Table, find_object_near, holds_of_heap, table_facts, to_class_dump,
+};
 use hprof_items::Fact;
+use hprof_passes::{InHeap, Objects, PassStop};
 use hprof_retained::Retained;
 use std::alloc::{AllocError, Global};
 
 /// Adds the place of a node, or nothing if no strong references reach it.
-fn push_place(retained: &Retained, node: u64, places: &mut Vec<usize>) -> Result<(), AllocError>
+pub(crate) fn push_place(
+    retained: &Retained,
+    node: u64,
+    places: &mut Vec<usize>,
+) -> Result<(), AllocError>
     ensures { OnOk result (places.new.items ≡ places.old.items ++ places_of_node retained.now node) }
 {
     let place = retained.place(node);
@@ -28,26 +38,48 @@ fn push_place(retained: &Retained, node: u64, places: &mut Vec<usize>) -> Result
     Ok(())
 }
 
-/// Returns the places of the objects of a choice, in the order of the heap. If memory runs out, the answer is `AllocError`.
+/// Returns the places of the objects of a choice, of those that objects make up with a heap, in their order. The heap has all facts but
+/// objects, which are gone through once.
+///
+/// # Errors
+///
+/// - `Sink`: memory ran out.
+/// - `Lost`: the objects cannot be gone through.
+pub(crate) fn object_places_over<O: Objects>(
+    alloc: Global,
+    heap: &Heap,
+    objects: &O,
+    retained: &Retained,
+    choice: Choice<'_>,
+) -> Result<Vec<usize>, PassStop<AllocError, O::Fault>>
+    requires { ClassesAscend choice }
+    ensures { Finds (O.make_up objects.now (size_of heap.now) (facts_of heap.now))
+        (O.agree objects.now (size_of heap.now) (facts_of heap.now)) (O.tells objects.now (size_of heap.now) (facts_of heap.now))
+        (λ all places. ArePlacesOf retained.now (IsGiven (IsChosenObject choice.entry) all) places.items) result }
+{
+    let mut sink = PlaceSink::new(alloc, retained, choice);
+    match objects.pass(alloc, heap, &mut sink) {
+        Ok(()) => Ok(sink.places),
+        Err(stop) => Err(stop),
+    }
+}
+
+/// Returns the places of the objects of a choice of a heap with its objects in memory, as [`object_places_over`] does. If memory runs out,
+/// the answer is `AllocError`.
 fn object_places(
     alloc: Global,
     heap: &Heap,
     retained: &Retained,
-    choice: &Choice<'_>,
+    choice: Choice<'_>,
 ) -> Result<Vec<usize>, AllocError>
-    requires retained { IsTreeOf (size_of heap.now) (facts_of heap.now) retained.now }
-    requires ascend { ClassesAscend choice.now }
-    ensures { IfOk result (λ places. ArePlacesOf retained.now (IsGiven (IsChosenObject choice.now) (facts_of heap.now)) places.items) }
+    requires { ClassesAscend choice }
+    ensures { IfOk result (λ places. ArePlacesOf retained.now (IsGiven (IsChosenObject choice.entry) (facts_of heap.now)) places.items) }
 {
-    let mut places = Vec::new(alloc);
-    let mut facts = table_facts(heap, Table::Objects);
-    let mut fact = Fact::End { thread: 0 };
-    while facts.next_into(&mut fact) {
-        if let Some(node) = chosen_object(choice, &fact) {
-            push_place(retained, node, &mut places)?;
-        }
+    holds_of_heap(heap);
+    match object_places_over(alloc, heap, &InHeap, retained, choice) {
+        Ok(places) => Ok(places),
+        Err(stop) => Err(stop.of_sink()),
     }
-    Ok(places)
 }
 
 /// Returns the identifier of a class dump without an object dump, or `None` of another fact. `near` is where the last object was looked
@@ -63,11 +95,18 @@ fn lone_class(heap: &Heap, fact: &Fact<'_>, near: &mut Finger) -> Option<u64>
     }
 }
 
-/// Adds the places of the class dumps without an object dump to those of the objects of a choice.
-fn push_classes(heap: &Heap, retained: &Retained, places: &mut Vec<usize>) -> Result<(), AllocError>
-    requires { IsTreeOf (size_of heap.now) (facts_of heap.now) retained.now }
-    ensures { (choice : Choice) → ArePlacesOf retained.now (IsGiven (IsChosenObject choice) (facts_of heap.now)) places.old.items
-        → OnOk result (ArePlacesOf retained.now (IsObjectOrClass (facts_of heap.now) choice) places.new.items) }
+/// Adds the places of the class dumps without an object dump to those of the objects of a choice. The objects may be of more facts than the
+/// heap has, if these have no object dumps of its classes either.
+pub(crate) fn push_classes(
+    heap: &Heap,
+    retained: &Retained,
+    places: &mut Vec<usize>,
+) -> Result<(), AllocError>
+    ensures { (facts : List FactValue) (choice : Choice)
+        → ((node : ℕ) → IsClassAlone (facts_of heap.now) node → HasNoObject facts node)
+        → ArePlacesOf retained.now (IsGiven (IsChosenObject choice) facts) places.old.items
+        → OnOk result (ArePlacesOf retained.now
+        (λ node. IsGiven (IsChosenObject choice) facts node ⊎ IsClassAlone (facts_of heap.now) node) places.new.items) }
 {
     let mut near = Finger::start();
     let mut facts = table_facts(heap, Table::Classes);
@@ -85,14 +124,13 @@ fn gather_places(
     alloc: Global,
     heap: &Heap,
     retained: &Retained,
-    choice: &Choice<'_>,
+    choice: Choice<'_>,
 ) -> Result<Vec<usize>, AllocError>
-    requires retained { IsTreeOf (size_of heap.now) (facts_of heap.now) retained.now }
-    requires ascend { ClassesAscend choice.now }
-    ensures { IfOk result (λ places. ArePlacesOf retained.now (IsChosen (facts_of heap.now) choice.now) places.items) }
+    requires { ClassesAscend choice }
+    ensures { IfOk result (λ places. ArePlacesOf retained.now (IsChosen (facts_of heap.now) choice.entry) places.items) }
 {
     let mut places = object_places(alloc, heap, retained, choice)?;
-    if has_class_dumps(choice) {
+    if has_class_dumps(&choice) {
         push_classes(heap, retained, &mut places)?;
     }
     Ok(places)
@@ -104,14 +142,12 @@ pub(crate) fn chosen_places(
     alloc: Global,
     heap: &Heap,
     retained: &Retained,
-    choice: &Choice<'_>,
+    choice: Choice<'_>,
 ) -> Result<Vec<usize>, AllocError>
     requires retained { IsTreeOf (size_of heap.now) (facts_of heap.now) retained.now }
-    requires ascend { ClassesAscend choice.now }
-    ensures places { IfOk result (λ places. All (λ place. (0 < place) × (place < count_of retained.now)) places.items) }
-    ensures nodes { IfOk result (λ places. AreLargestFirst (retained_in retained.now)
-        (λ node. IsHeld (size_of heap.now) (facts_of heap.now) node × IsChosen (facts_of heap.now) choice.now node)
-        (map (node_at retained.now) places.items)) }
+    requires ascend { ClassesAscend choice }
+    ensures places { IfOk result (λ places. ArePlaces retained.now places.items) }
+    ensures nodes { IfOk result (λ places. AreChosenPlaces (size_of heap.now) (facts_of heap.now) choice.entry retained.now places.items) }
 {
     let mut places = gather_places(alloc, heap, retained, choice)?;
     sort_places(retained, &mut places);

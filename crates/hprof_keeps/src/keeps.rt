@@ -1,6 +1,6 @@
 //! The report `keeps`: what keeps an object alive, and what it keeps alive itself.
 
-ghost use Rattle.std.specs.Prelude.{◌≡◌, ◌≢◌, ◌<◌, ◌↔◌, ℕ, List, IfSome};
+ghost use Rattle.std.specs.Prelude.{◌≡◌, ◌++◌, ◌↔◌, ℕ, List, IfSome};
 ghost use Rattle.hprof_devices.specs.declared.health.Health.TheVariants.{Well};
 ghost use Rattle.hprof_edges.specs.Edges.{IsEdge};
 ghost use Rattle.hprof_edges.specs.LeftOut.{IsLeftOut, fields_in};
@@ -10,168 +10,103 @@ ghost use Rattle.hprof_naming.specs.ClassNames.{AreClassNames};
 ghost use Rattle.hprof_lines.specs.Stopping.{LeavesTarget, WritesText};
 ghost use Rattle.hprof_describe.specs.Findings.{AreFindings, Findings};
 ghost use Rattle.hprof_weak.specs.Weak.{IsWeak};
-ghost use Rattle.hprof_retained.specs.Retained.{IsHeld};
-ghost use Rattle.hprof_retained.specs.Tree.{IsTreeOf, count_of, node_at};
+ghost use Rattle.hprof_retained.specs.Tree.{IsTreeOf, total_of};
 ghost use Rattle.hprof_retained.specs.Weakly.{AreWeaklyHeld};
-ghost use Rattle.hprof_keeps.specs.KeepsText.{IsHeldText, IsKeepsText, IsRootsText};
-ghost use Rattle.hprof_keeps.specs.Otherwise.{IsDumpedText, IsOtherwise};
+ghost use Rattle.hprof_keeps.specs.Kept.{ArePlaces, HasPlaces, kept_text, nodes_at};
+ghost use Rattle.hprof_keeps.specs.KeepsText.{IsKeepsText, above_lines, child_lines, total_line, weakly_line};
 ghost use Rattle.hprof_keeps.specs.Order.{retained_in};
+ghost use Rattle.hprof_keeps.specs.WeakSum.{sum_of};
 
+use crate::kept::{Kept, kept_of};
 use crate::lines::{total_line, weakly_line};
-use crate::nodes::{write_children, write_dominators};
-use crate::weakly::{is_weakly_held, weak_sum};
+use crate::nodes::write_nodes;
+use crate::weakly::WeakSum;
 use hprof_devices::Target;
 use hprof_edges::LeftOut;
 use hprof_engine::WriteStop;
-use hprof_heap::{Heap, find_class, find_object, holds_of_heap};
+use hprof_heap::{Heap, holds_of_heap};
 use hprof_lines::{nothing_line, write_line, write_str};
 use hprof_naming::ClassNames;
 use hprof_retained::{Retained, WeaklyHeld};
 use std::alloc::Global;
 
-/// Writes the report on the node at a place. If it stops, some of it was written, from the front.
+/// Writes the report on a node with these dominators and these nodes right below it. If it stops, some of it was written, from the front.
 fn write_held<W: Target>(
     alloc: Global,
     heap: &Heap,
     classes: &ClassNames,
     retained: &Retained,
-    place: usize,
+    above: &[usize],
+    below: &[usize],
     target: &mut W,
 ) -> Result<(), WriteStop>
     requires classes { AreClassNames (facts_of heap.now) classes.now }
-    requires retained { IsTreeOf (size_of heap.now) (facts_of heap.now) retained.now }
-    requires some { 0 < place }
-    requires within { place < count_of retained.now }
+    requires above { ArePlaces retained.now above.now }
+    requires below { ArePlaces retained.now below.now }
     requires well { W.health target.old ≡ Well }
-    ensures bytes { (found : Findings) → AreFindings (size_of heap.now) (facts_of heap.now) found → (text : List ℕ)
-        × IsHeldText (size_of heap.now) (facts_of heap.now) found (retained_in retained.now) (node_at retained.now place) text
-        × WritesText (W.written target.old) (W.written target.new) result text }
+    ensures bytes { (found : Findings) → AreFindings (size_of heap.now) (facts_of heap.now) found
+        → WritesText (W.written target.old) (W.written target.new) result (total_line (total_of retained.now)
+        ++ (above_lines found (retained_in retained.now) (nodes_at retained.now above.now)
+        ++ child_lines found (retained_in retained.now) (nodes_at retained.now below.now))) }
     ensures health { LeavesTarget result (W.health target.new) }
 {
     write_line(total_line(alloc, retained), target)?;
-    write_dominators(alloc, heap, classes, retained, place, target)?;
-    write_children(alloc, heap, classes, retained, place, target)
+    write_nodes(alloc, heap, classes, retained, "", above, target)?;
+    write_nodes(alloc, heap, classes, retained, "  ", below, target)
 }
 
-/// Writes the report on an identifier that strong references do not reach. If it stops, some of it was written, from the front.
-fn write_otherwise<W: Target>(
-    alloc: Global,
-    heap: &Heap,
-    weak: &LeftOut,
-    retained: &Retained,
-    weakly: &mut Option<WeaklyHeld>,
-    id: u64,
-    target: &mut W,
-) -> Result<(), WriteStop>
-    requires not_held { ¬ (IsHeld (size_of heap.now) (facts_of heap.now) id) }
-    requires weak { (edge : Edge) → IsEdge (size_of heap.now) (facts_of heap.now) edge
-        → IsLeftOut (fields_in weak.now) (facts_of heap.now) edge ↔ IsWeak (facts_of heap.now) edge }
-    requires retained { IsTreeOf (size_of heap.now) (facts_of heap.now) retained.now }
-    requires weakly { IfSome weakly.old (AreWeaklyHeld (size_of heap.now) (facts_of heap.now)) }
-    requires well { W.health target.old ≡ Well }
-    ensures bytes { (text : List ℕ) × IsOtherwise (size_of heap.now) (facts_of heap.now) id text
-        × WritesText (W.written target.old) (W.written target.new) result text }
-    ensures health { LeavesTarget result (W.health target.new) }
-    ensures weakly { IfSome weakly.new (AreWeaklyHeld (size_of heap.now) (facts_of heap.now)) }
-{
-    holds_of_heap(heap);
-    if is_weakly_held(alloc, heap, weak, retained, weakly, id)? {
-        write_str("only by weak references\n", target)
-    } else {
-        write_str("not reached\n", target)
-    }
-}
-
-/// Writes the report on a class or an object, or on another identifier that strong references do not reach. If it stops, some of it was
-/// written, from the front.
-fn write_dumped<W: Target>(
-    alloc: Global,
-    heap: &Heap,
-    classes: &ClassNames,
-    weak: &LeftOut,
-    retained: &Retained,
-    weakly: &mut Option<WeaklyHeld>,
-    id: u64,
-    target: &mut W,
-) -> Result<(), WriteStop>
-    requires classes { AreClassNames (facts_of heap.now) classes.now }
-    requires weak { (edge : Edge) → IsEdge (size_of heap.now) (facts_of heap.now) edge
-        → IsLeftOut (fields_in weak.now) (facts_of heap.now) edge ↔ IsWeak (facts_of heap.now) edge }
-    requires retained { IsTreeOf (size_of heap.now) (facts_of heap.now) retained.now }
-    requires weakly { IfSome weakly.old (AreWeaklyHeld (size_of heap.now) (facts_of heap.now)) }
-    requires well { W.health target.old ≡ Well }
-    ensures bytes { (found : Findings) → AreFindings (size_of heap.now) (facts_of heap.now) found → (text : List ℕ)
-        × IsDumpedText (size_of heap.now) (facts_of heap.now) found (retained_in retained.now) id text
-        × WritesText (W.written target.old) (W.written target.new) result text }
-    ensures health { LeavesTarget result (W.health target.new) }
-    ensures weakly { IfSome weakly.new (AreWeaklyHeld (size_of heap.now) (facts_of heap.now)) }
-{
-    holds_of_heap(heap);
-    let place = retained.place(id);
-    if place == 0 {
-        write_otherwise(alloc, heap, weak, retained, weakly, id, target)
-    } else {
-        write_held(alloc, heap, classes, retained, place, target)
-    }
-}
-
-/// Writes the report on an identifier other than 0. If it stops, some of it was written, from the front.
-fn write_node<W: Target>(
-    alloc: Global,
-    heap: &Heap,
-    classes: &ClassNames,
-    weak: &LeftOut,
-    retained: &Retained,
-    weakly: &mut Option<WeaklyHeld>,
-    id: u64,
-    target: &mut W,
-) -> Result<(), WriteStop>
-    requires some { id ≢ 0 }
-    requires classes { AreClassNames (facts_of heap.now) classes.now }
-    requires weak { (edge : Edge) → IsEdge (size_of heap.now) (facts_of heap.now) edge
-        → IsLeftOut (fields_in weak.now) (facts_of heap.now) edge ↔ IsWeak (facts_of heap.now) edge }
-    requires retained { IsTreeOf (size_of heap.now) (facts_of heap.now) retained.now }
-    requires weakly { IfSome weakly.old (AreWeaklyHeld (size_of heap.now) (facts_of heap.now)) }
-    requires well { W.health target.old ≡ Well }
-    ensures bytes { (text : List ℕ) × IsKeepsText (size_of heap.now) (facts_of heap.now) id text
-        × WritesText (W.written target.old) (W.written target.new) result text }
-    ensures health { LeavesTarget result (W.health target.new) }
-    ensures weakly { IfSome weakly.new (AreWeaklyHeld (size_of heap.now) (facts_of heap.now)) }
-{
-    holds_of_heap(heap);
-    match (find_class(heap, id), find_object(heap, id)) {
-        (None, None) => write_line(nothing_line(alloc, id), target),
-        _ => write_dumped(alloc, heap, classes, weak, retained, weakly, id, target),
-    }
-}
-
-/// Writes the report on the roots together. If it stops, some of it was written, from the front.
+/// Writes the report on the roots together, with these nodes right below them. If it stops, some of it was written, from the front.
 fn write_roots<W: Target>(
     alloc: Global,
     heap: &Heap,
     classes: &ClassNames,
-    weak: &LeftOut,
     retained: &Retained,
-    weakly: &mut Option<WeaklyHeld>,
+    weakly: &WeakSum,
+    below: &[usize],
     target: &mut W,
 ) -> Result<(), WriteStop>
     requires classes { AreClassNames (facts_of heap.now) classes.now }
-    requires weak { (edge : Edge) → IsEdge (size_of heap.now) (facts_of heap.now) edge
-        → IsLeftOut (fields_in weak.now) (facts_of heap.now) edge ↔ IsWeak (facts_of heap.now) edge }
-    requires retained { IsTreeOf (size_of heap.now) (facts_of heap.now) retained.now }
-    requires weakly { IfSome weakly.old (AreWeaklyHeld (size_of heap.now) (facts_of heap.now)) }
+    requires below { ArePlaces retained.now below.now }
     requires well { W.health target.old ≡ Well }
-    ensures bytes { (found : Findings) → AreFindings (size_of heap.now) (facts_of heap.now) found → (text : List ℕ)
-        × IsRootsText (size_of heap.now) (facts_of heap.now) found (retained_in retained.now) text
-        × WritesText (W.written target.old) (W.written target.new) result text }
+    ensures bytes { (found : Findings) → AreFindings (size_of heap.now) (facts_of heap.now) found
+        → WritesText (W.written target.old) (W.written target.new) result (total_line (total_of retained.now)
+        ++ (weakly_line (sum_of weakly.now) ++ child_lines found (retained_in retained.now) (nodes_at retained.now below.now))) }
     ensures health { LeavesTarget result (W.health target.new) }
-    ensures weakly { IfSome weakly.new (AreWeaklyHeld (size_of heap.now) (facts_of heap.now)) }
 {
-    holds_of_heap(heap);
-    let sum = weak_sum(alloc, heap, weak, retained, weakly)?;
     write_line(total_line(alloc, retained), target)?;
-    write_line(weakly_line(alloc, &sum), target)?;
-    write_children(alloc, heap, classes, retained, 0, target)
+    write_line(weakly_line(alloc, weakly), target)?;
+    write_nodes(alloc, heap, classes, retained, "  ", below, target)
+}
+
+/// Writes what is told of an identifier. The heap needs the objects that the words for the nodes at these places are read from. If it
+/// stops, some of it was written, from the front.
+pub(crate) fn write_kept<W: Target>(
+    alloc: Global,
+    heap: &Heap,
+    classes: &ClassNames,
+    retained: &Retained,
+    id: u64,
+    kept: &Kept,
+    target: &mut W,
+) -> Result<(), WriteStop>
+    requires classes { AreClassNames (facts_of heap.now) classes.now }
+    requires places { HasPlaces retained.now kept.now }
+    requires well { W.health target.old ≡ Well }
+    ensures bytes { (found : Findings) → AreFindings (size_of heap.now) (facts_of heap.now) found
+        → WritesText (W.written target.old) (W.written target.new) result (kept_text found retained.now id kept.now) }
+    ensures health { LeavesTarget result (W.health target.new) }
+{
+    match kept {
+        Kept::Roots { weakly, below } => {
+            write_roots(alloc, heap, classes, retained, weakly, below, target)
+        }
+        Kept::Held { above, below } => {
+            write_held(alloc, heap, classes, retained, above, below, target)
+        }
+        Kept::Weakly => write_str("only by weak references\n", target),
+        Kept::Nowise => write_str("not reached\n", target),
+        Kept::Nothing => write_line(nothing_line(alloc, id), target),
+    }
 }
 
 /// Writes the report `keeps` on an identifier. `weak` are the weak fields of the heap's classes, and `retained` is what its nodes retain.
@@ -205,9 +140,6 @@ pub fn write_keeps<W: Target>(
     ensures weakly { IfSome weakly.new (AreWeaklyHeld (size_of heap.now) (facts_of heap.now)) }
 {
     holds_of_heap(heap);
-    if id == 0 {
-        write_roots(alloc, heap, classes, weak, retained, weakly, target)
-    } else {
-        write_node(alloc, heap, classes, weak, retained, weakly, id, target)
-    }
+    let kept = kept_of(alloc, heap, weak, retained, weakly, id)?;
+    write_kept(alloc, heap, classes, retained, id, &kept, target)
 }

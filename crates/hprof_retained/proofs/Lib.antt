@@ -13,3 +13,5 @@ pub mod BorderLists
 pub mod Crossing
 pub mod Ascending
 pub mod SizedNodes
+pub mod WeaklyPassed
+pub mod WeaklyFound

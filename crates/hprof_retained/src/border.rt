@@ -37,7 +37,11 @@ fn push_other(retained: &Retained, others: &mut Vec<u64>, id: u64) -> Result<(),
 }
 
 /// Appends the classes that have a dump, and no place in the tree.
-fn push_classes(heap: &Heap, retained: &Retained, others: &mut Vec<u64>) -> Result<(), AllocError>
+pub(crate) fn push_classes(
+    heap: &Heap,
+    retained: &Retained,
+    others: &mut Vec<u64>,
+) -> Result<(), AllocError>
     ensures { OnOk result ((node : ℕ) → Contains others.new.items node ↔ (Contains others.old.items node
         ⊎ (IsClassNode (facts_of heap.now) node × (place_of retained.now node ≡ 0)))) }
 {

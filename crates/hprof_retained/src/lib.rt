@@ -12,9 +12,12 @@ mod retained;
 mod size_sink;
 mod sizes;
 mod weakly;
+mod weakly_over;
+mod weakly_sink;
 
 pub use beyond::weakly_held;
 pub use making::{retained_of, retained_over};
 pub use retained::Retained;
 pub use sizes::{bytes_of_dump, size_of_node};
 pub use weakly::WeaklyHeld;
+pub use weakly_over::weakly_held_over;

@@ -5,11 +5,11 @@ use Rattle.hprof_keeps.proofs.chosen.chosen_places.Goals as goal
 
 pub returns-clause-places : goal.returns-clause-places
 returns-clause-places c =
-    all_places c.args.retained.now (IsChosen (facts_of c.args.heap.now) c.args.choice.now) c.in_ok-places.places.items
+    all_places c.args.retained.now (IsChosen (facts_of c.args.heap.now) c.args.choice) c.in_ok-places.places.items
     c.sort_places.new.places.items c.in_ok-places.ensures c.sort_places.ensures.same
 
 pub returns-clause-nodes : goal.returns-clause-nodes
 returns-clause-nodes c =
-    are_largest c.args.retained.now (IsChosen (facts_of c.args.heap.now) c.args.choice.now) c.in_ok-places.places.items
+    are_largest c.args.retained.now (IsChosen (facts_of c.args.heap.now) c.args.choice) c.in_ok-places.places.items
     c.sort_places.new.places.items c.in_ok-places.ensures c.sort_places.ensures.same (size_of c.args.heap.now) (facts_of c.args.heap.now)
     c.requires.retained c.sort_places.ensures.sorted

@@ -18,7 +18,7 @@ returns-in_err-write_line-clause-bytes g c = λ found is.
     (nodes_text found retained front places) (nodes_text found retained front (drop index places)) (c.loop-place.invariant.pushed found is)
     (g.W.Target.written c.write_line.new.target) line (nodes_text found retained front (drop (index + 1) places))
     (next_line found retained front places index c.loop-place-test.true)
-    (c.in_err-write_line.ensures.bytes line (c.node_line.ensures found is))
+    (c.in_err-write_line.ensures.bytes line (c.place_line.ensures found is))
 
 pub loop-place-preserved : goal.loop-place-preserved
 loop-place-preserved g c = record {
@@ -32,6 +32,6 @@ loop-place-preserved g c = record {
       (g.W.Target.written c.write_line.new.target) (nodes_text found retained front places)
       (nodes_text found retained front (drop index places)) line (nodes_text found retained front (drop (index + 1) places))
       (c.loop-place.invariant.pushed found is) (next_line found retained front places index c.loop-place-test.true)
-      (c.in_ok-write_line.ensures.bytes line (c.node_line.ensures found is));
+      (c.in_ok-write_line.ensures.bytes line (c.place_line.ensures found is));
   well = c.in_ok-write_line.ensures.health;
 }

@@ -1,12 +1,8 @@
-use Rattle.std.specs.Prelude.{All, map}
-use Rattle.std.proofs.Common.{◌≡◌, ◌≤◌, ◌++◌, ℕ, List, length, drop}
-use Rattle.std.specs.List.{flat_map}
+use Rattle.std.proofs.Common.{◌≡◌, drop}
 use Rattle.hprof_devices.specs.declared.health.Health.TheVariants.{Well}
 use Rattle.hprof_devices.proofs.Writes.{Pushed}
 use Rattle.hprof_heap.specs.HeapFacts.{facts_of, size_of}
 use Rattle.hprof_describe.specs.Findings.{AreFindings, Findings}
-use Rattle.hprof_retained.specs.Tree.{node_at}
-use Rattle.hprof_keeps.specs.Order.{retained_in}
 use Rattle.hprof_keeps.proofs.Told.{nodes_text}
 use Rattle.hprof_keeps.proofs.nodes.write_nodes.Given as goal
 

@@ -1,0 +1,125 @@
+//! The report `biggest` by passes over objects.
+
+ghost use Rattle.std.specs.Prelude.{◌≡◌, IfOk};
+ghost use Rattle.hprof_devices.specs.declared.health.Health.TheVariants.{Well};
+ghost use Rattle.hprof_heap.specs.HeapFacts.{facts_of, size_of};
+ghost use Rattle.hprof_passes.specs.Finding.{Finds};
+ghost use Rattle.hprof_lines.specs.Passed.{EndsPassed};
+ghost use Rattle.hprof_lines.specs.Stopping.{LeavesTarget, WritesText};
+ghost use Rattle.hprof_describe.specs.Findings.{AreFindings, Findings};
+ghost use Rattle.hprof_keeps.specs.BiggestText.{IsBiggestText};
+ghost use Rattle.hprof_keeps.specs.Chosen.{ClassesAscend, IsChosen};
+ghost use Rattle.hprof_keeps.specs.Kept.{ArePlaces, nodes_at};
+ghost use Rattle.hprof_keeps.specs.KeepsText.{above_lines};
+ghost use Rattle.hprof_keeps.specs.Order.{retained_in};
+ghost use Rattle.hprof_keeps.specs.PlaceTaken.{IsChosenTree};
+
+use crate::choice::Choice;
+use crate::chosen_over::chosen_over;
+use crate::named::named_heap;
+use crate::nodes::write_nodes;
+use hprof_devices::Target;
+use hprof_engine::WriteStop;
+use hprof_heap::Heap;
+use hprof_lines::stop_of_pass;
+use hprof_naming::ClassNames;
+use hprof_passes::{Objects, PassStop};
+use hprof_retained::{Retained, retained_over};
+use hprof_weak::weak_fields_over;
+use std::alloc::{AllocError, Global};
+
+/// A tree of dominators, and places in it.
+#[derive(Drop)]
+pub(crate) struct ChosenTree {
+    pub(crate) retained: Retained,
+    pub(crate) places: Vec<usize>,
+}
+
+/// Returns the tree of dominators of the strong references that objects make up with a heap, and the places of the nodes of a choice.
+///
+/// # Errors
+///
+/// Those of `weak_fields_over`, `retained_over` and `chosen_over`.
+fn chosen_tree<O: Objects>(
+    alloc: Global,
+    heap: &Heap,
+    objects: &O,
+    choice: Choice<'_>,
+) -> Result<ChosenTree, PassStop<AllocError, O::Fault>>
+    requires { ClassesAscend choice }
+    ensures places { IfOk result (λ made. ArePlaces made.retained made.places.items) }
+    ensures made { Finds (O.make_up objects.now (size_of heap.now) (facts_of heap.now))
+        (O.agree objects.now (size_of heap.now) (facts_of heap.now)) (O.tells objects.now (size_of heap.now) (facts_of heap.now))
+        (λ all. IsChosenTree (size_of heap.now) all choice.entry) result }
+{
+    let weak = match weak_fields_over(alloc, heap, objects) {
+        Ok(weak) => weak,
+        Err(stop) => return Err(stop),
+    };
+    let retained = match retained_over(alloc, heap, objects, &weak) {
+        Ok(retained) => retained,
+        Err(stop) => return Err(stop),
+    };
+    match chosen_over(alloc, heap, objects, &retained, choice) {
+        Ok(places) => Ok(ChosenTree { retained, places }),
+        Err(stop) => Err(stop),
+    }
+}
+
+/// Writes the lines of the nodes at these places, with the words of a heap in memory. If it stops, some of them were written, from the
+/// front.
+fn write_in_memory<W: Target>(
+    alloc: Global,
+    heap: &Heap,
+    retained: &Retained,
+    places: &[usize],
+    target: &mut W,
+) -> Result<(), WriteStop>
+    requires places { ArePlaces retained.now places.now }
+    requires well { W.health target.old ≡ Well }
+    ensures bytes { (found : Findings) → AreFindings (size_of heap.now) (facts_of heap.now) found
+        → WritesText (W.written target.old) (W.written target.new) result
+        (above_lines found (retained_in retained.now) (nodes_at retained.now places.now)) }
+    ensures health { LeavesTarget result (W.health target.new) }
+{
+    let classes = ClassNames::of(alloc, heap)?;
+    write_nodes(alloc, heap, &classes, retained, "", places, target)
+}
+
+/// Writes the report `biggest` on a choice of classes and objects, as [`write_biggest`](crate::write_biggest) does. The heap has all facts
+/// but the objects, which are gone through six to nine times. Memory holds the tree of dominators, and, of the objects, only these:
+///
+/// - those of the choice that strong references reach;
+/// - those that the texts of strings and the names of threads among them are read from;
+/// - before that, if the choice has class dumps, the objects of classes.
+///
+/// # Errors
+///
+/// - `Sink`: the writer failed or memory ran out. The bytes written are the beginning of the report.
+/// - `Lost`: the objects cannot be gone through. Nothing was written.
+pub fn write_biggest_over<O: Objects, W: Target>(
+    alloc: Global,
+    heap: &Heap,
+    objects: &O,
+    choice: Choice<'_>,
+    target: &mut W,
+) -> Result<(), PassStop<WriteStop, O::Fault>>
+    requires ascend { ClassesAscend choice }
+    requires well { W.health target.old ≡ Well }
+    ensures { EndsPassed (O.make_up objects.now (size_of heap.now) (facts_of heap.now))
+        (O.agree objects.now (size_of heap.now) (facts_of heap.now)) (O.tells objects.now (size_of heap.now) (facts_of heap.now))
+        (λ all. IsBiggestText (size_of heap.now) all (IsChosen all choice.entry)) W.written W.health target.old target.new result }
+{
+    let ChosenTree { retained, places } = match chosen_tree(alloc, heap, objects, choice) {
+        Ok(made) => made,
+        Err(stop) => return Err(stop_of_pass(stop)),
+    };
+    let small = match named_heap(alloc, heap, objects, &retained, &places, &[]) {
+        Ok(small) => small,
+        Err(stop) => return Err(stop_of_pass(stop)),
+    };
+    match write_in_memory(alloc, &small, &retained, &places, target) {
+        Ok(()) => Ok(()),
+        Err(stop) => Err(PassStop::Sink(stop)),
+    }
+}

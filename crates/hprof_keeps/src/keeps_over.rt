@@ -1,0 +1,105 @@
+//! The report `keeps` by passes over objects.
+
+ghost use Rattle.std.specs.Prelude.{◌≡◌};
+ghost use Rattle.hprof_devices.specs.declared.health.Health.TheVariants.{Well};
+ghost use Rattle.hprof_heap.specs.HeapFacts.{facts_of, size_of};
+ghost use Rattle.hprof_lines.specs.Passed.{EndsPassed};
+ghost use Rattle.hprof_lines.specs.Stopping.{LeavesTarget, WritesText};
+ghost use Rattle.hprof_describe.specs.Findings.{AreFindings, Findings};
+ghost use Rattle.hprof_keeps.specs.Kept.{HasPlaces, above_places, below_places, kept_text};
+ghost use Rattle.hprof_keeps.specs.KeepsText.{IsKeepsText};
+
+use crate::keeps::write_kept;
+use crate::kept::{Kept, KeptTree};
+use crate::kept_over::kept_tree;
+use crate::named::named_heap;
+use hprof_devices::Target;
+use hprof_engine::WriteStop;
+use hprof_heap::Heap;
+use hprof_lines::stop_of_pass;
+use hprof_naming::ClassNames;
+use hprof_passes::{Objects, PassStop};
+use hprof_retained::Retained;
+use std::alloc::Global;
+
+/// Returns the places of the dominators that the report names.
+fn above_of(kept: &Kept) -> &[usize]
+    ensures { result.now ≡ above_places kept.now }
+{
+    match kept {
+        Kept::Held { above, .. } => above,
+        _ => &[],
+    }
+}
+
+/// Returns the places of the nodes right below that the report names.
+fn below_of(kept: &Kept) -> &[usize]
+    ensures { result.now ≡ below_places kept.now }
+{
+    match kept {
+        Kept::Roots { below, .. } | Kept::Held { below, .. } => below,
+        _ => &[],
+    }
+}
+
+/// Writes what is told of an identifier, with the words of a heap in memory. If it stops, some of it was written, from the front.
+fn write_in_memory<W: Target>(
+    alloc: Global,
+    heap: &Heap,
+    retained: &Retained,
+    id: u64,
+    kept: &Kept,
+    target: &mut W,
+) -> Result<(), WriteStop>
+    requires places { HasPlaces retained.now kept.now }
+    requires well { W.health target.old ≡ Well }
+    ensures bytes { (found : Findings) → AreFindings (size_of heap.now) (facts_of heap.now) found
+        → WritesText (W.written target.old) (W.written target.new) result (kept_text found retained.now id kept.now) }
+    ensures health { LeavesTarget result (W.health target.new) }
+{
+    let classes = ClassNames::of(alloc, heap)?;
+    write_kept(alloc, heap, &classes, retained, id, kept, target)
+}
+
+/// Writes the report `keeps` on an identifier, as [`write_keeps`](crate::write_keeps) does. The heap has all facts but the objects, which
+/// are gone through five to ten times. Memory holds the tree of dominators, or a search, and then, of the objects, only these:
+///
+/// - the dominators of the identifier, and those right below it;
+/// - those that the texts of strings and the names of threads among them are read from.
+///
+/// # Errors
+///
+/// - `Sink`: the writer failed or memory ran out. The bytes written are the beginning of the report.
+/// - `Lost`: the objects cannot be gone through. Nothing was written.
+pub fn write_keeps_over<O: Objects, W: Target>(
+    alloc: Global,
+    heap: &Heap,
+    objects: &O,
+    id: u64,
+    target: &mut W,
+) -> Result<(), PassStop<WriteStop, O::Fault>>
+    requires { W.health target.old ≡ Well }
+    ensures { EndsPassed (O.make_up objects.now (size_of heap.now) (facts_of heap.now))
+        (O.agree objects.now (size_of heap.now) (facts_of heap.now)) (O.tells objects.now (size_of heap.now) (facts_of heap.now))
+        (λ all. IsKeepsText (size_of heap.now) all id) W.written W.health target.old target.new result }
+{
+    let KeptTree { retained, kept } = match kept_tree(alloc, heap, objects, id) {
+        Ok(made) => made,
+        Err(stop) => return Err(stop_of_pass(stop)),
+    };
+    let small = match named_heap(
+        alloc,
+        heap,
+        objects,
+        &retained,
+        above_of(&kept),
+        below_of(&kept),
+    ) {
+        Ok(small) => small,
+        Err(stop) => return Err(stop_of_pass(stop)),
+    };
+    match write_in_memory(alloc, &small, &retained, id, &kept, target) {
+        Ok(()) => Ok(()),
+        Err(stop) => Err(PassStop::Sink(stop)),
+    }
+}
