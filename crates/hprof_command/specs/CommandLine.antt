@@ -72,18 +72,10 @@ heap_reads_again heaps.Retained = true
 heap_reads_again other = false
 
 abbrev pub kind_reads_again : KindReport → Bool
-kind_reads_again kinds.Objects = true
-kind_reads_again other = false
+kind_reads_again report = true
 
 abbrev pub node_reads_again : NodeReport → Bool
-node_reads_again nodes.Text = true
-node_reads_again nodes.Object = true
-node_reads_again nodes.Show = true
-node_reads_again nodes.Refs = true
-node_reads_again nodes.Path = true
-node_reads_again nodes.Why = true
-node_reads_again nodes.Who = true
-node_reads_again other = false
+node_reads_again report = true
 
 abbrev pub reads_again : ReportWord → Bool
 reads_again (words.Heap report) = heap_reads_again report

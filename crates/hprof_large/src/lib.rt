@@ -4,10 +4,8 @@
 #![tactic(auto)]
 
 mod checked;
-mod named;
+mod kind;
 mod node;
-mod passed_node_report;
 mod passed_report;
 
-pub use passed_node_report::PassedNodeReport;
 pub use passed_report::PassedReport;

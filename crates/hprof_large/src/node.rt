@@ -4,25 +4,55 @@ ghost use Rattle.std.specs.Prelude.{◌≡◌, ◌≢◌, ℕ, List, [], ◌∷�
 ghost use Rattle.hprof_devices.specs.declared.health.Health.TheVariants.{Well};
 ghost use Rattle.hprof_heap.specs.Heap.{heap_of};
 ghost use Rattle.hprof_heap.specs.HeapFacts.{facts_of, size_of};
+ghost use Rattle.hprof_lines.specs.Passed.{EndsPassed};
 ghost use Rattle.hprof_naming.specs.ClassNames.{AreClassNames};
 ghost use Rattle.hprof_meaning.specs.MeantClasses.{AreMeantDumps};
 ghost use Rattle.hprof_stream.specs.declared.summary.PartSummary.{PartSummary};
 ghost use Rattle.hprof_questions.specs.declared.report.Node.TheVariants as that;
 ghost use Rattle.hprof_questions.specs.declared.report.NodeReport.{NodeReport};
 ghost use Rattle.hprof_questions.specs.declared.report.Report.TheVariants as reports;
-ghost use Rattle.hprof_ask.specs.Report.{IsNamedReport, IsReportText, RefusesReport};
+ghost use Rattle.hprof_ask.specs.Report.{IsNamedReport, IsNodeReport, IsReportText, RefusesReport};
 ghost use Rattle.hprof_making.specs.Over.{EndsOver, heap_with};
-ghost use Rattle.hprof_large.specs.PassedReport.{node_report_of};
 
-use crate::passed_node_report::PassedNodeReport;
 use hprof_devices::Target;
 use hprof_engine::{ProductRefusal, WriteStop};
 use hprof_heap::{Heap, holds_of_heap};
+use hprof_holders::write_who_over;
+use hprof_keeps::write_keeps_over;
 use hprof_meaning::{class_dumps_meant, write_classes_of_name};
 use hprof_naming::{ClassNames, MeantLabel};
 use hprof_passes::{Objects, PassStop};
-use hprof_questions::Node;
+use hprof_questions::{Node, NodeReport};
+use hprof_reports::{write_object_over, write_path_over, write_refs_over, write_text_over};
+use hprof_show::write_show_over;
+use hprof_why::write_why_over;
 use std::alloc::Global;
+
+/// Writes a report on an identifier.
+fn write_on<O: Objects, W: Target>(
+    alloc: Global,
+    heap: &Heap,
+    objects: &O,
+    report: NodeReport,
+    id: u64,
+    target: &mut W,
+) -> Result<(), PassStop<WriteStop, O::Fault>>
+    requires { W.health target.old ≡ Well }
+    ensures { EndsPassed (O.make_up objects.now (size_of heap.now) (facts_of heap.now))
+        (O.agree objects.now (size_of heap.now) (facts_of heap.now)) (O.tells objects.now (size_of heap.now) (facts_of heap.now))
+        (λ all. IsNodeReport (size_of heap.now) all report id) W.written W.health target.old target.new result }
+{
+    match report {
+        NodeReport::Show => write_show_over(alloc, heap, objects, id, target),
+        NodeReport::Why => write_why_over(alloc, heap, objects, id, target),
+        NodeReport::Who => write_who_over(alloc, heap, objects, id, target),
+        NodeReport::Keeps => write_keeps_over(alloc, heap, objects, id, target),
+        NodeReport::Text => write_text_over(alloc, heap, objects, id, target),
+        NodeReport::Object => write_object_over(alloc, heap, objects, id, target),
+        NodeReport::Refs => write_refs_over(alloc, heap, objects, id, target),
+        NodeReport::Path => write_path_over(alloc, heap, objects, id, target),
+    }
+}
 
 /// Writes which class dumps a name means, of which there is not one alone. If there are none, nothing is written. The objects are counted,
 /// which finds whether two of them contradict each other. The answer is the same for each report.
@@ -77,15 +107,15 @@ fn write_named<O: Objects, W: Target>(
     alloc: Global,
     heap: &Heap,
     objects: &O,
-    report: PassedNodeReport,
+    report: NodeReport,
     name: &[u8],
     target: &mut W,
 ) -> Result<(), PassStop<WriteStop, O::Fault>>
     requires { W.health target.old ≡ Well }
     ensures { EndsOver (O.make_up objects.now (size_of heap.now) (facts_of heap.now))
         (O.agree objects.now (size_of heap.now) (facts_of heap.now)) (O.tells objects.now (size_of heap.now) (facts_of heap.now))
-        (λ all. IsNamedReport (size_of heap.now) all (node_report_of report) name.now)
-        (λ refusal all. RefusesReport all (reports.Node (node_report_of report) (that.Named name.entry)) refusal)
+        (λ all. IsNamedReport (size_of heap.now) all report name.now)
+        (λ refusal all. RefusesReport all (reports.Node report (that.Named name.entry)) refusal)
         W.written W.health target.old target.new result }
 {
     holds_of_heap(heap);
@@ -97,7 +127,7 @@ fn write_named<O: Objects, W: Target>(
         return Err(PassStop::Sink(WriteStop::OutOfMemory));
     };
     match only_one(&dumps) {
-        Some(id) => report.write_on(alloc, heap, objects, id, target),
+        Some(id) => write_on(alloc, heap, objects, report, id, target),
         None => write_which(alloc, heap, objects, &names, name, &dumps, target),
     }
 }
@@ -107,19 +137,19 @@ pub(crate) fn write_node<O: Objects, W: Target>(
     alloc: Global,
     heap: &Heap,
     objects: &O,
-    report: PassedNodeReport,
+    report: NodeReport,
     node: Node<'_>,
     target: &mut W,
 ) -> Result<(), PassStop<WriteStop, O::Fault>>
     requires { W.health target.old ≡ Well }
     ensures { (summaries : List PartSummary) → EndsOver (O.make_up objects.now (size_of heap.now) (facts_of heap.now))
         (O.agree objects.now (size_of heap.now) (facts_of heap.now)) (O.tells objects.now (size_of heap.now) (facts_of heap.now))
-        (λ all. IsReportText (reports.Node (node_report_of report) node.entry) summaries (heap_with (heap_of heap.now) all))
-        (λ refusal all. RefusesReport all (reports.Node (node_report_of report) node.entry) refusal)
+        (λ all. IsReportText (reports.Node report node.entry) summaries (heap_with (heap_of heap.now) all))
+        (λ refusal all. RefusesReport all (reports.Node report node.entry) refusal)
         W.written W.health target.old target.new result }
 {
     match node {
-        Node::Identifier(id) => report.write_on(alloc, heap, objects, id, target),
+        Node::Identifier(id) => write_on(alloc, heap, objects, report, id, target),
         Node::Named(name) => write_named(alloc, heap, objects, report, name, target),
     }
 }

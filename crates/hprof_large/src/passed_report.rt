@@ -3,9 +3,8 @@
 ghost use Rattle.std.specs.Prelude.{◌≡◌};
 
 use crate::checked::write_check;
-use crate::named::write_objects;
+use crate::kind::write_kind;
 use crate::node::write_node;
-use crate::passed_node_report::PassedNodeReport;
 use hprof_ask::Reporting;
 use hprof_by_label::write_retained_over;
 use hprof_devices::Target;
@@ -15,7 +14,7 @@ use hprof_histogram::CountedKinds;
 use hprof_holders::write_threads_over;
 use hprof_making::PassProduct;
 use hprof_passes::{Objects, PassStop};
-use hprof_questions::{HeapReport, KindReport, Kinds, Node, Report};
+use hprof_questions::{HeapReport, KindReport, Kinds, Node, NodeReport, Report};
 use hprof_reports::{write_classes_over, write_histogram_over};
 use hprof_stream::PartSummary;
 use std::alloc::{AllocError, Global};
@@ -33,10 +32,10 @@ pub enum PassedReport<'a> {
     Threads,
     /// `retained`: what the classes keep in memory.
     Retained,
-    /// `objects`: the objects of a class or a type, or of all classes that a name means, the largest first.
-    Objects(Kinds<'a>),
+    /// A report on the objects of a class or a type, or of all classes that a name means.
+    Kind(KindReport, Kinds<'a>),
     /// A report on a class, an instance or an array.
-    Node(PassedNodeReport, Node<'a>),
+    Node(NodeReport, Node<'a>),
 }
 
 impl<'a> PassedReport<'a> {
@@ -55,11 +54,9 @@ impl<'a> PassedReport<'a> {
             Report::Heap(HeapReport::Classes) => Some(PassedReport::Classes),
             Report::Heap(HeapReport::Threads) => Some(PassedReport::Threads),
             Report::Heap(HeapReport::Retained) => Some(PassedReport::Retained),
-            Report::Kind(KindReport::Objects, kinds) => Some(PassedReport::Objects(kinds)),
-            Report::Node(report, node) => {
-                Some(PassedReport::Node(PassedNodeReport::of(report)?, node))
-            }
-            Report::Heap(HeapReport::Suspects) | Report::Kind(KindReport::Biggest, _) => None,
+            Report::Kind(report, kinds) => Some(PassedReport::Kind(report, kinds)),
+            Report::Node(report, node) => Some(PassedReport::Node(report, node)),
+            Report::Heap(HeapReport::Suspects) => None,
         }
     }
 
@@ -73,8 +70,8 @@ impl<'a> PassedReport<'a> {
             PassedReport::Classes => Report::Heap(HeapReport::Classes),
             PassedReport::Threads => Report::Heap(HeapReport::Threads),
             PassedReport::Retained => Report::Heap(HeapReport::Retained),
-            PassedReport::Objects(kinds) => Report::Kind(KindReport::Objects, kinds),
-            PassedReport::Node(report, node) => Report::Node(report.report(), node),
+            PassedReport::Kind(report, kinds) => Report::Kind(report, kinds),
+            PassedReport::Node(report, node) => Report::Node(report, node),
         }
     }
 
@@ -140,7 +137,9 @@ impl PassProduct for PassedReport<'_> {
             PassedReport::Classes => write_classes_over(alloc, heap, objects, known, target),
             PassedReport::Threads => write_threads_over(alloc, heap, objects, target),
             PassedReport::Retained => write_retained_over(alloc, heap, objects, target),
-            PassedReport::Objects(kinds) => write_objects(alloc, heap, objects, kinds, target),
+            PassedReport::Kind(report, kinds) => {
+                write_kind(alloc, heap, objects, report, kinds, target)
+            }
             PassedReport::Node(report, node) => {
                 write_node(alloc, heap, objects, report, node, target)
             }

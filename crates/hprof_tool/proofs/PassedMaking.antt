@@ -9,15 +9,12 @@ use Rattle.hprof_engine.specs.Makes.{IsMadeOf, Makes}
 use Rattle.hprof_stored.specs.Storing.{HaveObject}
 use Rattle.hprof_stored.specs.StoredMaking.{stored_making}
 use Rattle.hprof_questions.specs.declared.report.HeapReport.TheVariants as heaps
-use Rattle.hprof_questions.specs.declared.report.KindReport.TheVariants as kinds
 use Rattle.hprof_questions.specs.declared.report.Node.{Node}
 use Rattle.hprof_questions.specs.declared.report.Node.TheVariants as that
 use Rattle.hprof_questions.specs.declared.report.NodeReport.{NodeReport}
-use Rattle.hprof_questions.specs.declared.report.NodeReport.TheVariants as nodes
 use Rattle.hprof_questions.specs.declared.report.Report.{Report}
 use Rattle.hprof_questions.specs.declared.report.Report.TheVariants as reports
 use Rattle.hprof_ask.specs.Report.{IsReportText, RefusesReport, TakesMemory, TakesRoom, report_making}
-use Rattle.hprof_large.specs.declared.passed_node_report.PassedNodeReport.TheVariants as nodes_passed
 use Rattle.hprof_large.specs.declared.passed_report.PassedReport.{PassedReport}
 use Rattle.hprof_large.specs.declared.passed_report.PassedReport.TheVariants as passed
 use Rattle.hprof_large.specs.PassedReport.{report_of}
@@ -28,14 +25,8 @@ is_passed : (report : PassedReport) → IsPassed (report_of report)
 is_passed passed.Check = tt
 is_passed passed.Histogram = tt
 is_passed passed.Classes = tt
-is_passed (passed.Objects kind) = tt
-is_passed (passed.Node nodes_passed.Show node) = tt
-is_passed (passed.Node nodes_passed.Text node) = tt
-is_passed (passed.Node nodes_passed.Object node) = tt
-is_passed (passed.Node nodes_passed.Why node) = tt
-is_passed (passed.Node nodes_passed.Who node) = tt
-is_passed (passed.Node nodes_passed.Refs node) = tt
-is_passed (passed.Node nodes_passed.Path node) = tt
+is_passed (passed.Kind report these) = tt
+is_passed (passed.Node report node) = tt
 is_passed passed.Threads = tt
 is_passed passed.Retained = tt
 
@@ -47,16 +38,8 @@ some_passed (reports.Heap heaps.Classes) other is = other passed.Classes refl
 some_passed (reports.Heap heaps.Suspects) other is = is
 some_passed (reports.Heap heaps.Retained) other is = other passed.Retained refl
 some_passed (reports.Heap heaps.Threads) other is = other passed.Threads refl
-some_passed (reports.Kind kinds.Objects these) other is = other (passed.Objects these) refl
-some_passed (reports.Kind kinds.Biggest these) other is = is
-some_passed (reports.Node nodes.Show node) other is = other (passed.Node nodes_passed.Show node) refl
-some_passed (reports.Node nodes.Text node) other is = other (passed.Node nodes_passed.Text node) refl
-some_passed (reports.Node nodes.Object node) other is = other (passed.Node nodes_passed.Object node) refl
-some_passed (reports.Node nodes.Refs node) other is = other (passed.Node nodes_passed.Refs node) refl
-some_passed (reports.Node nodes.Path node) other is = other (passed.Node nodes_passed.Path node) refl
-some_passed (reports.Node nodes.Why node) other is = other (passed.Node nodes_passed.Why node) refl
-some_passed (reports.Node nodes.Who node) other is = other (passed.Node nodes_passed.Who node) refl
-some_passed (reports.Node nodes.Keeps node) other is = is
+some_passed (reports.Kind report these) other is = other (passed.Kind report these) refl
+some_passed (reports.Node report node) other is = other (passed.Node report node) refl
 
 never_true : false ≡ true → ⊥
 never_true e = cc

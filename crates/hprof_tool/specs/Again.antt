@@ -7,8 +7,6 @@ use Rattle.hprof_engine.specs.Makes.{IsMadeOf, Making}
 use Rattle.hprof_stored.specs.StoredMaking.{CanBeReadAgain}
 use Rattle.hprof_stored.specs.Storing.{HaveObject}
 use Rattle.hprof_questions.specs.declared.report.HeapReport.TheVariants as heaps
-use Rattle.hprof_questions.specs.declared.report.KindReport.TheVariants as kinds
-use Rattle.hprof_questions.specs.declared.report.NodeReport.TheVariants as nodes
 use Rattle.hprof_questions.specs.declared.report.Report.{Report}
 use Rattle.hprof_questions.specs.declared.report.Report.TheVariants as reports
 use Rattle.hprof_ask.specs.Report.{IsReportText, RefusesReport, TakesMemory, TakesRoom}
@@ -37,14 +35,8 @@ IsPassed (reports.Heap heaps.Histogram) = ⊤
 IsPassed (reports.Heap heaps.Classes) = ⊤
 IsPassed (reports.Heap heaps.Threads) = ⊤
 IsPassed (reports.Heap heaps.Retained) = ⊤
-IsPassed (reports.Kind kinds.Objects these) = ⊤
-IsPassed (reports.Node nodes.Show node) = ⊤
-IsPassed (reports.Node nodes.Text node) = ⊤
-IsPassed (reports.Node nodes.Object node) = ⊤
-IsPassed (reports.Node nodes.Why node) = ⊤
-IsPassed (reports.Node nodes.Who node) = ⊤
-IsPassed (reports.Node nodes.Refs node) = ⊤
-IsPassed (reports.Node nodes.Path node) = ⊤
+IsPassed (reports.Kind report these) = ⊤
+IsPassed (reports.Node report node) = ⊤
 IsPassed other = ⊥
 
 -- what a report makes of parts; where objects may be read again, memory is taken for each, also for one that is known

@@ -144,8 +144,7 @@ fn kind_reads_again(report: KindReport) -> bool
     ensures { result ≡ kind_reads_again report }
 {
     match report {
-        KindReport::Biggest => false,
-        KindReport::Objects => true,
+        KindReport::Biggest | KindReport::Objects => true,
     }
 }
 
@@ -157,11 +156,11 @@ fn node_reads_again(report: NodeReport) -> bool
         NodeReport::Show
         | NodeReport::Why
         | NodeReport::Who
+        | NodeReport::Keeps
         | NodeReport::Text
         | NodeReport::Object
         | NodeReport::Refs
         | NodeReport::Path => true,
-        NodeReport::Keeps => false,
     }
 }
 

@@ -4,7 +4,6 @@ use Rattle.hprof_questions.specs.declared.report.Node.TheVariants as that
 use Rattle.hprof_questions.specs.declared.report.Report.TheVariants as reports
 use Rattle.hprof_ask.specs.Report.{IsNamedReport, IsNodeReport, RefusesReport}
 use Rattle.hprof_making.proofs.Passed.{ends_over}
-use Rattle.hprof_large.specs.PassedReport.{node_report_of}
 use Rattle.hprof_large.proofs.NamedDumps.{dumps_of_whole, report_of_one}
 use Rattle.hprof_large.proofs.node.write_named.Goals as goal
 
@@ -14,7 +13,7 @@ returns-in-Some g c =
     let facts = facts_of c.args.heap.now in
     let objects = c.args.objects.now in
     let name = c.args.name.now in
-    let report = node_report_of c.args.report in
+    let report = c.args.report in
     let id = c.in-Some.id in
     let dumps = c.in-Ok-class_dumps_meant.dumps.items in
     let are = c.in-Ok-class_dumps_meant.ensures name c.of-meant.ensures in
@@ -27,4 +26,4 @@ returns-in-Some g c =
     (λ refusal all. RefusesReport all (reports.Node report (that.Named c.args.name)) refusal) c.write_on.result c.write_on.ensures
 
 pub returns : goal.returns
-returns g c = c.write_which.ensures (node_report_of c.args.report)
+returns g c = c.write_which.ensures c.args.report

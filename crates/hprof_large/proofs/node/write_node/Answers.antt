@@ -6,7 +6,6 @@ use Rattle.hprof_questions.specs.declared.report.Report.TheVariants as reports
 use Rattle.hprof_ask.specs.Report.{IsNodeReport, IsReportText, RefusesReport}
 use Rattle.hprof_making.specs.Over.{EndsOver, heap_with}
 use Rattle.hprof_making.proofs.Passed.{ends_over}
-use Rattle.hprof_large.specs.PassedReport.{node_report_of}
 use Rattle.hprof_large.proofs.node.write_node.Goals as goal
 
 pub returns-in-Identifier : goal.returns-in-Identifier
@@ -15,7 +14,7 @@ returns-in-Identifier g c = λ summaries.
     let ids = size_of c.args.heap.now in
     let facts = facts_of c.args.heap.now in
     let objects = c.args.objects.now in
-    let report = node_report_of c.args.report in
+    let report = c.args.report in
     ends_over (g.O.Objects.make_up objects ids facts) (g.O.Objects.agree objects ids facts) (g.O.Objects.tells objects ids facts)
     (λ all. IsNodeReport ids all report c.in-Identifier.id)
     (λ all. IsReportText (reports.Node report c.args.node) summaries (heap_with (heap_of c.args.heap.now) all)) g.W.Target.written
@@ -31,7 +30,7 @@ returns-in-Named g c = λ summaries.
     let ids = size_of c.args.heap.now in
     let facts = facts_of c.args.heap.now in
     let objects = c.args.objects.now in
-    let report = node_report_of c.args.report in
+    let report = c.args.report in
     subst (λ (n : Node). EndsOver (g.O.Objects.make_up objects ids facts) (g.O.Objects.agree objects ids facts)
     (g.O.Objects.tells objects ids facts)
     (λ all. IsReportText (reports.Node report n) summaries (heap_with (heap_of c.args.heap.now) all))

@@ -13,7 +13,7 @@ use Rattle.hprof_ask.specs.Report.{IsReportText, RefusesReport}
 use Rattle.hprof_making.specs.Over.{EndsOver, heap_with}
 use Rattle.hprof_making.proofs.Passed.{ends_fewer, ends_over}
 use Rattle.hprof_large.specs.declared.passed_report.PassedReport.{PassedReport}
-use Rattle.hprof_large.specs.declared.passed_report.PassedReport.TheVariants.{Node, Objects}
+use Rattle.hprof_large.specs.declared.passed_report.PassedReport.TheVariants.{Kind, Node}
 use Rattle.hprof_large.specs.PassedReport.{report_of}
 use Rattle.hprof_large.proofs.passed_report.PassedReportPassProduct.write_over.Goals as goal
 
@@ -108,9 +108,9 @@ returns-in-Retained g c = λ summaries holds.
     (sym c.in-Retained.is) is)
     (λ refusal all. RefusesReport all report refusal) c.write_retained_over.result c.write_retained_over.ensures)
 
-pub returns-in-Objects : goal.returns-in-Objects
+pub returns-in-Kind : goal.returns-in-Kind
 unfolding facts_of size_of
-returns-in-Objects g c = λ summaries holds.
+returns-in-Kind g c = λ summaries holds.
     let ids = size_of c.args.heap.now in
     let facts = facts_of c.args.heap.now in
     let objects = c.args.objects.now in
@@ -121,11 +121,11 @@ returns-in-Objects g c = λ summaries holds.
     subst (λ (p : PassedReport). EndsOver Made agree tells
     (λ all. IsReportText (report_of p) summaries (heap_with (heap_of c.args.heap.now) all))
     (λ refusal all. RefusesReport all (report_of p) refusal) g.W.Target.written g.W.Target.health c.args.target.now
-    c.write_objects.new.target c.write_objects.result) (sym c.in-Objects.is)
+    c.write_kind.new.target c.write_kind.result) (sym c.in-Kind.is)
     (ends_fewer MakeUp Made agree tells
-    (λ all. IsReportText (report_of (Objects c.in-Objects.kinds)) summaries (heap_with (heap_of c.args.heap.now) all))
-    (λ refusal all. RefusesReport all (report_of (Objects c.in-Objects.kinds)) refusal) g.W.Target.written g.W.Target.health
-    c.args.target.now c.write_objects.new.target (λ all made. made.0) c.write_objects.result (c.write_objects.ensures summaries))
+    (λ all. IsReportText (report_of (Kind c.in-Kind.report c.in-Kind.kinds)) summaries (heap_with (heap_of c.args.heap.now) all))
+    (λ refusal all. RefusesReport all (report_of (Kind c.in-Kind.report c.in-Kind.kinds)) refusal) g.W.Target.written g.W.Target.health
+    c.args.target.now c.write_kind.new.target (λ all made. made.0) c.write_kind.result (c.write_kind.ensures summaries))
 
 pub returns-in-Node : goal.returns-in-Node
 unfolding facts_of size_of

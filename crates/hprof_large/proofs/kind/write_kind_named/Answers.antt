@@ -2,14 +2,12 @@ use Rattle.std.proofs.Common.{◌≡◌, false, true, refl, sym, subst, ◌∙�
 use Rattle.std.specs.List.Sorted.{IsStrictlyIncreasing}
 use Rattle.hprof_heap.specs.HeapFacts.{facts_of, size_of}
 use Rattle.hprof_meaning.specs.MeantClasses.{AreMeantClasses}
-use Rattle.hprof_meaning.specs.ObjectsOfText.{IsObjectsOfText}
-use Rattle.hprof_questions.specs.declared.report.KindReport.TheVariants.{Objects}
 use Rattle.hprof_questions.specs.declared.report.Kinds.TheVariants.{Named}
 use Rattle.hprof_questions.specs.declared.report.Report.TheVariants as reports
-use Rattle.hprof_ask.specs.Report.{IsNamedKind, RefusesReport}
+use Rattle.hprof_ask.specs.Report.{IsNamedKind, IsReportOfClasses, RefusesReport}
 use Rattle.hprof_making.proofs.Passed.{ends_over}
 use Rattle.hprof_large.proofs.NamedKind.{named_kind, none_meant, stops_before}
-use Rattle.hprof_large.proofs.named.write_objects_named.Goals as goal
+use Rattle.hprof_large.proofs.kind.write_kind_named.Goals as goal
 
 pub returns-in-Err : goal.returns-in-Err
 returns-in-Err g c =
@@ -17,8 +15,8 @@ returns-in-Err g c =
     let facts = facts_of c.args.heap.now in
     let objects = c.args.objects.now in
     stops_before (g.O.Objects.make_up objects ids facts) (g.O.Objects.agree objects ids facts) (g.O.Objects.tells objects ids facts)
-    (λ all. IsNamedKind ids all Objects c.args.name.now) (λ refusal all. RefusesReport all
-    (reports.Kind Objects (Named c.args.name)) refusal)
+    (λ all. IsNamedKind ids all c.args.report c.args.name.now) (λ refusal all. RefusesReport all
+    (reports.Kind c.args.report (Named c.args.name)) refusal)
     g.W.Target.written g.W.Target.health c.args.target.now c.in-Err.stop c.stop_of_pass.result c.stop_of_pass.ensures
     (c.in-Err.ensures.meant c.args.name.now c.of-meant.ensures)
 
@@ -32,8 +30,8 @@ returns-then-not-is_answered g c =
       refl,
     )
 
-pub write_objects_of_classes_over-requires-clause-ascend : goal.write_objects_of_classes_over-requires-clause-ascend
-write_objects_of_classes_over-requires-clause-ascend g c = subst IsStrictlyIncreasing (sym c.deref-2.ensures.value)
+pub write_of_classes-requires-clause-ascend : goal.write_of_classes-requires-clause-ascend
+write_of_classes-requires-clause-ascend g c = subst IsStrictlyIncreasing (sym c.deref-2.ensures.value)
     (c.in-Ok-classes_meant_over.ensures.ascend c.args.name.now c.of-meant.ensures)
 
 pub returns : goal.returns
@@ -45,10 +43,10 @@ returns g c =
     let classes = c.deref-2.result.now in
     let meant = c.in-Ok-classes_meant_over.ensures.meant name c.of-meant.ensures in
     ends_over (g.O.Objects.make_up objects ids facts) (g.O.Objects.agree objects ids facts) (g.O.Objects.tells objects ids facts)
-    (λ all. IsObjectsOfText ids all classes) (λ all. IsNamedKind ids all Objects name) g.W.Target.written g.W.Target.health
-    c.args.target.now c.write_objects_of_classes_over.new.target
-    (λ all text make is. named_kind ids all name classes text
+    (λ all. IsReportOfClasses ids all c.args.report name classes) (λ all. IsNamedKind ids all c.args.report name)
+    g.W.Target.written g.W.Target.health c.args.target.now c.write_of_classes.new.target
+    (λ all text make is. named_kind ids all c.args.report name classes text
     (subst (AreMeantClasses all name) (sym c.deref-2.ensures.value) (meant.1 all make))
     (λ e. c.if-not-is_answered.ensures.0 refl (c.deref.ensures.value ∙ sym c.deref-2.ensures.value ∙ e)) is)
-    (λ refusal all. RefusesReport all (reports.Kind Objects (Named c.args.name)) refusal) c.write_objects_of_classes_over.result
-    c.write_objects_of_classes_over.ensures
+    (λ refusal all. RefusesReport all (reports.Kind c.args.report (Named c.args.name)) refusal) c.write_of_classes.result
+    c.write_of_classes.ensures

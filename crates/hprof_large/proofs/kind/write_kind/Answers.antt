@@ -1,14 +1,12 @@
 use Rattle.std.proofs.Common.{sym, subst}
 use Rattle.hprof_heap.specs.Heap.{heap_of}
 use Rattle.hprof_heap.specs.HeapFacts.{facts_of, size_of}
-use Rattle.hprof_lines.specs.ObjectsText.{IsObjectsText}
-use Rattle.hprof_questions.specs.declared.report.KindReport.TheVariants.{Objects}
 use Rattle.hprof_questions.specs.declared.report.Kinds.{Kinds}
 use Rattle.hprof_questions.specs.declared.report.Report.TheVariants as reports
-use Rattle.hprof_ask.specs.Report.{IsReportText, RefusesReport}
+use Rattle.hprof_ask.specs.Report.{IsKindReport, IsReportText, RefusesReport}
 use Rattle.hprof_making.specs.Over.{EndsOver, heap_with}
 use Rattle.hprof_making.proofs.Passed.{ends_over}
-use Rattle.hprof_large.proofs.named.write_objects.Goals as goal
+use Rattle.hprof_large.proofs.kind.write_kind.Goals as goal
 
 pub returns-in-Of : goal.returns-in-Of
 unfolding facts_of size_of
@@ -17,12 +15,12 @@ returns-in-Of g c = λ summaries.
     let facts = facts_of c.args.heap.now in
     let objects = c.args.objects.now in
     ends_over (g.O.Objects.make_up objects ids facts) (g.O.Objects.agree objects ids facts) (g.O.Objects.tells objects ids facts)
-    (λ all. IsObjectsText ids all c.in-Of.kind)
-    (λ all. IsReportText (reports.Kind Objects c.args.kinds) summaries (heap_with (heap_of c.args.heap.now) all)) g.W.Target.written
-    g.W.Target.health c.args.target.now c.write_objects_over.new.target
+    (λ all. IsKindReport ids all c.args.report c.in-Of.kind)
+    (λ all. IsReportText (reports.Kind c.args.report c.args.kinds) summaries (heap_with (heap_of c.args.heap.now) all)) g.W.Target.written
+    g.W.Target.health c.args.target.now c.write_of_kind.new.target
     (λ all text make is. subst
-    (λ (k : Kinds). IsReportText (reports.Kind Objects k) summaries (heap_with (heap_of c.args.heap.now) all) text) (sym c.in-Of.is) is)
-    (λ refusal all. RefusesReport all (reports.Kind Objects c.args.kinds) refusal) c.write_objects_over.result c.write_objects_over.ensures
+    (λ (k : Kinds). IsReportText (reports.Kind c.args.report k) summaries (heap_with (heap_of c.args.heap.now) all) text) (sym c.in-Of.is) is)
+    (λ refusal all. RefusesReport all (reports.Kind c.args.report c.args.kinds) refusal) c.write_of_kind.result c.write_of_kind.ensures
 
 pub returns-in-Named : goal.returns-in-Named
 unfolding facts_of size_of
@@ -32,6 +30,6 @@ returns-in-Named g c = λ summaries.
     let objects = c.args.objects.now in
     subst (λ (k : Kinds). EndsOver (g.O.Objects.make_up objects ids facts) (g.O.Objects.agree objects ids facts)
     (g.O.Objects.tells objects ids facts)
-    (λ all. IsReportText (reports.Kind Objects k) summaries (heap_with (heap_of c.args.heap.now) all))
-    (λ refusal all. RefusesReport all (reports.Kind Objects k) refusal) g.W.Target.written g.W.Target.health c.args.target.now
-    c.write_objects_named.new.target c.write_objects_named.result) (sym c.in-Named.is) c.write_objects_named.ensures
+    (λ all. IsReportText (reports.Kind c.args.report k) summaries (heap_with (heap_of c.args.heap.now) all))
+    (λ refusal all. RefusesReport all (reports.Kind c.args.report k) refusal) g.W.Target.written g.W.Target.health c.args.target.now
+    c.write_kind_named.new.target c.write_kind_named.result) (sym c.in-Named.is) c.write_kind_named.ensures
