@@ -20,9 +20,9 @@ use Rattle.hprof_keeps.specs.declared.choice.Choice.{Choice}
 use Rattle.hprof_keeps.proofs.Held.{are_retained}
 use Rattle.hprof_keeps.proofs.NamedNodes.{some_lines}
 
-pub biggest_over : (ids : IdSize) (facts all : List FactValue) → IsWhole ids facts all → (small : Heap) (retained : Retained) (choice : Choice)
-    (places more : List ℕ) (P : List ℕ → Type 0) → IsTreeOf ids all retained → AreChosenPlaces ids all choice retained places
-    → IsNamedHeap ids (nodes_at retained places) more all small
+pub biggest_over : (ids : IdSize) (facts all : List FactValue) → IsWhole ids facts all → (small : Heap) (retained : Retained)
+    (choice : Choice) (places more : List ℕ) (P : List ℕ → Type 0) → IsTreeOf ids all retained
+    → AreChosenPlaces ids all choice retained places → IsNamedHeap ids (nodes_at retained places) more all small
     → ((here : Findings) → AreFindings (size_of small) (facts_of small) here
     → P (above_lines here (retained_in retained) (nodes_at retained places)))
     → (text : List ℕ) × IsBiggestText ids all (IsChosen all choice) text × P text

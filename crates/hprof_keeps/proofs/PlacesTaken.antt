@@ -76,8 +76,8 @@ placed_objects choice retained ids all ordered old new is chosen empty took =
 
 -- ---- classes without an object dump
 
-module _ (ids : IdSize) (wanted : List ℕ) (facts all small : List FactValue) (whole : IsWhole ids facts all) (is : IsSmall ids wanted all small)
-    (has : (dump : ClassValue) → HasDump facts dump → Contains wanted dump.id) where
+module _ (ids : IdSize) (wanted : List ℕ) (facts all small : List FactValue) (whole : IsWhole ids facts all)
+    (is : IsSmall ids wanted all small) (has : (dump : ClassValue) → HasDump facts dump → Contains wanted dump.id) where
   -- the objects of all classes are wanted
   class_among : (dump : ClassValue) → HasDump all dump → Contains wanted dump.id
   class_among dump there = has dump ((has_same ids facts all whole tables.Classes (λ e. cc) (fact_of_class dump) refl).0 there)

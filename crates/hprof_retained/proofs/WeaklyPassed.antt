@@ -1,7 +1,7 @@
 -- What only weak references reach, from a search by all references and a pass over the objects.
 use Rattle.std.specs.Prelude.{◌↔◌, Contains, IsTrue, OnOk, slice_index}
-use Rattle.std.proofs.Common.{◌≡◌, ◌⊎◌, ◌<◌, ◌≤◌, ◌+◌, ◌∙◌, ℕ, Bool, List, [], ◌∷◌, ◌++◌, Option, Some, None, Result, Ok, Err, length, refl, sym, ap, subst}
-use Rattle.std.proofs.Common.{inl, inr, arith, append_assoc, append-nil}
+use Rattle.std.proofs.Common.{◌≡◌, ◌⊎◌, ◌<◌, ◌≤◌, ◌+◌, ◌∙◌, ℕ, Bool, List, [], ◌∷◌, ◌++◌, Option, Some, None, Result, Ok, Err}
+use Rattle.std.proofs.Common.{length, refl, sym, ap, subst, inl, inr, arith, append_assoc, append-nil}
 use Rattle.std.specs.List.Sorted.{IsStrictlyIncreasing}
 use Rattle.std.proofs.lemmas.List.Elements.{Contains-append_left, Contains-push, Contains-push_cases}
 use Rattle.hprof_values.specs.declared.ids.IdSize.{IdSize}
@@ -93,7 +93,10 @@ module _ (ids : IdSize) (facts : List FactValue) (agree : IsConsistent facts) wh
   )
 
   pub none_taken : (first some : List ℕ) → HasReached first some first 0
-  none_taken first some node = (λ has. inl has, λ either. elim either [ inl has ↦ has | inr both ↦ absurd (let low = both.0.1 in omega arith) ])
+  none_taken first some node = (
+    λ has. inl has,
+    λ either. elim either [ inl has ↦ has | inr both ↦ absurd (let low = both.0.1 in omega arith) ],
+  )
 
   pub all_taken : (first some list : List ℕ) (index : ℕ) → index ≡ length some → HasReached first some list index → (node : ℕ)
       → Contains list node ↔ (Contains first node ⊎ (Contains some node × IsReachedByAny node))

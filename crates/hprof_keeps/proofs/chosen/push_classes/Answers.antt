@@ -29,8 +29,8 @@ loop-facts-preserved-in-Continue-1 c = λ other choice none before.
     let fact = value_of c.next_into.new.fact in
     subst (Gathering Gives retained Before table rest) (sym c.in_ok-push_place.ensures)
     (came_given Gives retained Before table (facts_left c.loop-facts.facts) rest fact c.loop-facts.places.items
-    (c.next_into.ensures.some c.loop-facts-test.true) (c.loop-facts.invariant other choice none before) keys.Class (class_key facts) one_class_key
-    c.in-Some.node c.in-Some.ensures
+    (c.next_into.ensures.some c.loop-facts-test.true) (c.loop-facts.invariant other choice none before) keys.Class (class_key facts)
+    one_class_key c.in-Some.node c.in-Some.ensures
     (λ given. none c.in-Some.node ((classes_of_table facts c.in-Some.node).0 (
       fact,
       next_has Gives retained Before table (facts_left c.loop-facts.facts) rest fact c.loop-facts.places.items
