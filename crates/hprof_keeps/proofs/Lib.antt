@@ -1,5 +1,6 @@
 pub mod Found
 pub mod Held
+pub mod Here
 pub mod LineParts
 pub mod Told
 pub mod Places

@@ -19,5 +19,5 @@ pub use children::children_of;
 pub use choice::Choice;
 pub use dominators::dominators_of;
 pub use keeps::write_keeps;
-pub use lines::{node_line, total_line, weakly_line};
-pub use weakly::{WeakSum, weak_sum};
+pub use lines::{node_line, place_line, total_line, weakly_line};
+pub use weakly::{WeakSum, sum_in, weak_sum};

@@ -27,7 +27,29 @@ pub fn total_line(alloc: Global, retained: &Retained) -> Result<String, AllocErr
     format!(in alloc; "{bytes} {objects} roots\n")
 }
 
-/// Returns the line of the node at a place, with what it retains, behind `front`. If memory runs out, the answer is `AllocError`.
+/// Returns the line of the node at a place, with what it retains, behind `front`. Of the heap only the words for the node are asked: it may
+/// be another heap than that of the tree. If memory runs out, the answer is `AllocError`.
+pub fn place_line(
+    alloc: Global,
+    heap: &Heap,
+    classes: &ClassNames,
+    retained: &Retained,
+    front: &str,
+    place: usize,
+) -> Result<String, AllocError>
+    requires classes { AreClassNames (facts_of heap.now) classes.now }
+    requires some { 0 < place }
+    requires within { place < count_of retained.now }
+    ensures { (found : Findings) → AreFindings (size_of heap.now) (facts_of heap.now) found → IfOk result (λ line. string_bytes line
+        ≡ front.now ++ retained_line found (retained_in retained.now) (node_at retained.now place)) }
+{
+    let node = node_text(alloc, heap, classes, retained.node(place))?;
+    let bytes = retained.bytes(place);
+    let objects = retained.objects(place);
+    format!(in alloc; "{front}{bytes} {objects} {node}\n")
+}
+
+/// Returns the line of the node at a place of the heap's own tree, as [`place_line`] does. If memory runs out, the answer is `AllocError`.
 pub fn node_line(
     alloc: Global,
     heap: &Heap,
@@ -43,10 +65,7 @@ pub fn node_line(
     ensures { (found : Findings) → AreFindings (size_of heap.now) (facts_of heap.now) found → IfOk result (λ line. string_bytes line
         ≡ front.now ++ retained_line found (retained_in retained.now) (node_at retained.now place)) }
 {
-    let node = node_text(alloc, heap, classes, retained.node(place))?;
-    let bytes = retained.bytes(place);
-    let objects = retained.objects(place);
-    format!(in alloc; "{front}{bytes} {objects} {node}\n")
+    place_line(alloc, heap, classes, retained, front, place)
 }
 
 /// Returns the line of the nodes that only weak references reach, or an empty text if there are none. If memory runs out, the answer is

@@ -3,15 +3,14 @@ use Rattle.std.proofs.Common.{◌≡◌, ◌∙◌, ◌++◌, ap, codes, rules, 
 use Rattle.std.proofs.lemmas.Grind.{common_steps}
 use Rattle.std.specs.Fmt.{decimal}
 use Rattle.std.specs.String.{string_bytes}
-use Rattle.hprof_heap.specs.HeapFacts.{facts_of, size_of}
 use Rattle.hprof_naming.proofs.Namings.{of_text}
 use Rattle.hprof_describe.specs.Nodes.{node_text}
 use Rattle.hprof_retained.specs.Tree.{node_at, sum_at}
 use Rattle.hprof_keeps.specs.KeepsText.{retained_line}
 use Rattle.hprof_keeps.specs.Order.{retained_in}
-use Rattle.hprof_keeps.proofs.Held.{sum_there}
+use Rattle.hprof_keeps.proofs.Here.{sum_here}
 use Rattle.hprof_keeps.proofs.LineParts.{node_parts}
-use Rattle.hprof_keeps.proofs.lines.node_line.Goals as goal
+use Rattle.hprof_keeps.proofs.lines.place_line.Goals as goal
 
 pub returns : goal.returns
 returns c =
@@ -32,5 +31,5 @@ returns c =
     (codes " " ++ (decimal (c.objects-objects.ensures i) ++ (codes " " ++ (node ++ codes "\n"))))))
     ∙ node_parts found (retained_in retained) (node_at retained place) front node sum
     (c.in_ok-node.ensures found is ∙ ap (node_text found) c.node.ensures)
-    (sum_there (size_of c.args.heap.now) (facts_of c.args.heap.now) retained c.requires.retained place c.requires.some c.requires.within))
+    (sum_here retained place c.requires.some c.requires.within))
     made
