@@ -1,3 +1,4 @@
+mod AloneSoFar
 pub mod HeadPlaces
 pub mod PlaceLabels
 pub mod HeadsSoFar

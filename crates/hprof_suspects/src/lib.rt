@@ -3,6 +3,7 @@
 //! Begin with [`write_suspects`].
 #![tactic(auto)]
 
+mod alone;
 mod chain;
 mod heads;
 mod label_sums;
@@ -15,6 +16,7 @@ mod piece_lines;
 mod pieces;
 mod report;
 mod suspects;
+mod told;
 mod writing;
 
 pub use writing::write_suspects;
