@@ -1,4 +1,4 @@
-mod AloneSoFar
+pub mod AloneSoFar
 pub mod HeadPlaces
 pub mod PlaceLabels
 pub mod HeadsSoFar
@@ -19,6 +19,7 @@ pub mod Hundredths
 pub mod LineTexts
 pub mod ChainTexts
 pub mod ReportTexts
+pub mod ToldTexts
 pub mod Decisions
 pub mod InOrder
 pub mod OtherSums

@@ -1,10 +1,8 @@
 use Rattle.std.specs.Prelude.{IsTrue}
-use Rattle.std.proofs.Common.{◌≡◌, ◌<◌, ◌∙◌, ℕ, Bool, true, false, not, ap, get_or, refl, sym, subst, arith}
+use Rattle.std.proofs.Common.{◌≡◌, ◌<◌, ◌∙◌, Bool, true, false, not, ap, get_or, refl, sym, arith}
 use Rattle.std.proofs.lemmas.Bool.{both_ways, not-true}
 use Rattle.std.proofs.lemmas.List.{get_or_default}
-use Rattle.hprof_retained.specs.Tree.{node_at}
 use Rattle.hprof_by_label.specs.Labels.{label_at}
-use Rattle.hprof_suspects.specs.Groups.{IsClassAlone}
 use Rattle.hprof_suspects.specs.Heads.{up}
 use Rattle.hprof_suspects.specs.PartPlaces.{IsMarked}
 use Rattle.hprof_suspects.proofs.HeadPlaces.{above_place, has_parent}
