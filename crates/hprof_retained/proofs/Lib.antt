@@ -13,3 +13,4 @@ pub mod BorderLists
 pub mod Crossing
 pub mod Ascending
 pub mod SizedNodes
+pub mod AllPlaces

@@ -3,3 +3,4 @@ pub mod Tree
 pub mod Weakly
 pub mod Border
 pub mod Sizing
+pub mod Beyond

@@ -5,6 +5,7 @@
 #![tactic(auto)]
 
 mod beyond;
+mod beyond_over;
 mod border;
 pub mod laws;
 mod making;
@@ -14,6 +15,7 @@ mod sizes;
 mod weakly;
 
 pub use beyond::weakly_held;
+pub use beyond_over::weakly_over;
 pub use making::{retained_of, retained_over};
 pub use retained::Retained;
 pub use sizes::{bytes_of_dump, size_of_node};

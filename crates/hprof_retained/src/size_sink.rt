@@ -15,7 +15,7 @@ use std::alloc::AllocError;
 /// A tree whose places have the sizes of their own nodes. The sums are not made yet.
 #[derive(Drop)]
 pub(crate) struct SizeSink {
-    retained: Retained,
+    pub(crate) retained: Retained,
     ghost small: { All (λ size. size < 2 ^ 64) retained.bytes.items },
     ghost top: { slice_index retained.bytes.items 0 ≡ 0 },
 }
