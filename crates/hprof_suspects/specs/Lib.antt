@@ -9,3 +9,4 @@ pub mod LabelSums
 pub mod AllParts
 pub mod Grounds
 pub mod Told
+pub mod ToldHeaps
