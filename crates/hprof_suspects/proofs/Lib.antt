@@ -20,6 +20,8 @@ pub mod LineTexts
 pub mod ChainTexts
 pub mod ReportTexts
 pub mod ToldTexts
+pub mod ClassObjects
+pub mod SameTold
 pub mod Decisions
 pub mod InOrder
 pub mod OtherSums
