@@ -35,8 +35,9 @@ use Rattle.hprof_retained.proofs.StrongGraph.{carries}
 pub beyond_at : (all retained : Retained) (number : ℕ) → number < length (nodes_in all.nodes)
     → IsBeyondAt all retained number ↔ IsBeyond all retained (slice_index (nodes_in all.nodes) number)
 beyond_at all retained number low =
-    let same : place_of all (slice_index (nodes_in all.nodes) number) ≡ tree.place_of all.tree number =
-    ap (place_of_number all) (has_place (nodes_in all.nodes) (slice_index (nodes_in all.nodes) number) all.nodes.ascend number low refl) in (
+    let node = slice_index (nodes_in all.nodes) number in
+    let same : place_of all node ≡ tree.place_of all.tree number =
+    ap (place_of_number all) (has_place (nodes_in all.nodes) node all.nodes.ascend number low refl) in (
       λ at. (let some = at.0 in omega arith, at.1),
       λ beyond. (let some = beyond.0 in omega arith, beyond.1),
     )

@@ -19,5 +19,6 @@ returns-clause-chain c = λ ids facts tree.
     IfOk-weaker c.dominators_of.result
     (λ places. AreDominators ids facts (node_at retained c.args.place) (map (node_at retained) places.items))
     (λ places. IsChain ids facts (node_of retained c.args.place) (map (node_at retained) places.items))
-    (λ places are. subst (λ p. IsChain ids facts p (map (node_at retained) places.items)) (sym (node_of_some retained c.args.place some)) are)
+    (λ places are. subst (λ p. IsChain ids facts p (map (node_at retained) places.items))
+    (sym (node_of_some retained c.args.place some)) are)
     (IfOk-weaker c.dominators_of.result _ _ (λ places are. are ids facts tree) c.dominators_of.ensures.dominators)

@@ -35,6 +35,7 @@ pub returns-clause-told : goal.returns-clause-told
 returns-clause-told c = λ ids facts agree tree labelled heads parts within.
     let retained = c.args.retained.now in
     let suspects = c.args.suspects.now in
-    subst (λ (l : List SuspectPlace). AreToldOf ids facts retained c.args.labels.now (map (suspect_of retained) l) c.loop-suspect.told.items)
+    let told = c.loop-suspect.told.items in
+    subst (λ (l : List SuspectPlace). AreToldOf ids facts retained c.args.labels.now (map (suspect_of retained) l) told)
     (take_all c.loop-suspect.suspect-index suspects (omega (arith, c.loop-suspect-test.false)))
     (c.loop-suspect.invariant.told ids facts agree tree labelled heads parts within)
