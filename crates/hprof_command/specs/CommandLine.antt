@@ -8,7 +8,6 @@ use Rattle.clap.specs.Lexer.{usize_max}
 use Rattle.clap.specs.Walk.{Rule, is_empty}
 use Rattle.hprof_questions.specs.declared.report_word.Follows.{Follows}
 use Rattle.hprof_questions.specs.declared.report_word.Follows.TheVariants as follow
-use Rattle.hprof_questions.specs.declared.report.HeapReport.{HeapReport}
 use Rattle.hprof_questions.specs.declared.report.HeapReport.TheVariants as heaps
 use Rattle.hprof_questions.specs.declared.report.KindReport.{KindReport}
 use Rattle.hprof_questions.specs.declared.report.KindReport.TheVariants as kinds
@@ -62,15 +61,7 @@ abbrev pub takes_parts : CommandWord → Bool
 takes_parts commands.Compare = false
 takes_parts other = true
 
--- whether a report reads objects again
-abbrev pub heap_reads_again : HeapReport → Bool
-heap_reads_again heaps.Check = true
-heap_reads_again heaps.Histogram = true
-heap_reads_again heaps.Classes = true
-heap_reads_again heaps.Threads = true
-heap_reads_again heaps.Retained = true
-heap_reads_again other = false
-
+-- whether a report reads objects again: each on the whole heap does
 abbrev pub kind_reads_again : KindReport → Bool
 kind_reads_again kinds.Objects = true
 kind_reads_again other = false
@@ -86,7 +77,7 @@ node_reads_again nodes.Who = true
 node_reads_again other = false
 
 abbrev pub reads_again : ReportWord → Bool
-reads_again (words.Heap report) = heap_reads_again report
+reads_again (words.Heap report) = true
 reads_again (words.Kind report) = kind_reads_again report
 reads_again (words.Node report) = node_reads_again report
 

@@ -27,5 +27,6 @@ report_of passed.Histogram = reports.Heap heaps.Histogram
 report_of passed.Classes = reports.Heap heaps.Classes
 report_of passed.Threads = reports.Heap heaps.Threads
 report_of passed.Retained = reports.Heap heaps.Retained
+report_of passed.Suspects = reports.Heap heaps.Suspects
 report_of (passed.Objects these) = reports.Kind kinds.Objects these
 report_of (passed.Node report node) = reports.Node (node_report_of report) node

@@ -18,6 +18,7 @@ use hprof_passes::{Objects, PassStop};
 use hprof_questions::{HeapReport, KindReport, Kinds, Node, Report};
 use hprof_reports::{write_classes_over, write_histogram_over};
 use hprof_stream::PartSummary;
+use hprof_suspects::write_suspects_over;
 use std::alloc::{AllocError, Global};
 
 /// A report that goes through all objects, wherever they are: it needs every one, or a few that it picks.
@@ -33,6 +34,8 @@ pub enum PassedReport<'a> {
     Threads,
     /// `retained`: what the classes keep in memory.
     Retained,
+    /// `suspects`: where most of the memory is held, and what it falls apart into.
+    Suspects,
     /// `objects`: the objects of a class or a type, or of all classes that a name means, the largest first.
     Objects(Kinds<'a>),
     /// A report on a class, an instance or an array.
@@ -55,11 +58,12 @@ impl<'a> PassedReport<'a> {
             Report::Heap(HeapReport::Classes) => Some(PassedReport::Classes),
             Report::Heap(HeapReport::Threads) => Some(PassedReport::Threads),
             Report::Heap(HeapReport::Retained) => Some(PassedReport::Retained),
+            Report::Heap(HeapReport::Suspects) => Some(PassedReport::Suspects),
             Report::Kind(KindReport::Objects, kinds) => Some(PassedReport::Objects(kinds)),
             Report::Node(report, node) => {
                 Some(PassedReport::Node(PassedNodeReport::of(report)?, node))
             }
-            Report::Heap(HeapReport::Suspects) | Report::Kind(KindReport::Biggest, _) => None,
+            Report::Kind(KindReport::Biggest, _) => None,
         }
     }
 
@@ -73,6 +77,7 @@ impl<'a> PassedReport<'a> {
             PassedReport::Classes => Report::Heap(HeapReport::Classes),
             PassedReport::Threads => Report::Heap(HeapReport::Threads),
             PassedReport::Retained => Report::Heap(HeapReport::Retained),
+            PassedReport::Suspects => Report::Heap(HeapReport::Suspects),
             PassedReport::Objects(kinds) => Report::Kind(KindReport::Objects, kinds),
             PassedReport::Node(report, node) => Report::Node(report.report(), node),
         }
@@ -140,6 +145,7 @@ impl PassProduct for PassedReport<'_> {
             PassedReport::Classes => write_classes_over(alloc, heap, objects, known, target),
             PassedReport::Threads => write_threads_over(alloc, heap, objects, target),
             PassedReport::Retained => write_retained_over(alloc, heap, objects, target),
+            PassedReport::Suspects => write_suspects_over(alloc, heap, objects, target),
             PassedReport::Objects(kinds) => write_objects(alloc, heap, objects, kinds, target),
             PassedReport::Node(report, node) => {
                 write_node(alloc, heap, objects, report, node, target)

@@ -38,13 +38,14 @@ is_passed (passed.Node nodes_passed.Refs node) = tt
 is_passed (passed.Node nodes_passed.Path node) = tt
 is_passed passed.Threads = tt
 is_passed passed.Retained = tt
+is_passed passed.Suspects = tt
 
 -- the report is another one than those
 some_passed : (report : Report) → ((p : PassedReport) → report_of p ≢ report) → IsPassed report → ⊥
 some_passed (reports.Heap heaps.Check) other is = other passed.Check refl
 some_passed (reports.Heap heaps.Histogram) other is = other passed.Histogram refl
 some_passed (reports.Heap heaps.Classes) other is = other passed.Classes refl
-some_passed (reports.Heap heaps.Suspects) other is = is
+some_passed (reports.Heap heaps.Suspects) other is = other passed.Suspects refl
 some_passed (reports.Heap heaps.Retained) other is = other passed.Retained refl
 some_passed (reports.Heap heaps.Threads) other is = other passed.Threads refl
 some_passed (reports.Kind kinds.Objects these) other is = other (passed.Objects these) refl

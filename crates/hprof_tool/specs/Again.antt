@@ -6,7 +6,6 @@ use Rattle.hprof_runs.specs.ReadBack.{HoldsNothing}
 use Rattle.hprof_engine.specs.Makes.{IsMadeOf, Making}
 use Rattle.hprof_stored.specs.StoredMaking.{CanBeReadAgain}
 use Rattle.hprof_stored.specs.Storing.{HaveObject}
-use Rattle.hprof_questions.specs.declared.report.HeapReport.TheVariants as heaps
 use Rattle.hprof_questions.specs.declared.report.KindReport.TheVariants as kinds
 use Rattle.hprof_questions.specs.declared.report.NodeReport.TheVariants as nodes
 use Rattle.hprof_questions.specs.declared.report.Report.{Report}
@@ -32,11 +31,7 @@ IsReadyFor left bytes written health parts again = CanBeReadAgain left parts (ma
 
 -- the report goes through all objects: these are read again, if they can be
 abbrev pub IsPassed : Report → Type 0
-IsPassed (reports.Heap heaps.Check) = ⊤
-IsPassed (reports.Heap heaps.Histogram) = ⊤
-IsPassed (reports.Heap heaps.Classes) = ⊤
-IsPassed (reports.Heap heaps.Threads) = ⊤
-IsPassed (reports.Heap heaps.Retained) = ⊤
+IsPassed (reports.Heap report) = ⊤
 IsPassed (reports.Kind kinds.Objects these) = ⊤
 IsPassed (reports.Node nodes.Show node) = ⊤
 IsPassed (reports.Node nodes.Text node) = ⊤

@@ -2,7 +2,7 @@
 
 ghost use Rattle.std.specs.Prelude.{◌≡◌, ◌≢◌, map, MatchOption};
 ghost use Rattle.hprof_command.specs.declared.command.subcommands.CommandWord.{CommandWord};
-ghost use Rattle.hprof_command.specs.CommandLine.{arguments_of, heap_reads_again, kind_reads_again, node_reads_again, reads_again};
+ghost use Rattle.hprof_command.specs.CommandLine.{arguments_of, kind_reads_again, node_reads_again, reads_again};
 ghost use Rattle.hprof_command.specs.CommandLine.{shape_of_command, shape_of_row};
 ghost use Rattle.hprof_command.specs.Commands.{command_word};
 
@@ -125,20 +125,6 @@ fn arguments_of(follows: Follows) -> &'static [Argument]
     }
 }
 
-/// Returns whether a report on the parts, or on the whole heap, reads objects again.
-fn heap_reads_again(report: HeapReport) -> bool
-    ensures { result ≡ heap_reads_again report }
-{
-    match report {
-        HeapReport::Check
-        | HeapReport::Histogram
-        | HeapReport::Classes
-        | HeapReport::Threads
-        | HeapReport::Retained => true,
-        HeapReport::Suspects => false,
-    }
-}
-
 /// Returns whether a report on the objects of a class or a type reads objects again.
 fn kind_reads_again(report: KindReport) -> bool
     ensures { result ≡ kind_reads_again report }
@@ -170,7 +156,7 @@ fn reads_again(report: ReportWord) -> bool
     ensures { result ≡ reads_again report }
 {
     match report {
-        ReportWord::Heap(report) => heap_reads_again(report),
+        ReportWord::Heap(_) => true,
         ReportWord::Kind(report) => kind_reads_again(report),
         ReportWord::Node(report) => node_reads_again(report),
     }

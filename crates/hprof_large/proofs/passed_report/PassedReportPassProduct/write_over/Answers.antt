@@ -8,6 +8,7 @@ use Rattle.hprof_reports.specs.ClassesText.{IsClassesText}
 use Rattle.hprof_reports.specs.HistogramText.{IsHistogramText}
 use Rattle.hprof_holders.specs.ThreadsText.{IsThreadsText}
 use Rattle.hprof_by_label.specs.RetainedText.{IsRetainedText}
+use Rattle.hprof_suspects.specs.SuspectsText.{IsSuspectsText}
 use Rattle.hprof_ask.specs.Summarised.{Holds}
 use Rattle.hprof_ask.specs.Report.{IsReportText, RefusesReport}
 use Rattle.hprof_making.specs.Over.{EndsOver, heap_with}
@@ -107,6 +108,27 @@ returns-in-Retained g c = λ summaries holds.
     (λ (p : PassedReport). IsReportText (report_of p) summaries (heap_with (heap_of c.args.heap.now) all) text)
     (sym c.in-Retained.is) is)
     (λ refusal all. RefusesReport all report refusal) c.write_retained_over.result c.write_retained_over.ensures)
+
+pub returns-in-Suspects : goal.returns-in-Suspects
+unfolding facts_of size_of
+returns-in-Suspects g c = λ summaries holds.
+    let ids = size_of c.args.heap.now in
+    let facts = facts_of c.args.heap.now in
+    let objects = c.args.objects.now in
+    let report = report_of c.args.self.now in
+    let MakeUp = g.O.Objects.make_up objects ids facts in
+    let agree = g.O.Objects.agree objects ids facts in
+    let tells = g.O.Objects.tells objects ids facts in
+    ends_fewer MakeUp (MadeUpWith MakeUp ids c.args.known) agree tells
+    (λ all. IsReportText report summaries (heap_with (heap_of c.args.heap.now) all)) (λ refusal all. RefusesReport all report refusal)
+    g.W.Target.written g.W.Target.health c.args.target.now c.write_suspects_over.new.target (λ all made. made.0)
+    c.write_suspects_over.result
+    (ends_over MakeUp agree tells (IsSuspectsText ids)
+    (λ all. IsReportText report summaries (heap_with (heap_of c.args.heap.now) all)) g.W.Target.written g.W.Target.health
+    c.args.target.now c.write_suspects_over.new.target (λ all text make is. subst
+    (λ (p : PassedReport). IsReportText (report_of p) summaries (heap_with (heap_of c.args.heap.now) all) text)
+    (sym c.in-Suspects.is) is)
+    (λ refusal all. RefusesReport all report refusal) c.write_suspects_over.result c.write_suspects_over.ensures)
 
 pub returns-in-Objects : goal.returns-in-Objects
 unfolding facts_of size_of
