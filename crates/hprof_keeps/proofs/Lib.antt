@@ -3,7 +3,6 @@ pub mod Held
 pub mod LineParts
 pub mod Told
 pub mod Places
-pub mod Reached
 pub mod Texts
 pub mod NodeOrder
 pub mod TreePlaces

@@ -9,15 +9,11 @@ use Rattle.hprof_rows.specs.Conflict.{IsConsistent}
 use Rattle.hprof_heap.specs.Classes.{ClassValue}
 use Rattle.hprof_heap.specs.Found.{IsClassFound, IsObjectFound}
 use Rattle.hprof_text.specs.Identifier.{id_digits}
-use Rattle.hprof_edges.specs.Edges.{AnyEdge}
 use Rattle.hprof_naming.proofs.Lookups.{class_exists, object_exists}
 use Rattle.hprof_reach.specs.Reaching.{IsDumped, IsStart, IsStepBy}
 use Rattle.hprof_weak.specs.Weak.{IsStrong}
 use Rattle.hprof_dominators.specs.Retained.{IsOnce}
-use Rattle.hprof_dominators.specs.Walks as listed
-use Rattle.hprof_dominators.specs.Walks.{IsOn}
-use Rattle.hprof_dominators.specs.Dominating as over
-use Rattle.hprof_dominators.proofs.Listed.{dominator_reached, same_dominates, same_reached}
+use Rattle.hprof_dominators.proofs.Listed.{dominator_reached, same_dominates}
 use Rattle.hprof_dominators.proofs.Walking.{dominates_through, one_of_two}
 use Rattle.hprof_describe.specs.Findings.{AreFindings, Findings}
 use Rattle.hprof_describe.proofs.OneFinding.{findings_exist}
@@ -29,13 +25,13 @@ use Rattle.hprof_retained.proofs.NodeLists.{held_dumped, nodes_exist}
 use Rattle.hprof_retained.proofs.OneParent.{one_parent}
 use Rattle.hprof_retained.proofs.SomeParent.{parent_exists}
 use Rattle.hprof_retained.proofs.SomeSums.{sum_exists, total_exists}
+use Rattle.hprof_retained.proofs.WeaklyFound.{reached_node, reached_or_not}
 use Rattle.hprof_retained.specs.Weakly.{IsWeaklyHeld}
 use Rattle.hprof_keeps.specs.KeepsText.{IsHeldText, IsKeepsText, IsNodeText, IsRootsText}
 use Rattle.hprof_keeps.specs.KeepsText.{above_lines, child_lines, total_line, weakly_line}
 use Rattle.hprof_keeps.specs.Order.{AreChildren, AreDominators}
 use Rattle.hprof_keeps.proofs.LargestFirst.{are_sums, in_on, largest_exist, on_in, sums}
 use Rattle.hprof_keeps.proofs.OneKeeps.{not_each_other}
-use Rattle.hprof_keeps.proofs.Reached.{reached_or_not}
 
 -- ---- lists of nodes
 
@@ -158,20 +154,10 @@ module _ (ids : IdSize) (facts : List FactValue) (agree : IsConsistent facts) wh
   abbrev Step : ℕ → ℕ → Type 0
   Step from to = IsStepBy (IsStrong facts) ids facts from to
 
-  -- a node that is reached has a dump
-  reached_dumped : (node : ℕ) → over.IsReached (IsStart facts) (IsStepBy AnyEdge ids facts) node → IsDumped facts node
-  reached_dumped node reached = go walk.0 walk.1 where
-    walk : listed.Reached (IsStart facts) (IsStepBy AnyEdge ids facts) node
-    walk = (same_reached (IsStart facts) (IsStepBy AnyEdge ids facts) node).1 reached
-
-    go : (nodes : List ℕ) → listed.IsWalk (IsStart facts) (IsStepBy AnyEdge ids facts) nodes node → IsDumped facts node
-    go [] start = start.0.1
-    go (before ∷ nodes) step = step.0.1.1
-
   pub weakly_exists : (sum : Sum) × IsSumOver ids facts (IsWeaklyHeld ids facts) sum
   weakly_exists = sum_exists ids facts agree (IsWeaklyHeld ids facts)
-      (λ node. both_decided (reached_or_not ids facts node agree) (not_decided (held_or_not ids facts agree node)))
-      (λ node weakly. reached_dumped node weakly.0)
+      (λ node. both_decided (reached_or_not ids facts agree node) (not_decided (held_or_not ids facts agree node)))
+      (λ node weakly. (reached_node ids facts agree node weakly.0).1)
 
   abbrev retained : ℕ → Sum
   retained = sums ids facts agree
@@ -275,7 +261,7 @@ module _ (ids : IdSize) (facts : List FactValue) (agree : IsConsistent facts) wh
       | inr none ↦ (codes "nothing at " ++ id_digits id ++ codes "\n", inl (λ is. none is.1, refl))
       | inl dumped ↦ elim (held_or_not ids facts agree id) [
         | inl held ↦ let text = held_exists id held in (text.0, inr (inl ((some, dumped), text.1)))
-        | inr not ↦ elim (reached_or_not ids facts id agree) [
+        | inr not ↦ elim (reached_or_not ids facts agree id) [
           | inl reached ↦ (codes "only by weak references\n", inr (inr (inl ((some, dumped), (reached, not), refl))))
           | inr none ↦ (codes "not reached\n", inr (inr (inr ((some, dumped), none, refl))))
         ]

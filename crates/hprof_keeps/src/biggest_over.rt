@@ -87,11 +87,11 @@ fn write_in_memory<W: Target>(
 }
 
 /// Writes the report `biggest` on a choice of classes and objects, as [`write_biggest`](crate::write_biggest) does. The heap has all facts
-/// but the objects, which are gone through six to nine times. Memory holds the tree of dominators, and, of the objects, only these:
+/// but the objects, which are gone through five to nine times. Memory holds the tree of dominators, and of the objects first those of all
+/// classes if the choice has class dumps, and then only these:
 ///
 /// - those of the choice that strong references reach;
-/// - those that the texts of strings and the names of threads among them are read from;
-/// - before that, if the choice has class dumps, the objects of classes.
+/// - those that the texts of strings and the names of threads among them are read from.
 ///
 /// # Errors
 ///

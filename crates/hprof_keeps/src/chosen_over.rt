@@ -1,6 +1,6 @@
 //! The places of chosen classes and objects, by passes over objects.
 
-ghost use Rattle.std.specs.Prelude.{ℕ, Contains, IfOk, IsTrue, List};
+ghost use Rattle.std.specs.Prelude.{◌↔◌, ℕ, Contains, IfOk, IsTrue, List};
 ghost use Rattle.std.specs.List.Sorted.{IsStrictlyIncreasing};
 ghost use Rattle.hprof_items.specs.FactValue.{FactValue};
 ghost use Rattle.hprof_heap.specs.Classes.{ClassValue, HasDump};
@@ -100,7 +100,7 @@ fn gather_over<O: Objects>(
 
 /// Returns whether each of these is the place of a node.
 fn are_places(retained: &Retained, places: &[usize]) -> bool
-    ensures { IsTrue result → ArePlaces retained.now places.now }
+    ensures { IsTrue result ↔ ArePlaces retained.now places.now }
 {
     for place in places {
         if *place == 0 || *place >= retained.len() {

@@ -28,5 +28,5 @@ pub use choice::Choice;
 pub use dominators::dominators_of;
 pub use keeps::write_keeps;
 pub use keeps_over::write_keeps_over;
-pub use lines::{node_line, total_line, weakly_line};
-pub use weakly::{WeakSum, weak_sum};
+pub use lines::{node_line, place_line, total_line, weakly_line};
+pub use weakly::{WeakSum, sum_in, weak_sum};

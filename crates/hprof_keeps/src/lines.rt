@@ -28,7 +28,7 @@ pub fn total_line(alloc: Global, retained: &Retained) -> Result<String, AllocErr
 }
 
 /// Returns the line of the node at a place, as [`node_line`] does. The tree may be of more objects than the heap has.
-pub(crate) fn place_line(
+pub fn place_line(
     alloc: Global,
     heap: &Heap,
     classes: &ClassNames,

@@ -52,7 +52,7 @@ pub struct WeakSum {
 }
 
 /// Returns the sum of nodes that only weak references reach.
-pub(crate) fn sum_in(weakly: &WeaklyHeld) -> WeakSum
+pub fn sum_in(weakly: &WeaklyHeld) -> WeakSum
     ensures { sum_of result ≡ weak_sum_of weakly.now }
 {
     WeakSum {

@@ -69,7 +69,7 @@ module _ (ids : IdSize) (facts : List FactValue) where
   -- ---- what is reached
 
   -- is a node
-  reached_node : (agree : IsConsistent facts) (node : ℕ) → IsReachedByAny ids facts agree node → IsNode facts node
+  pub reached_node : (agree : IsConsistent facts) (node : ℕ) → IsReachedByAny ids facts agree node → IsNode facts node
   reached_node agree node reached = go walk.0 walk.1 where
     walk : listed.Reached (IsStart facts) (IsStepBy AnyEdge ids facts) node
     walk = (same_reached (IsStart facts) (IsStepBy AnyEdge ids facts) node).1 reached
@@ -79,7 +79,8 @@ module _ (ids : IdSize) (facts : List FactValue) where
     go (before ∷ nodes) step = step.0.1
 
   module _ (agree : IsConsistent facts) where
-    reached_or_not : (node : ℕ) → Decided (IsReachedByAny ids facts agree node)
+    -- a node is reached, or it is not
+    pub reached_or_not : (node : ℕ) → Decided (IsReachedByAny ids facts agree node)
     reached_or_not node = go some.0 some.1 where
       some : (distance : Option ℕ) × IsDistanceFromRoots ids facts node distance
       some = some_distance ids facts agree node

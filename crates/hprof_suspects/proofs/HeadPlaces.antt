@@ -11,7 +11,13 @@ use Rattle.hprof_retained.specs.declared.retained.Retained.{Retained}
 use Rattle.hprof_keeps.specs.Order.{node_of}
 use Rattle.hprof_keeps.proofs.Places as places
 use Rattle.hprof_suspects.specs.Groups.{Above, HasHead, IsBelow, IsHead, Itself, Joins}
-use Rattle.hprof_suspects.specs.Heads.{AreHeads, JoinsAbove, head_in, up}
+use Rattle.hprof_suspects.specs.Heads.{AreHeads, HeadsFit, JoinsAbove, head_in, up}
+
+-- the group that a place is right below has a place, whatever the heads are
+pub over_low : (retained : Retained) (heads : List ℕ) → HeadsFit retained heads → (place : ℕ) → 0 < place → place < count_of retained
+    → head_in heads (up retained place) < count_of retained
+over_low retained heads fit place some low =
+    let less = retained.falls.less place some in fit.low (up retained place) (omega arith)
 
 module _ (ids : IdSize) (facts : List FactValue) (retained : Retained) (tree : IsTreeOf ids facts retained) where
   abbrev pub IsPlace : ℕ → Type 0

@@ -8,7 +8,32 @@ use Rattle.hprof_values.specs.declared.ids.IdSize.{IdSize}
 use Rattle.hprof_items.specs.FactValue.{FactValue}
 use Rattle.hprof_retained.specs.Tree.{count_of}
 use Rattle.hprof_retained.specs.declared.retained.Retained.{Retained}
-use Rattle.hprof_suspects.specs.Heads.{AreHeads, IsHeadOf, head_in, up}
+use Rattle.hprof_suspects.specs.Heads.{AreHeads, HeadsFit, IsHeadOf, head_in, up}
+
+-- ---- whatever the heads are
+
+pub fit_begin : (retained : Retained) (heads : List ℕ) → heads ≡ replicate (count_of retained) 0 → 0 < count_of retained
+    → HeadsFit retained heads
+fit_begin retained heads are some = record {
+  as_many = ap length are ∙ length-replicate (count_of retained) 0;
+  low = λ place low.
+      let none = ap (λ l. slice_index l place) are ∙ get_or-replicate (count_of retained) place 0 0 low in omega arith;
+}
+
+pub fit_more : (retained : Retained) (heads : List ℕ) (done head : ℕ) → done < count_of retained → head < count_of retained
+    → HeadsFit retained heads → HeadsFit retained (slice_set heads done head)
+fit_more retained heads done head done_low head_low so = record {
+  as_many = length-set heads done head ∙ so.as_many;
+  low = λ place low. elim (cases_eq place done) [
+    | inl same ↦
+        let put = ap (head_in (slice_set heads done head)) same
+        ∙ get_or-set_same heads done head 0 (let many = so.as_many in omega arith) in
+        omega arith
+    | inr apart ↦ let kept = get_or-set_other heads done place head 0 apart in let below = so.low place low in omega arith
+  ];
+}
+
+-- ---- heads of facts
 
 module _ (ids : IdSize) (facts : List FactValue) (retained : Retained) where
   -- the places before a bound have their heads

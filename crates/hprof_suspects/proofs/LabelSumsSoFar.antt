@@ -38,6 +38,27 @@ pub record AreLabelSumsTo (ids : IdSize) (facts : List FactValue) (retained : Re
       → Adds ids facts retained (IsTakenTo retained (IsPieceWith retained labels heads parts part label) done) (slice_index bytes label)
       (slice_index counts label)
 
+-- ---- counts, whatever the facts are
+
+pub few_begin : (counts : List ℕ) (count : ℕ) → counts ≡ replicate count 0 → (label : ℕ) → label < count → slice_index counts label < 1
+few_begin counts count zeros label low =
+    let none = ap (λ l. slice_index l label) zeros ∙ get_or-replicate count label 0 0 low in omega arith
+
+pub few_more : (counts : List ℕ) (label done : ℕ) → label < length counts
+    → ((other : ℕ) → other < length counts → slice_index counts other < done) → (other : ℕ) → other < length counts
+    → slice_index (slice_set counts label (slice_index counts label + 1)) other < done + 1
+few_more counts label done low few other other_low = elim (cases_eq other label) [
+  | inl same ↦
+      let put = ap (slice_index (slice_set counts label (slice_index counts label + 1))) same
+      ∙ get_or-set_same counts label (slice_index counts label + 1) 0 low in
+      let own = few label low in
+      omega arith
+  | inr apart ↦
+      let keeps = get_or-set_other counts label other (slice_index counts label + 1) 0 apart in let own = few other other_low in omega arith
+]
+
+-- ---- sums of facts
+
 module _ (ids : IdSize) (facts : List FactValue) (agree : IsConsistent facts) (retained : Retained) (tree : IsTreeOf ids facts retained)
     (labels : NodeLabels) (labelled : AreNodeLabels facts retained labels) (heads : List ℕ) (are : AreHeads ids facts retained heads)
     (parts : List Bool) (marked : AreParts ids facts retained parts) (part : ℕ) (part_low : part < count_of retained) where

@@ -1,3 +1,4 @@
+pub mod AloneSoFar
 pub mod HeadPlaces
 pub mod PlaceLabels
 pub mod HeadsSoFar
@@ -18,6 +19,9 @@ pub mod Hundredths
 pub mod LineTexts
 pub mod ChainTexts
 pub mod ReportTexts
+pub mod ToldTexts
+pub mod ClassObjects
+pub mod SameTold
 pub mod Decisions
 pub mod InOrder
 pub mod OtherSums

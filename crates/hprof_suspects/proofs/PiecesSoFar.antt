@@ -15,10 +15,35 @@ use Rattle.hprof_suspects.specs.Groups.{IsBelow}
 use Rattle.hprof_suspects.specs.Heads.{AreHeads, head_in}
 use Rattle.hprof_suspects.specs.Parts.{IsPart, Large, Roots}
 use Rattle.hprof_suspects.specs.PartPlaces.{AreParts, IsMarked, IsPartAt, over_in}
-use Rattle.hprof_suspects.specs.Pieces.{ArePartSums, IsPartBelow}
+use Rattle.hprof_suspects.specs.Pieces.{ArePartSums, IsPartBelow, SumsFit}
 use Rattle.hprof_suspects.proofs.HeadPlaces as by_place
 use Rattle.hprof_suspects.proofs.PartSums as sums
 use Rattle.hprof_suspects.proofs.SumsSoFar.{Adds, IsTakenTo, sum_alike, sum_begin, sum_more, sum_same}
+
+-- ---- whatever the sums are
+
+pub sums_fit_begin : (retained : Retained) (sums : List ℕ) → sums ≡ replicate (count_of retained) 0 → SumsFit retained sums
+sums_fit_begin retained sums zeros = record {
+  as_many = ap length zeros ∙ length-replicate (count_of retained) 0;
+  low = λ place low.
+      let none = ap (λ l. slice_index l place) zeros ∙ get_or-replicate (count_of retained) place 0 0 low in omega arith;
+}
+
+pub sums_fit_more : (retained : Retained) (sums : List ℕ) (group sum : ℕ) → group < count_of retained
+    → sum ≤ (sum_at retained group).bytes → SumsFit retained sums → SumsFit retained (slice_set sums group sum)
+sums_fit_more retained sums group sum within small so = record {
+  as_many = length-set sums group sum ∙ so.as_many;
+  low = λ place low. elim (cases_eq place group) [
+    | inl same ↦
+        let put = ap (slice_index (slice_set sums group sum)) same
+        ∙ get_or-set_same sums group sum 0 (let many = so.as_many in omega arith) in
+        let own = ap (λ p. (sum_at retained p).bytes) same in
+        omega arith
+    | inr apart ↦ let keeps = get_or-set_other sums group place sum 0 apart in let was = so.low place low in omega arith
+  ];
+}
+
+-- ---- sums of parts
 
 -- a part right below a group
 abbrev pub IsPartOf : Retained → List ℕ → List Bool → ℕ → ℕ → Type 0

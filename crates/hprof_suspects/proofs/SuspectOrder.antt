@@ -49,6 +49,22 @@ same_node one other = one.node == other.node
 tied : (one other : SuspectPlace) → suspect_place_cmp one other ≡ Equal → same_node one other ≡ true
 tied one other e = tied_numbers one.node other.node (then_tied (nat_cmp other.pieces one.pieces) (nat_cmp one.node other.node) e)
 
+-- ---- whatever the facts are
+
+module _ (retained : Retained) (parts : List Bool) (sums : List ℕ) (before after : List SuspectPlace)
+    (are : AreSuspectsTo retained parts sums (count_of retained) before) (same : IsPermutation before after) where
+  pub suspect_each : (suspect : SuspectPlace) → IsIn suspect after → IsSuspectAt retained parts sums (count_of retained) suspect
+  suspect_each suspect on =
+      (are.exact suspect).0 (Contains-permutation after before suspect (IsPermutation-sym before after same)
+      (Contains-from_in after suspect on))
+
+  pub all_low : All (λ suspect. suspect.place < count_of retained) after
+  all_low =
+      let IsLow : SuspectPlace → Type 0 = λ suspect. suspect.place < count_of retained in
+      All-from_recursion IsLow after (all_from_in IsLow after (λ suspect on. (suspect_each suspect on).before))
+
+-- ---- of a tree of facts
+
 module _ (ids : IdSize) (facts : List FactValue) (retained : Retained) (tree : IsTreeOf ids facts retained) where
   -- what a place retains is not more than all
   bytes_low : IsConsistent facts → (place : ℕ) → place < count_of retained → (sum_at retained place).bytes ≤ (sum_at retained 0).bytes
@@ -86,6 +102,17 @@ module _ (ids : IdSize) (facts : List FactValue) (retained : Retained) (tree : I
       is.bytes_are
       ∙ same_sum_by (λ node. (retained_in retained node).bytes) Holds is.nodes too.nodes is.once too.once is.exact too.exact ∙ sym
       too.bytes_are
+
+  -- sorted, they are still within
+  pub all_within : IsConsistent facts → (parts : List Bool) (sums : List ℕ) (before after : List SuspectPlace)
+      → AreSuspectsTo retained parts sums (count_of retained) before → IsPermutation before after → All (IsWithin retained) after
+  all_within agree parts sums before after are same =
+      All-from_recursion (IsWithin retained) after
+      (all_from_in (IsWithin retained) after (λ suspect on.
+      let is = suspect_each retained parts sums before after are same suspect on in
+      let most = bytes_low agree suspect.place is.before in
+      let all = is.pieces in
+      (is.before, omega arith)))
 
   module _ (parts : List Bool) (marked : AreParts ids facts retained parts) (sums : List ℕ) (below : ArePartSums ids facts retained sums)
     where
@@ -152,20 +179,6 @@ module _ (ids : IdSize) (facts : List FactValue) (retained : Retained) (tree : I
 
       module _ (before after : List SuspectPlace) (are : AreSuspectsTo retained parts sums (count_of retained) before)
           (same : IsPermutation before after) where
-        suspect_each : (suspect : SuspectPlace) → IsIn suspect after → IsSuspectAt retained parts sums (count_of retained) suspect
-        suspect_each suspect on =
-            (are.exact suspect).0 (Contains-permutation after before suspect (IsPermutation-sym before after same)
-            (Contains-from_in after suspect on))
-
-        pub all_within : IsConsistent facts → All (IsWithin retained) after
-        all_within agree =
-            All-from_recursion (IsWithin retained) after
-            (all_from_in (IsWithin retained) after (λ suspect on.
-            let is = suspect_each suspect on in
-            let most = bytes_low agree suspect.place is.before in
-            let all = is.pieces in
-            (is.before, omega arith)))
-
         apart : IsDistinct same_node before
         apart = IsDistinct-from_apart same_node before (λ i j d less low.
             let one = get_or before i d in
@@ -179,7 +192,7 @@ module _ (ids : IdSize) (facts : List FactValue) (retained : Retained) (tree : I
         pub are_suspects : 0 < count_of retained → IsSorted suspect_place_cmp after
             → AreSuspects ids facts (retained_in retained) (total_of retained) (map (suspect_of retained) after)
         are_suspects some sorted =
-            listed_suspects some after (λ suspect on. suspect_each suspect on)
+            listed_suspects some after (λ suspect on. suspect_each retained parts sums before after are same suspect on)
             (λ suspect is. in_from_Contains after suspect (Contains-permutation before after suspect same ((are.exact suspect).1 is)))
             (all_rise suspect_place_cmp suspects_total same_node tied after sorted
             (IsDistinct-IsPermutation same_node (λ one other. nat_eq_equiv.symm _ _) before after same apart))

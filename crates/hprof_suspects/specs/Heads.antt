@@ -25,6 +25,11 @@ abbrev pub IsHeadOf : IdSize → List FactValue → Retained → List ℕ → �
 IsHeadOf ids facts retained heads place head = (JoinsAbove ids facts retained place × (head ≡ head_in heads (up retained place)))
     ⊎ ((¬ (JoinsAbove ids facts retained place)) × (head ≡ place))
 
+-- each place has a place for its head
+pub record HeadsFit (retained : Retained) (heads : List ℕ) : Type 0 where
+  pub as_many : length heads ≡ count_of retained
+  pub low : (place : ℕ) → place < count_of retained → head_in heads place < count_of retained
+
 -- each place but 0 has its head; that of 0 is 0
 pub record AreHeads (ids : IdSize) (facts : List FactValue) (retained : Retained) (heads : List ℕ) : Type 0 where
   pub as_many : length heads ≡ count_of retained

@@ -7,3 +7,6 @@ pub mod Pieces
 pub mod SuspectPlaces
 pub mod LabelSums
 pub mod AllParts
+pub mod Grounds
+pub mod Told
+pub mod ToldHeaps

@@ -8,17 +8,13 @@ use Rattle.hprof_items.specs.FactValue.{FactValue}
 use Rattle.hprof_keeps.specs.Order.{node_of, retained_in}
 use Rattle.hprof_retained.specs.Tree.{count_of, node_at, sum_at, total_of}
 use Rattle.hprof_retained.specs.declared.retained.Retained.{Retained}
-use Rattle.hprof_by_label.specs.Labels.{AreNodeLabels, label_at}
+use Rattle.hprof_by_label.specs.Labels.{label_at}
 use Rattle.hprof_by_label.specs.declared.node_labels.NodeLabels.{NodeLabels}
 use Rattle.hprof_suspects.specs.Groups.{IsClassAlone}
 use Rattle.hprof_suspects.specs.Heads.{head_in, up}
 use Rattle.hprof_suspects.specs.Parts.{IsPart}
 use Rattle.hprof_suspects.specs.declared.only.GroupLabel.{GroupLabel}
 use Rattle.hprof_suspects.specs.contracts.only.GroupLabelOrd.TheImpl as group_label_ord
-
--- the labels are those of the tree's nodes
-abbrev pub AreLabelled : Retained → NodeLabels → Type 0
-AreLabelled retained labels = (facts : List FactValue) × AreNodeLabels facts retained labels
 
 -- the place of the group that a place is right below; 0 right below the roots
 abbrev pub over_in : Retained → List ℕ → ℕ → ℕ

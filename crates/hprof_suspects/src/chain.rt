@@ -1,17 +1,17 @@
 //! The nodes above a part.
 
-ghost use Rattle.std.specs.Prelude.{◌≡◌, ◌<◌, ◌++◌, ℕ, All, List, OnOk, map, string_bytes};
+ghost use Rattle.std.specs.Prelude.{◌≡◌, ◌<◌, ◌++◌, All, OnOk, map, string_bytes};
 ghost use Rattle.hprof_heap.specs.HeapFacts.{facts_of, size_of};
 ghost use Rattle.hprof_naming.specs.ClassNames.{AreClassNames};
 ghost use Rattle.hprof_describe.specs.Findings.{AreFindings, Findings};
-ghost use Rattle.hprof_retained.specs.Tree.{IsTreeOf, count_of, node_at};
+ghost use Rattle.hprof_retained.specs.Tree.{count_of, node_at};
 ghost use Rattle.hprof_keeps.specs.KeepsText.{above_lines};
-ghost use Rattle.hprof_keeps.specs.Order.{node_of, retained_in};
-ghost use Rattle.hprof_suspects.specs.SuspectsText.{IsChain, chain_lines};
+ghost use Rattle.hprof_keeps.specs.Order.{retained_in};
+ghost use Rattle.hprof_suspects.specs.SuspectsText.{chain_lines};
 
 use crate::lines::more_line;
 use hprof_heap::Heap;
-use hprof_keeps::{dominators_of, node_line};
+use hprof_keeps::place_line;
 use hprof_naming::ClassNames;
 use hprof_retained::Retained;
 use std::alloc::{AllocError, Global};
@@ -26,22 +26,21 @@ fn push_nodes(
     text: &mut String,
 ) -> Result<(), AllocError>
     requires classes { AreClassNames (facts_of heap.now) classes.now }
-    requires retained { IsTreeOf (size_of heap.now) (facts_of heap.now) retained.now }
     requires places { All (λ place. (0 < place) × (place < count_of retained.now)) places.now }
     ensures { (found : Findings) → AreFindings (size_of heap.now) (facts_of heap.now) found
         → OnOk result (string_bytes text.new
         ≡ string_bytes text.old ++ above_lines found (retained_in retained.now) (map (node_at retained.now) places.now)) }
 {
     for place in places {
-        let line = node_line(alloc, heap, classes, retained, "", *place)?;
+        let line = place_line(alloc, heap, classes, retained, "", *place)?;
         text.push_str(&line)?;
     }
     Ok(())
 }
 
-/// Appends the lines of the nodes at places; of more than 20 the first 10, the number of those left out, and the last 10. If memory runs
-/// out, the answer is `AllocError` and the text is unspecified.
-fn push_folded(
+/// Appends the lines of the nodes at places; of more than 20 the first 10, the number of those left out, and the last 10. Of the heap only
+/// the words for the nodes are asked. If memory runs out, the answer is `AllocError` and the text is unspecified.
+pub(crate) fn push_chain(
     alloc: Global,
     heap: &Heap,
     classes: &ClassNames,
@@ -50,7 +49,6 @@ fn push_folded(
     text: &mut String,
 ) -> Result<(), AllocError>
     requires classes { AreClassNames (facts_of heap.now) classes.now }
-    requires retained { IsTreeOf (size_of heap.now) (facts_of heap.now) retained.now }
     requires places { All (λ place. (0 < place) × (place < count_of retained.now)) places.now }
     ensures { (found : Findings) → AreFindings (size_of heap.now) (facts_of heap.now) found
         → OnOk result (string_bytes text.new
@@ -70,28 +68,4 @@ fn push_folded(
         &places[places.len() - 10..],
         text,
     )
-}
-
-/// Appends the lines of the part at a place and of those above it, from the outermost; nothing of the roots together. If memory runs out,
-/// the answer is `AllocError` and the text is unspecified.
-pub(crate) fn push_chain(
-    alloc: Global,
-    heap: &Heap,
-    classes: &ClassNames,
-    retained: &Retained,
-    place: usize,
-    text: &mut String,
-) -> Result<(), AllocError>
-    requires classes { AreClassNames (facts_of heap.now) classes.now }
-    requires retained { IsTreeOf (size_of heap.now) (facts_of heap.now) retained.now }
-    requires within { place < count_of retained.now }
-    ensures { (found : Findings) → AreFindings (size_of heap.now) (facts_of heap.now) found
-        → OnOk result ((chain : List ℕ) × IsChain (size_of heap.now) (facts_of heap.now) (node_of retained.now place) chain
-        × (string_bytes text.new ≡ string_bytes text.old ++ chain_lines found (retained_in retained.now) chain)) }
-{
-    if place == 0 {
-        return Ok(());
-    }
-    let places = dominators_of(alloc, retained, place)?;
-    push_folded(alloc, heap, classes, retained, &places, text)
 }

@@ -1,17 +1,18 @@
 //! The pieces of a part, added up by label.
 
-ghost use Rattle.std.specs.Prelude.{◌≡◌, ◌<◌, ◌↔◌, IfOk, IsTrue, length};
-ghost use Rattle.hprof_heap.specs.HeapFacts.{facts_of, size_of};
+ghost use Rattle.std.specs.Prelude.{◌≡◌, ◌<◌, ◌↔◌, List, IfOk, IsTrue, length};
+ghost use Rattle.hprof_values.specs.declared.ids.IdSize.{IdSize};
+ghost use Rattle.hprof_items.specs.FactValue.{FactValue};
+ghost use Rattle.hprof_rows.specs.Conflict.{IsConsistent};
 ghost use Rattle.hprof_numbers.specs.Numbers.{items_in};
 ghost use Rattle.hprof_retained.specs.Tree.{IsTreeOf, count_of};
-ghost use Rattle.hprof_by_label.specs.Labels.{AreNodeLabels};
+ghost use Rattle.hprof_by_label.specs.Labels.{AreNodeLabels, label_count, place_count};
 ghost use Rattle.hprof_suspects.specs.Heads.{AreHeads};
 ghost use Rattle.hprof_suspects.specs.LabelSums.{AreLabelSums, IsPieceAt};
 ghost use Rattle.hprof_suspects.specs.PartPlaces.{AreParts};
 
 use crate::large::over;
 use hprof_by_label::NodeLabels;
-use hprof_heap::{Heap, holds_of_heap};
 use hprof_numbers::Numbers;
 use hprof_retained::Retained;
 use std::alloc::{AllocError, Global};
@@ -50,30 +51,32 @@ fn is_piece(
 /// Returns what the pieces of a part retain, added up by label. If memory runs out, the answer is `AllocError`.
 pub(crate) fn label_sums(
     alloc: Global,
-    heap: &Heap,
     retained: &Retained,
     labels: &NodeLabels,
     heads: &Numbers,
     parts: &Vec<bool>,
     part: usize,
 ) -> Result<LabelSums, AllocError>
-    requires tree { IsTreeOf (size_of heap.now) (facts_of heap.now) retained.now }
-    requires labels { AreNodeLabels (facts_of heap.now) retained.now labels.now }
-    requires heads { AreHeads (size_of heap.now) (facts_of heap.now) retained.now (items_in heads.now) }
-    requires parts { AreParts (size_of heap.now) (facts_of heap.now) retained.now parts.now.items }
+    requires labels { place_count labels.now ≡ count_of retained.now }
+    requires heads { length (items_in heads.now) ≡ count_of retained.now }
+    requires parts { length parts.now.items ≡ count_of retained.now }
     requires within { part < count_of retained.now }
-    ensures { IfOk result (λ sums. AreLabelSums (size_of heap.now) (facts_of heap.now) retained.now labels.now part
-        sums.bytes.items sums.counts.items) }
+    ensures bytes { IfOk result (λ sums. length sums.bytes.items ≡ label_count labels.now) }
+    ensures counts { IfOk result (λ sums. length sums.counts.items ≡ label_count labels.now) }
+    ensures sums { (ids : IdSize) (facts : List FactValue) → IsConsistent facts → IsTreeOf ids facts retained.now
+        → AreNodeLabels facts retained.now labels.now → AreHeads ids facts retained.now (items_in heads.now)
+        → AreParts ids facts retained.now parts.now.items
+        → IfOk result (λ sums. AreLabelSums ids facts retained.now labels.now part sums.bytes.items sums.counts.items) }
 {
-    holds_of_heap(heap);
     // No sum is more than what the part retains.
-    let _most = retained.bytes(part);
+    let most = retained.bytes(part);
     let mut bytes: Vec<u128> = vec![in alloc; 0; labels.len()]?;
     let mut counts: Vec<usize> = vec![in alloc; 0; labels.len()]?;
     for place in 1..retained.len() {
         if is_piece(retained, heads, parts, part, place) {
             let label = labels.number(place);
-            bytes[label] += retained.bytes(place);
+            let sum = bytes[label].saturating_add(retained.bytes(place));
+            bytes[label] = sum.min(most);
             counts[label] += 1;
         }
     }

@@ -4,7 +4,8 @@ ghost use Rattle.std.specs.Prelude.{◌≡◌, ◌<◌, ◌↔◌, IfOk, IsTrue,
 ghost use Rattle.std.specs.BTreeMap.{get, is_at};
 ghost use Rattle.hprof_numbers.specs.Numbers.{items_in};
 ghost use Rattle.hprof_retained.specs.Tree.{count_of};
-ghost use Rattle.hprof_suspects.specs.PartPlaces.{AreLabelled, AreOnlyTo, key_cmp, key_in, noted};
+ghost use Rattle.hprof_by_label.specs.Labels.{place_count};
+ghost use Rattle.hprof_suspects.specs.PartPlaces.{AreOnlyTo, key_cmp, key_in, noted};
 
 use crate::large::{is_large_head, over};
 use hprof_by_label::NodeLabels;
@@ -27,7 +28,7 @@ pub(crate) fn key_at(
     heads: &Numbers,
     place: usize,
 ) -> GroupLabel
-    requires labels { AreLabelled retained.now labels.now }
+    requires labels { place_count labels.now ≡ count_of retained.now }
     requires some { 0 < place }
     requires within { place < count_of retained.now }
     requires as_many { length (items_in heads.now) ≡ count_of retained.now }
@@ -75,7 +76,7 @@ pub(crate) fn only_large(
     labels: &NodeLabels,
     heads: &Numbers,
 ) -> Result<BTreeMap<GroupLabel, usize>, AllocError>
-    requires labels { AreLabelled retained.now labels.now }
+    requires labels { place_count labels.now ≡ count_of retained.now }
     requires as_many { length (items_in heads.now) ≡ count_of retained.now }
     ensures { IfOk result (λ only. AreOnlyTo retained.now labels.now (items_in heads.now) only (count_of retained.now)) }
 {

@@ -1,12 +1,14 @@
 //! The sums of the pieces of a part that the report lists.
 
-ghost use Rattle.std.specs.Prelude.{◌≡◌, ◌<◌, ◌+◌, All, IfOk, OnOk, length, map};
+ghost use Rattle.std.specs.Prelude.{◌≡◌, ◌<◌, ◌+◌, List, IfOk, OnOk, length, map};
 ghost use Rattle.std.specs.List.Sorted.{IsPermutation, IsSorted};
-ghost use Rattle.hprof_heap.specs.HeapFacts.{facts_of, size_of};
+ghost use Rattle.hprof_values.specs.declared.ids.IdSize.{IdSize};
+ghost use Rattle.hprof_items.specs.FactValue.{FactValue};
+ghost use Rattle.hprof_rows.specs.Conflict.{IsConsistent};
 ghost use Rattle.hprof_keeps.specs.Order.{node_of, retained_in};
 ghost use Rattle.hprof_numbers.specs.Numbers.{items_in};
 ghost use Rattle.hprof_retained.specs.Tree.{IsTreeOf, count_of, total_of};
-ghost use Rattle.hprof_by_label.specs.Labels.{AreNodeLabels, label_count, label_text};
+ghost use Rattle.hprof_by_label.specs.Labels.{AreNodeLabels, label_count, label_text, place_count};
 ghost use Rattle.hprof_suspects.specs.Heads.{AreHeads};
 ghost use Rattle.hprof_suspects.specs.LabelSums.{AreLinesTo, line_cmp, sum_of};
 ghost use Rattle.hprof_suspects.specs.PartPlaces.{AreParts};
@@ -15,7 +17,6 @@ ghost use Rattle.hprof_suspects.specs.SuspectsText.{ArePieceSums};
 use crate::label_sums::{LabelSums, label_sums};
 use crate::large::is_tenth;
 use hprof_by_label::NodeLabels;
-use hprof_heap::{Heap, holds_of_heap};
 use hprof_numbers::Numbers;
 use hprof_retained::Retained;
 use std::alloc::{AllocError, Global};
@@ -112,7 +113,6 @@ fn tenth_lines(
 /// the most nodes, then by label. If memory runs out, the answer is `AllocError`.
 pub(crate) fn piece_lines(
     alloc: Global,
-    heap: &Heap,
     retained: &Retained,
     labels: &NodeLabels,
     heads: &Numbers,
@@ -120,17 +120,17 @@ pub(crate) fn piece_lines(
     part: usize,
     pieces: u128,
 ) -> Result<Vec<PieceLine>, AllocError>
-    requires tree { IsTreeOf (size_of heap.now) (facts_of heap.now) retained.now }
-    requires labels { AreNodeLabels (facts_of heap.now) retained.now labels.now }
-    requires heads { AreHeads (size_of heap.now) (facts_of heap.now) retained.now (items_in heads.now) }
-    requires parts { AreParts (size_of heap.now) (facts_of heap.now) retained.now parts.now.items }
+    requires labels { place_count labels.now ≡ count_of retained.now }
+    requires heads { length (items_in heads.now) ≡ count_of retained.now }
+    requires parts { length parts.now.items ≡ count_of retained.now }
     requires within { part < count_of retained.now }
-    ensures labels { IfOk result (λ lines. All (λ line. line.label < label_count labels.now) lines.items) }
-    ensures sums { IfOk result (λ lines. ArePieceSums (size_of heap.now) (facts_of heap.now) (retained_in retained.now)
-        (total_of retained.now) (node_of retained.now part) pieces (map (sum_of labels.now) lines.items)) }
+    ensures { (ids : IdSize) (facts : List FactValue) → IsConsistent facts → IsTreeOf ids facts retained.now
+        → AreNodeLabels facts retained.now labels.now → AreHeads ids facts retained.now (items_in heads.now)
+        → AreParts ids facts retained.now parts.now.items
+        → IfOk result (λ lines. ArePieceSums ids facts (retained_in retained.now) (total_of retained.now) (node_of retained.now part) pieces
+        (map (sum_of labels.now) lines.items)) }
 {
-    holds_of_heap(heap);
-    let sums = label_sums(alloc, heap, retained, labels, heads, parts, part)?;
+    let sums = label_sums(alloc, retained, labels, heads, parts, part)?;
     let mut lines = tenth_lines(alloc, labels, &sums, pieces)?;
     sort_lines(labels, &mut lines);
     Ok(lines)

@@ -1,20 +1,18 @@
 //! The parts that are suspects.
 
-ghost use Rattle.std.specs.Prelude.{◌≡◌, ◌<◌, ◌≤◌, ◌+◌, All, IfOk, OnOk, length, map, slice_index};
+ghost use Rattle.std.specs.Prelude.{◌≡◌, ◌<◌, ◌≤◌, ◌+◌, List, All, IfOk, OnOk, length, map, slice_index};
 ghost use Rattle.std.specs.List.Sorted.{IsPermutation, IsSorted};
-ghost use Rattle.hprof_heap.specs.HeapFacts.{facts_of, size_of};
+ghost use Rattle.hprof_values.specs.declared.ids.IdSize.{IdSize};
+ghost use Rattle.hprof_items.specs.FactValue.{FactValue};
+ghost use Rattle.hprof_rows.specs.Conflict.{IsConsistent};
 ghost use Rattle.hprof_keeps.specs.Order.{node_of, retained_in};
-ghost use Rattle.hprof_numbers.specs.Numbers.{items_in};
 ghost use Rattle.hprof_retained.specs.Tree.{IsTreeOf, count_of, sum_at, total_of};
-ghost use Rattle.hprof_suspects.specs.Heads.{AreHeads};
 ghost use Rattle.hprof_suspects.specs.PartPlaces.{AreParts};
-ghost use Rattle.hprof_suspects.specs.Pieces.{ArePartSums};
+ghost use Rattle.hprof_suspects.specs.Pieces.{ArePartSums, SumsFit};
 ghost use Rattle.hprof_suspects.specs.SuspectPlaces.{AreSuspectsTo, IsWithin, suspect_of, suspect_place_cmp};
 ghost use Rattle.hprof_suspects.specs.SuspectsText.{AreSuspects, id_of};
 
 use crate::large::is_tenth;
-use hprof_heap::{Heap, holds_of_heap};
-use hprof_numbers::Numbers;
 use hprof_retained::Retained;
 use std::alloc::{AllocError, Global};
 use std::cmp::Ordering;
@@ -90,19 +88,14 @@ fn push_if_suspect(
 /// Returns the suspects in the order of their places. If memory runs out, the answer is `AllocError`.
 fn suspect_places(
     alloc: Global,
-    heap: &Heap,
     retained: &Retained,
-    heads: &Numbers,
     parts: &Vec<bool>,
     sums: &Vec<u128>,
 ) -> Result<Vec<SuspectPlace>, AllocError>
-    requires tree { IsTreeOf (size_of heap.now) (facts_of heap.now) retained.now }
-    requires heads { AreHeads (size_of heap.now) (facts_of heap.now) retained.now (items_in heads.now) }
-    requires parts { AreParts (size_of heap.now) (facts_of heap.now) retained.now parts.now.items }
-    requires sums { ArePartSums (size_of heap.now) (facts_of heap.now) retained.now sums.now.items }
+    requires parts { length parts.now.items ≡ count_of retained.now }
+    requires sums { SumsFit retained.now sums.now.items }
     ensures { IfOk result (λ suspects. AreSuspectsTo retained.now parts.now.items sums.now.items (count_of retained.now) suspects.items) }
 {
-    holds_of_heap(heap);
     let mut suspects = Vec::new(alloc);
     for place in 0..retained.len() {
         push_if_suspect(retained, parts, sums, place, &mut suspects)?;
@@ -113,22 +106,21 @@ fn suspect_places(
 /// Returns the suspects: those with the most bytes first, then by identifier. If memory runs out, the answer is `AllocError`.
 pub(crate) fn suspects_of(
     alloc: Global,
-    heap: &Heap,
     retained: &Retained,
-    heads: &Numbers,
     parts: &Vec<bool>,
     sums: &Vec<u128>,
 ) -> Result<Vec<SuspectPlace>, AllocError>
-    requires tree { IsTreeOf (size_of heap.now) (facts_of heap.now) retained.now }
-    requires heads { AreHeads (size_of heap.now) (facts_of heap.now) retained.now (items_in heads.now) }
-    requires parts { AreParts (size_of heap.now) (facts_of heap.now) retained.now parts.now.items }
-    requires sums { ArePartSums (size_of heap.now) (facts_of heap.now) retained.now sums.now.items }
-    ensures places { IfOk result (λ suspects. All (IsWithin retained.now) suspects.items) }
-    ensures suspects { IfOk result (λ suspects. AreSuspects (size_of heap.now) (facts_of heap.now) (retained_in retained.now)
-        (total_of retained.now) (map (suspect_of retained.now) suspects.items)) }
+    requires parts { length parts.now.items ≡ count_of retained.now }
+    requires sums { SumsFit retained.now sums.now.items }
+    ensures places { IfOk result (λ suspects. All (λ suspect. suspect.place < count_of retained.now) suspects.items) }
+    ensures within { (ids : IdSize) (facts : List FactValue) → IsConsistent facts → IsTreeOf ids facts retained.now
+        → IfOk result (λ suspects. All (IsWithin retained.now) suspects.items) }
+    ensures suspects { (ids : IdSize) (facts : List FactValue) → IsTreeOf ids facts retained.now
+        → AreParts ids facts retained.now parts.now.items → ArePartSums ids facts retained.now sums.now.items
+        → IfOk result (λ suspects. AreSuspects ids facts (retained_in retained.now) (total_of retained.now)
+        (map (suspect_of retained.now) suspects.items)) }
 {
-    holds_of_heap(heap);
-    let mut suspects = suspect_places(alloc, heap, retained, heads, parts, sums)?;
+    let mut suspects = suspect_places(alloc, retained, parts, sums)?;
     sort_suspects(&mut suspects);
     Ok(suspects)
 }
