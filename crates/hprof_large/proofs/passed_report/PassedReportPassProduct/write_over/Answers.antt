@@ -100,7 +100,8 @@ returns-in-Retained g c = λ summaries holds.
     let tells = g.O.Objects.tells objects ids facts in
     ends_fewer MakeUp (MadeUpWith MakeUp ids c.args.known) agree tells
     (λ all. IsReportText report summaries (heap_with (heap_of c.args.heap.now) all)) (λ refusal all. RefusesReport all report refusal)
-    g.W.Target.written g.W.Target.health c.args.target.now c.write_retained_over.new.target (λ all made. made.0) c.write_retained_over.result
+    g.W.Target.written g.W.Target.health c.args.target.now c.write_retained_over.new.target
+        (λ all made. made.0) c.write_retained_over.result
     (ends_over MakeUp agree tells (IsRetainedText ids)
     (λ all. IsReportText report summaries (heap_with (heap_of c.args.heap.now) all)) g.W.Target.written g.W.Target.health
     c.args.target.now c.write_retained_over.new.target (λ all text make is. subst

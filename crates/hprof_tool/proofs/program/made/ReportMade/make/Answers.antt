@@ -19,7 +19,8 @@ returns-in-Some-of g c =
     (report_of_parts report) c.args.readers.now c.make_again.new.readers c.args.target.now c.make_again.new.target
     (fault_of c.make_again.result)) c.in-Some-of.ensures
     (passed_makes g.R.Source.left g.R.Source.health g.R.Source.pulls usual_limits g.W.Target.written g.W.Target.health c.args.readers.now
-    c.make_again.new.readers c.args.target.now c.make_again.new.target (fault_of c.make_again.result) c.in-Some-of.passed c.make_again.ensures)
+    c.make_again.new.readers c.args.target.now c.make_again.new.target
+        (fault_of c.make_again.result) c.in-Some-of.passed c.make_again.ensures)
 
 -- references are found while parts are read
 
