@@ -64,7 +64,8 @@ module _ (ids : IdSize) (wanted : List ℕ) (all small : List FactValue) (id : �
         (found_of (one.class id) (one.object id) (are.classes id) (are.objects id)) each
         ∙ ap (λ (o : Option FactValue). found_text (with_others one other.object other.text other.thread_name) id fields (one.class id) o)
         (same_of ids wanted all small agree
-            is one other are are_too id (has fields (one.class id) (one.object id) fields_are class_is object_is id (0, omega arith, refl))).object_is
+            is one other are are_too id (has fields (one.class id) (one.object id) fields_are class_is object_is
+            id (0, omega arith, refl))).object_is
 
   pub show_in_all : (text : List ℕ) → IsShowText ids small id text → IsShowText ids all id text
   show_in_all text of =
