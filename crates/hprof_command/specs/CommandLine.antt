@@ -8,13 +8,9 @@ use Rattle.clap.specs.Lexer.{usize_max}
 use Rattle.clap.specs.Walk.{Rule, is_empty}
 use Rattle.hprof_questions.specs.declared.report_word.Follows.{Follows}
 use Rattle.hprof_questions.specs.declared.report_word.Follows.TheVariants as follow
-use Rattle.hprof_questions.specs.declared.report.HeapReport.{HeapReport}
 use Rattle.hprof_questions.specs.declared.report.HeapReport.TheVariants as heaps
-use Rattle.hprof_questions.specs.declared.report.KindReport.{KindReport}
 use Rattle.hprof_questions.specs.declared.report.KindReport.TheVariants as kinds
-use Rattle.hprof_questions.specs.declared.report.NodeReport.{NodeReport}
 use Rattle.hprof_questions.specs.declared.report.NodeReport.TheVariants as nodes
-use Rattle.hprof_questions.specs.declared.report_word.ReportWord.{ReportWord}
 use Rattle.hprof_questions.specs.declared.report_word.ReportWord.TheVariants as words
 use Rattle.hprof_questions.specs.Words.{follows_of}
 use Rattle.hprof_command.specs.declared.command.NewFile.TheVariants as files
@@ -62,33 +58,10 @@ abbrev pub takes_parts : CommandWord → Bool
 takes_parts commands.Compare = false
 takes_parts other = true
 
--- whether a report reads objects again
-abbrev pub heap_reads_again : HeapReport → Bool
-heap_reads_again heaps.Check = true
-heap_reads_again heaps.Histogram = true
-heap_reads_again heaps.Classes = true
-heap_reads_again heaps.Threads = true
-heap_reads_again heaps.Retained = true
-heap_reads_again other = false
-
-abbrev pub kind_reads_again : KindReport → Bool
-kind_reads_again report = true
-
-abbrev pub node_reads_again : NodeReport → Bool
-node_reads_again report = true
-
-abbrev pub reads_again : ReportWord → Bool
-reads_again (words.Heap report) = heap_reads_again report
-reads_again (words.Kind report) = kind_reads_again report
-reads_again (words.Node report) = node_reads_again report
-
 -- whether a command takes the option for the memory: those that read objects again do
 abbrev pub takes_memory : CommandWord → Bool
-takes_memory (commands.Write product) = true
-takes_memory commands.Salvage = true
-takes_memory (commands.Report report) = reads_again report
-takes_memory commands.Compare = true
 takes_memory commands.Ask = false
+takes_memory other = true
 
 -- the program or the command, with these arguments behind its own
 abbrev pub with_rules : App → List Rule → App

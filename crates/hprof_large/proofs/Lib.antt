@@ -1,2 +1,3 @@
+mod FewerMade
 mod NamedKind
 mod NamedDumps

@@ -4,6 +4,7 @@
 #![tactic(auto)]
 
 mod checked;
+mod heap;
 mod kind;
 mod node;
 mod passed_report;

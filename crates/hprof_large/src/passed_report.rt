@@ -1,86 +1,33 @@
 //! Reports that are made of passes over objects.
 
-ghost use Rattle.std.specs.Prelude.{◌≡◌};
-
-use crate::checked::write_check;
+use crate::heap::write_heap_report;
 use crate::kind::write_kind;
 use crate::node::write_node;
 use hprof_ask::Reporting;
-use hprof_by_label::write_retained_over;
 use hprof_devices::Target;
 use hprof_engine::{Summaries, WriteStop};
 use hprof_heap::Heap;
 use hprof_histogram::CountedKinds;
-use hprof_holders::write_threads_over;
 use hprof_making::PassProduct;
 use hprof_passes::{Objects, PassStop};
-use hprof_questions::{HeapReport, KindReport, Kinds, Node, NodeReport, Report};
-use hprof_reports::{write_classes_over, write_histogram_over};
+use hprof_questions::{HeapReport, Report};
 use hprof_stream::PartSummary;
 use std::alloc::{AllocError, Global};
 
 /// A report that goes through all objects, wherever they are: it needs every one, or a few that it picks.
 #[derive(Clone, Copy, Debug, PartialEq, Eq)]
-pub enum PassedReport<'a> {
-    /// `check`: a summary of each part, and the numbers of facts.
-    Check,
-    /// `histo`: the class histogram.
-    Histogram,
-    /// `classes`: each class dump, with the objects of the class.
-    Classes,
-    /// `threads`: each thread, its stack, and the objects that its frames hold.
-    Threads,
-    /// `retained`: what the classes keep in memory.
-    Retained,
-    /// A report on the objects of a class or a type, or of all classes that a name means.
-    Kind(KindReport, Kinds<'a>),
-    /// A report on a class, an instance or an array.
-    Node(NodeReport, Node<'a>),
+pub struct PassedReport<'a> {
+    /// The report.
+    pub report: Report<'a>,
 }
 
 impl<'a> PassedReport<'a> {
-    ghost use Rattle.std.specs.Prelude.{MatchOption, ◌≢◌};
-    ghost use Rattle.hprof_large.specs.PassedReport.{report_of};
-    ghost use Rattle.hprof_large.specs.declared.passed_report.PassedReport.{PassedReport};
-
-    /// Returns the report as one that is made of passes, or `None` if it is not.
-    pub fn of(report: Report<'a>) -> Option<PassedReport<'a>>
-        ensures { MatchOption result ((passed : PassedReport) → report_of passed ≢ report.entry)
-            (λ passed. report_of passed ≡ report.entry) }
-    {
-        match report {
-            Report::Heap(HeapReport::Check) => Some(PassedReport::Check),
-            Report::Heap(HeapReport::Histogram) => Some(PassedReport::Histogram),
-            Report::Heap(HeapReport::Classes) => Some(PassedReport::Classes),
-            Report::Heap(HeapReport::Threads) => Some(PassedReport::Threads),
-            Report::Heap(HeapReport::Retained) => Some(PassedReport::Retained),
-            Report::Kind(report, kinds) => Some(PassedReport::Kind(report, kinds)),
-            Report::Node(report, node) => Some(PassedReport::Node(report, node)),
-            Report::Heap(HeapReport::Suspects) => None,
-        }
-    }
-
-    /// Returns the report.
-    pub fn report(self) -> Report<'a>
-        ensures { result ≡ report_of self.entry }
-    {
-        match self {
-            PassedReport::Check => Report::Heap(HeapReport::Check),
-            PassedReport::Histogram => Report::Heap(HeapReport::Histogram),
-            PassedReport::Classes => Report::Heap(HeapReport::Classes),
-            PassedReport::Threads => Report::Heap(HeapReport::Threads),
-            PassedReport::Retained => Report::Heap(HeapReport::Retained),
-            PassedReport::Kind(report, kinds) => Report::Kind(report, kinds),
-            PassedReport::Node(report, node) => Report::Node(report, node),
-        }
-    }
-
-    /// Returns the report as a product of parts.
+    /// Returns the report as a product of parts whose objects are in memory.
     fn reporting(self) -> Reporting<'a>
-        ensures { result.report ≡ report_of self.entry }
+        ensures { result.report ≡ self.entry.report }
     {
         Reporting {
-            report: self.report(),
+            report: self.report,
         }
     }
 }
@@ -89,13 +36,12 @@ impl<'a> PassedReport<'a> {
 impl Summaries for PassedReport<'_> {
     ghost use Rattle.hprof_ask.specs.Report.{TakesRoom};
     ghost use Rattle.hprof_ask.specs.Summarised.{HasRoom, Holds, no_room_for_none};
-    ghost use Rattle.hprof_large.specs.PassedReport.{report_of};
 
-    ghost has_room = { λ passed. HasRoom (report_of passed) };
+    ghost has_room = { λ it. HasRoom it.report };
 
-    ghost holds = { λ passed. Holds (report_of passed) };
+    ghost holds = { λ it. Holds it.report };
 
-    ghost takes_room = { λ passed. TakesRoom (report_of passed) };
+    ghost takes_room = { λ it. TakesRoom it.report };
 
     type Kept = Vec<PartSummary>;
 
@@ -107,19 +53,21 @@ impl Summaries for PassedReport<'_> {
         self.reporting().keep(kept, summary);
     }
 
-    ghost no_room = { λ passed. no_room_for_none (report_of passed) };
+    ghost no_room = { λ it. no_room_for_none it.report };
 }
 
 impl PassProduct for PassedReport<'_> {
     ghost use Rattle.hprof_ask.specs.Report.{IsReportText, RefusesReport};
-    ghost use Rattle.hprof_large.specs.PassedReport.{report_of};
 
-    ghost is_text = { λ passed. IsReportText (report_of passed) };
+    ghost is_text = { λ it. IsReportText it.report };
 
-    ghost refuses = { λ passed refusal heap. RefusesReport heap.facts (report_of passed) refusal };
+    ghost refuses = { λ it refusal heap. RefusesReport heap.facts it.report refusal };
 
     fn wants_counts(&self) -> bool {
-        matches!(self, PassedReport::Histogram | PassedReport::Classes)
+        matches!(
+            self.report,
+            Report::Heap(HeapReport::Histogram | HeapReport::Classes)
+        )
     }
 
     fn write_over<O: Objects, W: Target>(
@@ -131,18 +79,12 @@ impl PassProduct for PassedReport<'_> {
         known: Option<CountedKinds>,
         target: &mut W,
     ) -> Result<(), PassStop<WriteStop, O::Fault>> {
-        match *self {
-            PassedReport::Check => write_check(alloc, kept, heap, objects, target),
-            PassedReport::Histogram => write_histogram_over(alloc, heap, objects, known, target),
-            PassedReport::Classes => write_classes_over(alloc, heap, objects, known, target),
-            PassedReport::Threads => write_threads_over(alloc, heap, objects, target),
-            PassedReport::Retained => write_retained_over(alloc, heap, objects, target),
-            PassedReport::Kind(report, kinds) => {
-                write_kind(alloc, heap, objects, report, kinds, target)
+        match self.report {
+            Report::Heap(report) => {
+                write_heap_report(alloc, kept, heap, objects, report, known, target)
             }
-            PassedReport::Node(report, node) => {
-                write_node(alloc, heap, objects, report, node, target)
-            }
+            Report::Kind(report, kinds) => write_kind(alloc, heap, objects, report, kinds, target),
+            Report::Node(report, node) => write_node(alloc, heap, objects, report, node, target),
         }
     }
 }

@@ -1,6 +1,6 @@
 mod Again
 mod Weaker
-mod PassedMaking
+mod ReportMaking
 pub mod Conversing
 pub mod Ends
 pub mod Making

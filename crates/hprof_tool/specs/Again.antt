@@ -1,15 +1,12 @@
 -- What is needed to read the objects of parts again.
-use Rattle.std.specs.Prelude.{◌≡◌, ◌⊎◌, ℕ, List, [], ◌∷◌, map, Option, Some, ⊤}
+use Rattle.std.specs.Prelude.{◌≡◌, ℕ, List, [], ◌∷◌, map, Option, Some, ⊤}
 use Rattle.hprof_devices.specs.declared.health.Health.{Health}
 use Rattle.hprof_devices.specs.declared.health.Health.TheVariants.{Well}
 use Rattle.hprof_runs.specs.ReadBack.{HoldsNothing}
-use Rattle.hprof_engine.specs.Makes.{IsMadeOf, Making}
-use Rattle.hprof_stored.specs.StoredMaking.{CanBeReadAgain}
-use Rattle.hprof_stored.specs.Storing.{HaveObject}
-use Rattle.hprof_questions.specs.declared.report.HeapReport.TheVariants as heaps
+use Rattle.hprof_engine.specs.Makes.{Making}
+use Rattle.hprof_stored.specs.StoredMaking.{CanBeReadAgain, stored_making}
 use Rattle.hprof_questions.specs.declared.report.Report.{Report}
-use Rattle.hprof_questions.specs.declared.report.Report.TheVariants as reports
-use Rattle.hprof_ask.specs.Report.{IsReportText, RefusesReport, TakesMemory, TakesRoom}
+use Rattle.hprof_ask.specs.Report.{IsReportText, RefusesReport}
 use Rattle.hprof_tool.specs.declared.program.again.Again.{Again}
 
 -- each of these reads the part of its place again: where the part tells its bytes, so does it
@@ -28,24 +25,6 @@ abbrev pub IsReadyFor : {P H S : Type 0} → (P → Option (List ℕ)) → (H �
 IsReadyFor left bytes written health parts again = CanBeReadAgain left parts (map bytes again.handles.items) (written again.scratch)
     × HoldsNothing (written again.scratch) × (health again.scratch ≡ Well)
 
--- the report goes through all objects: these are read again, if they can be
-abbrev pub IsPassed : Report → Type 0
-IsPassed (reports.Heap heaps.Check) = ⊤
-IsPassed (reports.Heap heaps.Histogram) = ⊤
-IsPassed (reports.Heap heaps.Classes) = ⊤
-IsPassed (reports.Heap heaps.Threads) = ⊤
-IsPassed (reports.Heap heaps.Retained) = ⊤
-IsPassed (reports.Kind report these) = ⊤
-IsPassed (reports.Node report node) = ⊤
-IsPassed other = ⊥
-
 -- what a report makes of parts; where objects may be read again, memory is taken for each, also for one that is known
 abbrev pub report_of_parts : Report → Making
-report_of_parts report = record {
-  IsMade = IsMadeOf (IsReportText report);
-  Refuses = λ refusal heap. RefusesReport heap.facts report refusal;
-  TakesRoom = λ parts. IsPassed report ⊎ TakesRoom report parts;
-  TakesMemory = IsPassed report ⊎ TakesMemory report;
-  TakesKnown = λ facts. IsPassed report × HaveObject facts;
-  ReadsAgain = IsPassed report;
-}
+report_of_parts report = stored_making (IsReportText report) (λ refusal heap. RefusesReport heap.facts report refusal)

@@ -107,9 +107,7 @@ fn answer_stored(
             return Ok(Some(of_salvaged(alloc, answer)?));
         }
         Call::Report(report) => {
-            let Some(report) = PassedReport::of(report) else {
-                return Ok(None);
-            };
+            let report = PassedReport { report };
             make_stored(
                 alloc, &report, readers, &again, limits, keeping, scratch, target,
             )

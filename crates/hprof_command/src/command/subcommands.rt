@@ -2,8 +2,7 @@
 
 ghost use Rattle.std.specs.Prelude.{◌≡◌, ◌≢◌, map, MatchOption};
 ghost use Rattle.hprof_command.specs.declared.command.subcommands.CommandWord.{CommandWord};
-ghost use Rattle.hprof_command.specs.CommandLine.{arguments_of, heap_reads_again, kind_reads_again, node_reads_again, reads_again};
-ghost use Rattle.hprof_command.specs.CommandLine.{shape_of_command, shape_of_row};
+ghost use Rattle.hprof_command.specs.CommandLine.{arguments_of, shape_of_command, shape_of_row};
 ghost use Rattle.hprof_command.specs.Commands.{command_word};
 
 use super::{NewFile, help};
@@ -125,56 +124,6 @@ fn arguments_of(follows: Follows) -> &'static [Argument]
     }
 }
 
-/// Returns whether a report on the parts, or on the whole heap, reads objects again.
-fn heap_reads_again(report: HeapReport) -> bool
-    ensures { result ≡ heap_reads_again report }
-{
-    match report {
-        HeapReport::Check
-        | HeapReport::Histogram
-        | HeapReport::Classes
-        | HeapReport::Threads
-        | HeapReport::Retained => true,
-        HeapReport::Suspects => false,
-    }
-}
-
-/// Returns whether a report on the objects of a class or a type reads objects again.
-fn kind_reads_again(report: KindReport) -> bool
-    ensures { result ≡ kind_reads_again report }
-{
-    match report {
-        KindReport::Biggest | KindReport::Objects => true,
-    }
-}
-
-/// Returns whether a report on a class or an object reads objects again.
-fn node_reads_again(report: NodeReport) -> bool
-    ensures { result ≡ node_reads_again report }
-{
-    match report {
-        NodeReport::Show
-        | NodeReport::Why
-        | NodeReport::Who
-        | NodeReport::Keeps
-        | NodeReport::Text
-        | NodeReport::Object
-        | NodeReport::Refs
-        | NodeReport::Path => true,
-    }
-}
-
-/// Returns whether a report reads objects again.
-fn reads_again(report: ReportWord) -> bool
-    ensures { result ≡ reads_again report }
-{
-    match report {
-        ReportWord::Heap(report) => heap_reads_again(report),
-        ReportWord::Kind(report) => kind_reads_again(report),
-        ReportWord::Node(report) => node_reads_again(report),
-    }
-}
-
 /// Returns the row of a report.
 fn report_row(report: ReportWord) -> CommandRow
     ensures word { result.word.now ≡ command_word (CommandWord.Report report) }
@@ -187,7 +136,7 @@ fn report_row(report: ReportWord) -> CommandRow
         help: row.help,
         arguments: arguments_of(row.follows),
         takes_parts: true,
-        takes_memory: reads_again(report),
+        takes_memory: true,
     }
 }
 

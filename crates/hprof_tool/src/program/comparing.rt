@@ -71,10 +71,6 @@ impl<'a> Made for GrowthReport<'a> {
 
     ghost making = { λ report. growth_of_parts (totals_in report.old.now) };
 
-    fn reads_again(&self) -> bool {
-        true
-    }
-
     fn make<R: Source, H: ReadAt + Drop, S: Scratch + Drop, W: Target>(
         &self,
         alloc: Global,

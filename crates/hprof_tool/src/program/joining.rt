@@ -22,12 +22,10 @@ use hprof_runs::Scratch;
 use std::alloc::Global;
 use std::io::Write;
 
-/// Returns what is needed to read the objects of opened parts again, or `None` if the product does not need it, or if they fit into the
-/// memory.
-fn again_for<P: Made, F: Folder>(
+/// Returns what is needed to read the objects of opened parts again, or `None` if they fit into the memory.
+fn again_for<F: Folder>(
     alloc: Global,
     files: &F,
-    product: &P,
     parts: &[F::Part],
     out: Option<&str>,
 ) -> Result<Option<Again<F::Handle, F::Scratch>>, Refused>
@@ -35,9 +33,6 @@ fn again_for<P: Made, F: Folder>(
         parts.now)) }
     ensures refused { IfErr result (λ why. why ≡ Refused.OutOfMemory) }
 {
-    if !product.reads_again() {
-        return Ok(None);
-    }
     match again_of(alloc, files, parts, out) {
         Ok(again) => Ok(again),
         Err(_) => Err(Refused::OutOfMemory),
@@ -90,7 +85,7 @@ pub(crate) fn write_file<P: Made, F: Folder>(
         mut parts,
         buffered,
     } = start_file(alloc, files, out, names)?;
-    let again = match again_for(alloc, files, product, &parts, Some(name)) {
+    let again = match again_for(alloc, files, &parts, Some(name)) {
         Ok(again) => again,
         Err(why) => {
             let (file, _) = buffered.into_parts();
@@ -131,7 +126,7 @@ pub(crate) fn report_files<P: Made, F: Folder, O: Write + Drop>(
             });
         }
     };
-    let again = match again_for(alloc, files, report, &parts, None) {
+    let again = match again_for(alloc, files, &parts, None) {
         Ok(again) => again,
         Err(why) => {
             return Err(Stopped {

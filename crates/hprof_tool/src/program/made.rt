@@ -6,7 +6,7 @@ ghost use Rattle.hprof_engine.specs.Joining.{fault_of};
 ghost use Rattle.hprof_engine.specs.Makes.{Makes, making_of};
 ghost use Rattle.hprof_stored.specs.StoredMaking.{stored_dump_making, stored_making};
 ghost use Rattle.hprof_stored101.specs.StoredMaking101.{stored_dump101_making};
-ghost use Rattle.hprof_tool.specs.Again.{IsReadyFor};
+ghost use Rattle.hprof_tool.specs.Again.{IsReadyFor, report_of_parts};
 ghost use Rattle.hprof_tool.specs.Program.{usual_limits};
 
 use crate::program::again::Again;
@@ -140,7 +140,7 @@ pub(crate) fn make_again<M: PassProduct, R: Source, H: ReadAt + Drop, S: Scratch
 
 /// A product that a command makes.
 pub(crate) trait Made {
-    ghost use Rattle.std.specs.Prelude.{◌≡◌, ◌↔◌, All, IfSome, IsTrue};
+    ghost use Rattle.std.specs.Prelude.{◌≡◌, All, IfSome};
     ghost use Rattle.hprof_tool.specs.Again.{IsReadyFor};
     ghost use Rattle.hprof_devices.specs.declared.health.Health.TheVariants.{Well};
     ghost use Rattle.hprof_engine.specs.Joining.{fault_of};
@@ -149,10 +149,6 @@ pub(crate) trait Made {
 
     // What is made.
     ghost making: { Self → Making };
-
-    /// Returns whether the objects of the parts are gone through again, if they do not fit into the memory.
-    fn reads_again(&self) -> bool
-        ensures { IsTrue result ↔ (making self.now).ReadsAgain };
 
     /// Makes it of the parts of the readers. Their objects are gone through again with `again`, if it is there.
     fn make<R: Source, H: ReadAt + Drop, S: Scratch + Drop, W: Target>(
@@ -174,10 +170,6 @@ impl Made for Dump {
 
     ghost making = { λ _. stored_dump_making };
 
-    fn reads_again(&self) -> bool {
-        true
-    }
-
     fn make<R: Source, H: ReadAt + Drop, S: Scratch + Drop, W: Target>(
         &self,
         alloc: Global,
@@ -197,10 +189,6 @@ impl Made for Dump101 {
 
     ghost making = { λ _. stored_dump101_making };
 
-    fn reads_again(&self) -> bool {
-        true
-    }
-
     fn make<R: Source, H: ReadAt + Drop, S: Scratch + Drop, W: Target>(
         &self,
         alloc: Global,
@@ -215,15 +203,34 @@ impl Made for Dump101 {
     }
 }
 
-/// References to one identifier are found while parts are read.
+/// Writes a report on the parts of the readers, whose objects are kept in memory. References to one identifier are found while parts are
+/// read.
+fn report_in_memory<R: Source, W: Target>(
+    alloc: Global,
+    report: Report<'_>,
+    readers: &mut [R],
+    target: &mut W,
+) -> Result<(), ToolFault>
+    requires readers { All (λ reader. R.health reader ≡ Well) readers.old }
+    requires writer { W.health target.old ≡ Well }
+    ensures { Makes R.left R.health R.pulls W.written W.health usual_limits (report_of_parts report.entry) readers.old readers.new
+        target.old target.new (fault_of result) }
+{
+    match report {
+        Report::Node(NodeReport::Refs, Node::Identifier(id)) => {
+            refs_to(alloc, readers, id, target, Limits::usual())
+        }
+        Report::Node(NodeReport::Who, Node::Identifier(id)) => {
+            who_to(alloc, readers, id, target, Limits::usual())
+        }
+        _ => make_of_heap(alloc, &Reporting { report }, readers, target),
+    }
+}
+
 impl<'a> Made for Report<'a> {
     ghost use Rattle.hprof_tool.specs.Again.{report_of_parts};
 
     ghost making = { report_of_parts };
-
-    fn reads_again(&self) -> bool {
-        PassedReport::of(*self).is_some()
-    }
 
     fn make<R: Source, H: ReadAt + Drop, S: Scratch + Drop, W: Target>(
         &self,
@@ -232,19 +239,10 @@ impl<'a> Made for Report<'a> {
         again: Option<Again<H, S>>,
         target: &mut W,
     ) -> Result<(), ToolFault> {
-        if let Some(again) = again {
-            if let Some(passed) = PassedReport::of(*self) {
-                return make_again(alloc, &passed, readers, again, target);
-            }
-        }
-        match *self {
-            Report::Node(NodeReport::Refs, Node::Identifier(id)) => {
-                refs_to(alloc, readers, id, target, Limits::usual())
-            }
-            Report::Node(NodeReport::Who, Node::Identifier(id)) => {
-                who_to(alloc, readers, id, target, Limits::usual())
-            }
-            _ => make_of_heap(alloc, &Reporting { report: *self }, readers, target),
+        let report = *self;
+        match again {
+            Some(again) => make_again(alloc, &PassedReport { report }, readers, again, target),
+            None => report_in_memory(alloc, report, readers, target),
         }
     }
 }

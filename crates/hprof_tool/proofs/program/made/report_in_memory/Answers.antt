@@ -10,17 +10,8 @@ use Rattle.hprof_ask.specs.Report.{report_making}
 use Rattle.hprof_tool.proofs.Making.{are_usual}
 use Rattle.hprof_tool.specs.Again.{report_of_parts}
 use Rattle.hprof_tool.specs.Program.{usual_limits}
-use Rattle.hprof_tool.proofs.PassedMaking.{heap_makes, node_report, passed_makes}
-use Rattle.hprof_tool.proofs.program.made.ReportMade.make.Goals as goal
-
-pub returns-in-Some-of : goal.returns-in-Some-of
-returns-in-Some-of g c =
-    subst (λ (report : Report). Makes g.R.Source.left g.R.Source.health g.R.Source.pulls g.W.Target.written g.W.Target.health usual_limits
-    (report_of_parts report) c.args.readers.now c.make_again.new.readers c.args.target.now c.make_again.new.target
-    (fault_of c.make_again.result)) c.in-Some-of.ensures
-    (passed_makes g.R.Source.left g.R.Source.health g.R.Source.pulls usual_limits g.W.Target.written g.W.Target.health c.args.readers.now
-    c.make_again.new.readers c.args.target.now c.make_again.new.target
-        (fault_of c.make_again.result) c.in-Some-of.passed c.make_again.ensures)
+use Rattle.hprof_tool.proofs.ReportMaking.{heap_makes, node_report}
+use Rattle.hprof_tool.proofs.program.made.report_in_memory.Goals as goal
 
 -- references are found while parts are read
 
@@ -29,7 +20,7 @@ returns-in-Node-Refs-Identifier g c =
     let known = c.in-Node-Refs-Identifier in
     let usual = c.usual.ensures in
     let report = reports.Node nodes.Refs (that.Identifier known.id) in
-    let is : c.args.self.now ≡ report = node_report c.args.self.now known.field-0 nodes.Refs known.field-1 known.id known.is
+    let is : c.args.report ≡ report = node_report c.args.report known.field-0 nodes.Refs known.field-1 known.id known.is
     (rw known.is at known.field-0-is) (rw known.is at known.field-1-is) in
     subst (λ (report : Report). Makes g.R.Source.left g.R.Source.health g.R.Source.pulls g.W.Target.written g.W.Target.health usual_limits
     (report_of_parts report) c.args.readers.now c.refs_to.new.readers c.args.target.now c.refs_to.new.target
@@ -45,7 +36,7 @@ returns-in-Node-Who-Identifier g c =
     let known = c.in-Node-Who-Identifier in
     let usual = c.usual-in-Node-Who-Identifier.ensures in
     let report = reports.Node nodes.Who (that.Identifier known.id) in
-    let is : c.args.self.now ≡ report = node_report c.args.self.now known.field-0 nodes.Who known.field-1 known.id known.is
+    let is : c.args.report ≡ report = node_report c.args.report known.field-0 nodes.Who known.field-1 known.id known.is
     (rw known.is at known.field-0-is) (rw known.is at known.field-1-is) in
     subst (λ (report : Report). Makes g.R.Source.left g.R.Source.health g.R.Source.pulls g.W.Target.written g.W.Target.health usual_limits
     (report_of_parts report) c.args.readers.now c.who_to.new.readers c.args.target.now c.who_to.new.target
@@ -57,8 +48,8 @@ returns-in-Node-Who-Identifier g c =
     (are_usual c.usual-in-Node-Who-Identifier.result usual.item usual.reads usual.bytes) c.who_to.ensures))
 
 -- all other reports are made of a heap
-pub returns-in_default-self : goal.returns-in_default-self
-returns-in_default-self g c =
+pub returns-in_default-report : goal.returns-in_default-report
+returns-in_default-report g c =
     let made = c.make_of_heap in
     heap_makes g.R.Source.left g.R.Source.health g.R.Source.pulls usual_limits g.W.Target.written g.W.Target.health
-    c.args.readers.now made.new.readers c.args.target.now made.new.target (fault_of made.result) c.args.self.now made.ensures
+    c.args.readers.now made.new.readers c.args.target.now made.new.target (fault_of made.result) c.args.report made.ensures
