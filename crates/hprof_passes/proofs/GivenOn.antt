@@ -28,7 +28,8 @@ module _ {T E : Type 0} (takes : T → IdSize → FactValue → T → Type 0) (r
     alike_then : (old mid new : Picking T) → PickAlike old mid → PickAlike mid new → PickAlike old new
     alike_then old mid new first second = (second.0 ∙ first.0, second.1 ∙ first.1)
 
-    alike_taken : (objects : List FactValue) (old new : Picking T) → TakesObjects (PicksObject takes) ids old objects new → PickAlike old new
+    alike_taken : (objects : List FactValue) (old new : Picking T) → TakesObjects (PicksObject takes) ids old objects new
+        → PickAlike old new
     alike_taken [] old new same = subst (PickAlike old) same (refl, refl)
     alike_taken (object ∷ objects) old new took =
         alike_then old took.0 new took.1.alike (alike_taken objects took.0 new took.2)
@@ -84,9 +85,9 @@ module _ {T E : Type 0} (takes : T → IdSize → FactValue → T → Type 0) (r
     }
 
     -- the same, from what that sink was before the pass to what it is behind it
-    pub given_between : {A F : Type 0} (wanted : List ℕ) (objects : List FactValue) (result : Result A (PassStop E F)) (old new : Picking T)
-        → wanted_by old ≡ wanted → Passes (PicksObject takes) (RefusesPicked refuses) ids objects result old new → (was now : T)
-        → sink_under old ≡ was → now ≡ sink_under new → Passes takes refuses ids (picked wanted objects) result was now
+    pub given_between : {A F : Type 0} (wanted : List ℕ) (objects : List FactValue) (result : Result A (PassStop E F))
+        (old new : Picking T) → wanted_by old ≡ wanted → Passes (PicksObject takes) (RefusesPicked refuses) ids objects result old new
+        → (was now : T) → sink_under old ≡ was → now ≡ sink_under new → Passes takes refuses ids (picked wanted objects) result was now
     given_between wanted objects result old new same passes was now begins ends =
         subst (λ (t : T). Passes takes refuses ids (picked wanted objects) result was t) (sym ends)
         (subst (λ (t : T). Passes takes refuses ids (picked wanted objects) result t (sink_under new)) begins

@@ -14,4 +14,4 @@ pub use in_heap::InHeap;
 pub use object_sink::ObjectSink;
 pub use objects::Objects;
 pub use pass_stop::PassStop;
-pub use picking::{Picking, pick_by_pass};
+pub use picking::Picking;

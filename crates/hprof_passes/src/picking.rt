@@ -1,19 +1,13 @@
 //! A sink of objects that gives another sink the wanted ones.
 
-ghost use Rattle.std.specs.Prelude.{◌≡◌, List, OnOk, IfErr};
+ghost use Rattle.std.specs.Prelude.{◌≡◌};
 ghost use Rattle.std.specs.List.Sorted.{IsStrictlyIncreasing};
-ghost use Rattle.hprof_items.specs.FactValue.{FactValue, value_of};
-ghost use Rattle.hprof_heap.specs.HeapFacts.{facts_of, size_of};
-ghost use Rattle.hprof_passes.specs.Passing.{IfLost, Passes, objects_among};
-ghost use Rattle.hprof_passes.specs.Picked.{ascends-prop, object_of, picked};
+ghost use Rattle.hprof_items.specs.FactValue.{value_of};
+ghost use Rattle.hprof_passes.specs.Picked.{ascends-prop, object_of};
 
 use crate::object_sink::ObjectSink;
-use crate::objects::Objects;
-use crate::pass_stop::PassStop;
-use hprof_heap::Heap;
 use hprof_items::Fact;
 use hprof_values::IdSize;
-use std::alloc::Global;
 
 /// A sink that gives the objects whose identifiers are wanted to another sink, and passes over the others.
 #[derive(Drop)]
@@ -79,27 +73,4 @@ impl<T: ObjectSink> ObjectSink for Picking<'_, T> {
         }
         self.sink.take(ids, object)
     }
-}
-
-/// Gives a sink those of the objects whose identifiers are wanted, as [`Objects::pick`] does, by a pass over all objects.
-///
-/// # Errors
-///
-/// - `Sink`: the sink refused an object. It was given the wanted ones before.
-/// - `Lost`: the objects cannot be gone through. The sink was given the first of the wanted ones, or none.
-pub fn pick_by_pass<O: Objects, T: ObjectSink>(
-    objects: &O,
-    alloc: Global,
-    heap: &Heap,
-    wanted: &[u64],
-    sink: &mut T,
-) -> Result<(), PassStop<T::Fault, O::Fault>>
-    requires ascend { IsStrictlyIncreasing wanted.now }
-    ensures given { (all : List FactValue) → O.make_up objects.now (size_of heap.now) (facts_of heap.now) all
-        → Passes T.takes T.refuses (size_of heap.now) (picked wanted.now (objects_among all)) result sink.old sink.new }
-    ensures agree { OnOk result (O.agree objects.now (size_of heap.now) (facts_of heap.now)) }
-    ensures tells { IfErr result (IfLost (O.tells objects.now (size_of heap.now) (facts_of heap.now))) }
-{
-    let mut picking = Picking::new(wanted, sink);
-    objects.pass(alloc, heap, &mut picking)
 }

@@ -2,7 +2,7 @@ use Rattle.std.proofs.Common.{rules}
 use Rattle.hprof_heap.specs.HeapFacts.{size_of}
 use Rattle.hprof_passes.specs.Passing.{objects_among}
 use Rattle.hprof_passes.proofs.GivenOn.{alike_passed, given_between}
-use Rattle.hprof_passes.proofs.picking.pick_by_pass.Goals as goal
+use Rattle.hprof_passes.proofs.objects.Objects.pick.Goals as goal
 
 pub returns-clause-given : goal.returns-clause-given
 returns-clause-given g c = λ all make.
