@@ -4,6 +4,7 @@
 //! Begin with [`ObjectLog`], which takes objects, and [`StoredObjects::merge`].
 #![tactic(auto)]
 
+mod cut;
 mod growing;
 mod identifying;
 mod keeping;
@@ -12,14 +13,19 @@ mod merging;
 mod next_object;
 mod object_log;
 mod object_stop;
+mod open_cut;
 mod opening;
+mod picking;
+mod picking_sink;
 mod row_store;
 mod stored_objects;
 mod stretch;
 mod stretch_cursor;
 mod stretch_fault;
 pub mod stretch_laws;
+mod wanted;
 
+pub use cut::Cut;
 pub use identifying::object_id;
 pub use keeping::Keeping;
 pub use object_log::ObjectLog;
