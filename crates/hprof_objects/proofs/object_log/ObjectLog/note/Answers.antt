@@ -11,7 +11,7 @@ use Rattle.hprof_objects.proofs.object_log.ObjectLog.note.Goals as goal
 pub returns-clause-log : goal.returns-clause-log
 returns-clause-log g c = λ limits parts part more it now. (
   keeps_bytes g.S.Target.written g.S.Target.health limits parts part c.args.self.now.part more (rows_of_store c.args.self.now.store)
-      (runs_of_store c.args.self.now.store) c.args.self.now.stretches.items c.args.self.now.growing it.0,
+      (runs_of_store c.args.self.now.store) c.args.self.now.stretches.items c.args.self.now.cuts.items c.args.self.now.cut c.args.self.now.growing it.0,
   subst (λ (p : Option Piece). IsPieceOf limits (with_bytes part more) p) (sym c.piece_at-self.ensures)
       (piece_begins limits (with_bytes part more) c.args.place now),
 )
