@@ -24,3 +24,6 @@ pub mod OpeningFaults
 pub mod OneStretch
 mod WantedRows
 mod PickedRows
+mod PickedCuts
+mod PickedFront
+mod PickedMerge

@@ -180,18 +180,18 @@ module _ {R T : Type 0} (left : R → Option (List ℕ)) (health : R → Health)
 
 -- ---- a cursor that failed
 
-pub first_stops : {A T G : Type 0} (steps : T → ℕ → List ℕ → T → Type 0) (refuses : T → ℕ → List ℕ → G → T → Type 0) (wanted : List ℕ)
+pub first_stops : (A : Type 0) {T G : Type 0} (steps : T → ℕ → List ℕ → T → Type 0) (refuses : T → ℕ → List ℕ → G → T → Type 0) (wanted : List ℕ)
     (rows : List ByteRow) (old new : T) (part : ℕ) (fault : StretchFault) → PicksFirst steps refuses wanted rows old new
     → PicksOf steps refuses wanted {A = A} rows (Err (part_stop part fault)) old new
-first_stops steps refuses wanted rows old new part faults.OutOfMemory picks = picks
-first_stops steps refuses wanted rows old new part faults.Read picks = picks
-first_stops steps refuses wanted rows old new part faults.Changed picks = picks
+first_stops A steps refuses wanted rows old new part faults.OutOfMemory picks = picks
+first_stops A steps refuses wanted rows old new part faults.Read picks = picks
+first_stops A steps refuses wanted rows old new part faults.Changed picks = picks
 
-pub cursor_tells : {R G : Type 0} (left : R → Option (List ℕ)) (health : R → Health) (pulls : R → ℕ) (part : ℕ) (was it on : StretchCursor R)
+pub cursor_tells : (G : Type 0) {R : Type 0} (left : R → Option (List ℕ)) (health : R → Health) (pulls : R → ℕ) (part : ℕ) (was it on : StretchCursor R)
     (fault : StretchFault) → FailsAt left health pulls it fault on
     → ((rows : List ByteRow) → StretchComes left health pulls was rows → (rest : List ByteRow) × StretchComes left health pulls it rest)
     → TellsCursor {G = G} left health pulls part was (part_stop part fault)
-cursor_tells left health pulls part was it on faults.OutOfMemory fails comes = tt
-cursor_tells left health pulls part was it on faults.Read fails comes = (refl, tt)
-cursor_tells left health pulls part was it on faults.Changed fails comes =
+cursor_tells G left health pulls part was it on faults.OutOfMemory fails comes = tt
+cursor_tells G left health pulls part was it on faults.Read fails comes = (refl, tt)
+cursor_tells G left health pulls part was it on faults.Changed fails comes =
     (refl, λ rows come. let there = comes rows come in fails there.1.0 there.0 there.1.1)
