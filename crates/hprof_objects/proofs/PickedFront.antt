@@ -165,3 +165,8 @@ no_scratch limits told cuts P (Err (stops.TwoContents key)) tells = tt
 no_scratch limits told cuts P (Err (stops.Scratch fault)) tells = absurd tells
 no_scratch limits told cuts P (Err (stops.Part part fault)) tells = tt
 no_scratch limits told cuts P (Err (stops.Sink fault)) tells = tt
+
+-- what holds, holds at the end
+pub where_ok : {A E P : Type 0} (result : Result A E) → P → OnOk result P
+where_ok (Ok done) holds = holds
+where_ok (Err fault) holds = tt

@@ -106,15 +106,23 @@ module _ {T G : Type 0} (steps : T → ℕ → List ℕ → T → Type 0) (refus
       picks_merged (Err (stops.Part part fault)) front = (front.0, below front.0 front.1)
       picks_merged (Err (stops.Sink fault)) it = (it.0, refused it.0 fault it.1)
 
--- all lists have a union if a merge of them came to its end
-pub merged_union : {A T G : Type 0} (steps : T → ℕ → List ℕ → T → Type 0) (refuses : T → ℕ → List ℕ → G → T → Type 0)
-    (lists : List (List ByteRow)) (P : Type 0) (result : Result A (ObjectStop G)) (old new : T)
-    → (P → MergesLists steps refuses lists result old new) → OnOk result (P → (rows : List ByteRow) × IsUnion lists rows)
-merged_union steps refuses lists P (Ok done) old new merges = λ holds. let taken = merges holds in (taken.all, taken.union)
-merged_union steps refuses lists P (Err stop) old new merges = tt
+      -- from one sink to another
+      pub merged_picks : (was now : T) → sink_under old ≡ was → now ≡ sink_under new → {A : Type 0} (result : Result A (ObjectStop G))
+          → MergesLists (PicksRow steps) (RefusesPicked refuses) lists result old new → Picks steps refuses wanted lists result was now
+      merged_picks was now first last result merges =
+          subst (λ (t : T). Picks steps refuses wanted lists result was t) (sym last)
+          (subst (λ (t : T). Picks steps refuses wanted lists result t (sink_under new)) first (picks_merged result merges))
+
+-- lists have a union if a merge of them came to its end
+pub merged_union : {A T G I : Type 0} (steps : T → ℕ → List ℕ → T → Type 0) (refuses : T → ℕ → List ℕ → G → T → Type 0) (old new : T)
+    (Holds : I → Type 0) (lists : I → List (List ByteRow)) (result : Result A (ObjectStop G))
+    → ((it : I) → Holds it → MergesLists steps refuses (lists it) result old new)
+    → OnOk result ((it : I) → Holds it → (rows : List ByteRow) × IsUnion (lists it) rows)
+merged_union steps refuses old new Holds lists (Ok done) merges = λ it holds. let taken = merges it holds in (taken.all, taken.union)
+merged_union steps refuses old new Holds lists (Err stop) merges = tt
 
 -- the sink under it may be called, unless it refused a row
-pub well_under : {A T G : Type 0} (well : T → Type 0) (it : PickingSink T) (result : Result A (ObjectStop G))
+well_under : {A T G : Type 0} (well : T → Type 0) (it : PickingSink T) (result : Result A (ObjectStop G))
     → UnlessRefused (IsWell well it) result → UnlessRefused (well (sink_under it)) result
 well_under well it (Ok done) is = is.1
 well_under well it (Err stops.OutOfMemory) is = is.1
@@ -122,3 +130,8 @@ well_under well it (Err (stops.TwoContents key)) is = is.1
 well_under well it (Err (stops.Scratch fault)) is = is.1
 well_under well it (Err (stops.Part part fault)) is = is.1
 well_under well it (Err (stops.Sink fault)) is = tt
+
+pub well_merged : {A T G : Type 0} (well : T → Type 0) (it : PickingSink T) (now : T) → now ≡ sink_under it
+    → (result : Result A (ObjectStop G)) → UnlessRefused (IsWell well it) result → UnlessRefused (well now) result
+well_merged well it now last result is =
+    subst (λ t. UnlessRefused (well t) result) (sym last) (well_under well it result is)
