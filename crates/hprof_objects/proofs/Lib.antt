@@ -24,6 +24,7 @@ pub mod OpeningFaults
 pub mod OneStretch
 mod WantedRows
 mod PickedRows
+mod TwoPieces
 mod PickedCuts
 mod PickedFront
 mod PickedMerge

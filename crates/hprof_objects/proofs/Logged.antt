@@ -62,7 +62,8 @@ kept memory runs lists grown row (inr (inr (inr h))) a b c d = d h
 module _ {S : Type 0} (written : S → Option (List ℕ)) (health : S → Health) (limits : Limits) (parts : List PartRead) (part : PartRead)
     (number : ℕ) where
   -- what is kept of a part, of which a fact came that is no object
-  pub keeps_other : (fact : FactValue) (memory : List ByteRow) (scratch : Runs S) (stays : List Stretch) (cuts : List Cut) (cut : Option OpenCut) (growing : Option Growing)
+  pub keeps_other : (fact : FactValue) (memory : List ByteRow) (scratch : Runs S) (stays : List Stretch) (cuts : List Cut)
+      (cut : Option OpenCut) (growing : Option Growing)
       → object_row part.ids fact ≡ None → Keeps written health limits parts part number memory scratch stays cuts cut growing
       → Keeps written health limits parts (with_fact part fact) number memory scratch stays cuts cut growing
   keeps_other fact memory scratch stays cuts cut growing none it = record {
@@ -96,7 +97,8 @@ module _ {S : Type 0} (written : S → Option (List ℕ)) (health : S → Health
           ∙ append-nil (rows_of_parts (parts ++ part ∷ [])))
 
   -- and of which bytes came
-  pub keeps_bytes : (extra : List ℕ) (memory : List ByteRow) (scratch : Runs S) (stays : List Stretch) (cuts : List Cut) (cut : Option OpenCut) (growing : Option Growing)
+  pub keeps_bytes : (extra : List ℕ) (memory : List ByteRow) (scratch : Runs S) (stays : List Stretch) (cuts : List Cut)
+      (cut : Option OpenCut) (growing : Option Growing)
       → Keeps written health limits parts part number memory scratch stays cuts cut growing
       → Keeps written health limits parts (with_bytes part extra) number memory scratch stays cuts cut growing
   keeps_bytes extra memory scratch stays cuts cut growing it = record {
@@ -128,7 +130,8 @@ module _ {S : Type 0} (written : S → Option (List ℕ)) (health : S → Health
   -- ---- the growing stretch ends
 
   -- its rows are in memory
-  pub keeps_forgotten : (memory : List ByteRow) (scratch : Runs S) (stays : List Stretch) (cuts : List Cut) (cut : Option OpenCut) (growing : Growing) (from : ℕ)
+  pub keeps_forgotten : (memory : List ByteRow) (scratch : Runs S) (stays : List Stretch) (cuts : List Cut) (cut : Option OpenCut)
+      (growing : Growing) (from : ℕ)
       → growing.stands ≡ InMemory from → Keeps written health limits parts part number memory scratch stays cuts cut (Some growing)
       → Keeps written health limits parts part number memory scratch stays cuts cut None
   keeps_forgotten memory scratch stays cuts cut growing from stands it = record {
@@ -143,7 +146,8 @@ module _ {S : Type 0} (written : S → Option (List ℕ)) (health : S → Health
         it.enough (λ row h. kept memory it.runs it.lists it.grown row h inl (λ b. inr (inl b)) (λ c. inr (inr (inl c))) (λ d. inl
         (inside row d)))
         (λ row h. kept memory it.runs it.lists [] row h inl (λ b. inr (inl b)) (λ c. inr (inr (inl c))) (λ d. absurd d));
-    cut = subst (λ (s : Stands). AreCutStanding limits (parts ++ part ∷ []) part cuts (all_rows it.lists) s cut growing it.grown) stands it.cut;
+    cut = subst (λ (s : Stands). AreCutStanding limits (parts ++ part ∷ []) part cuts (all_rows it.lists) s cut growing it.grown) stands
+        it.cut;
   }
     where
       inside : (row : ByteRow) → Has it.grown row → Has memory row
@@ -153,7 +157,8 @@ module _ {S : Type 0} (written : S → Option (List ℕ)) (health : S → Health
 
   -- it stays in the part
   keeps_closed : (memory : List ByteRow) (scratch : Runs S) (stays : List Stretch) (cuts : List Cut) (cut after : Option OpenCut)
-      (growing : Growing) → growing.stands ≡ InPart → Keeps written health limits parts part number memory scratch stays cuts cut (Some growing)
+      (growing : Growing) → growing.stands ≡ InPart
+      → Keeps written health limits parts part number memory scratch stays cuts cut (Some growing)
       → Keeps written health limits parts part number memory scratch (stays ++ growing.stretch ∷ [])
       (cuts ++ cut_staying InPart cut growing) after None
   keeps_closed memory scratch stays cuts cut after growing stands it = record {
@@ -232,7 +237,8 @@ module _ {S : Type 0} (written : S → Option (List ℕ)) (health : S → Health
       rows_of_parts-with parts part fact ∙ ap (λ (o : Option ByteRow). rows_of_parts (parts ++ part ∷ []) ++ only o) object
 
   -- it stands behind the others in memory
-  pub keeps_pushed : (fact : FactValue) (row : ByteRow) (memory after : List ByteRow) (scratch next : Runs S) (stays : List Stretch) (cuts : List Cut) (cut : Option OpenCut)
+  pub keeps_pushed : (fact : FactValue) (row : ByteRow) (memory after : List ByteRow) (scratch next : Runs S) (stays : List Stretch)
+      (cuts : List Cut) (cut : Option OpenCut)
       → object_row part.ids fact ≡ Some row → after ≡ memory ++ row ∷ [] → KeepsRuns written health scratch next
       → Keeps written health limits parts part number memory scratch stays cuts cut None
       → Keeps written health limits parts (with_fact part fact) number after next stays cuts cut None
@@ -261,7 +267,8 @@ module _ {S : Type 0} (written : S → Option (List ℕ)) (health : S → Health
       none r h = subst (λ (l : List ByteRow). Has l r) it.grows h
 
   -- it is alone in memory, since the others went to scratch
-  pub keeps_spilled : (fact : FactValue) (row : ByteRow) (memory after : List ByteRow) (scratch next : Runs S) (stays : List Stretch) (cuts : List Cut) (cut : Option OpenCut)
+  pub keeps_spilled : (fact : FactValue) (row : ByteRow) (memory after : List ByteRow) (scratch next : Runs S) (stays : List Stretch)
+      (cuts : List Cut) (cut : Option OpenCut)
       → object_row part.ids fact ≡ Some row → after ≡ row ∷ [] → Spills written health memory scratch next
       → Keeps written health limits parts part number memory scratch stays cuts cut None
       → Keeps written health limits parts (with_fact part fact) number after next stays cuts cut None
@@ -317,7 +324,8 @@ module _ {S : Type 0} (written : S → Option (List ℕ)) (health : S → Health
   -- ---- a stretch grows
 
   -- its rows are the last ones in memory
-  pub keeps_growing : (memory : List ByteRow) (scratch : Runs S) (stays : List Stretch) (cuts : List Cut) (cut after : Option OpenCut) (growing : Growing) (from : ℕ)
+  pub keeps_growing : (memory : List ByteRow) (scratch : Runs S) (stays : List Stretch) (cuts : List Cut) (cut after : Option OpenCut)
+      (growing : Growing) (from : ℕ)
       (grown : List ByteRow) → growing.stands ≡ InMemory from → IsGrowingStretch limits number part growing memory grown
       → Keeps written health limits parts part number memory scratch stays cuts cut None
       → Keeps written health limits parts part number memory scratch stays cuts after (Some growing)
@@ -333,8 +341,8 @@ module _ {S : Type 0} (written : S → Option (List ℕ)) (health : S → Health
         (IsKept memory it.runs it.lists grown) it.enough
         (λ r h. kept memory it.runs it.lists it.grown r h inl (λ b. inr (inl b)) (λ c. inr (inr (inl c))) (λ d. absurd (none r d)))
         (λ r h. kept memory it.runs it.lists grown r h inl (λ b. inr (inl b)) (λ c. inr (inr (inl c))) (λ d. inl (inside r d)));
-    cut = subst (λ (s : Stands). AreCutStanding limits (parts ++ part ∷ []) part cuts (all_rows it.lists) s after growing grown) (sym stands)
-        it.cut;
+    cut = subst (λ (s : Stands). AreCutStanding limits (parts ++ part ∷ []) part cuts (all_rows it.lists) s after growing grown)
+        (sym stands) it.cut;
   }
     where
       none : (r : ByteRow) → Has it.grown r → ⊥
@@ -346,8 +354,9 @@ module _ {S : Type 0} (written : S → Option (List ℕ)) (health : S → Health
           subst (λ (l : List ByteRow). Has l r) (sym at.1) (has_back at.0 grown r h)
 
   -- its rows leave the memory, since it stays in the part
-  pub keeps_staying : (memory front : List ByteRow) (scratch : Runs S) (stays : List Stretch) (cuts : List Cut) (cut : Option OpenCut) (growing : Growing) (from : ℕ)
-      (grown : List ByteRow) → growing.stands ≡ InMemory from → memory ≡ front ++ grown → IsGrowingStretch limits number part growing memory grown
+  pub keeps_staying : (memory front : List ByteRow) (scratch : Runs S) (stays : List Stretch) (cuts : List Cut) (cut : Option OpenCut)
+      (growing : Growing) (from : ℕ) (grown : List ByteRow) → growing.stands ≡ InMemory from → memory ≡ front ++ grown
+      → IsGrowingStretch limits number part growing memory grown
       → Keeps written health limits parts part number memory scratch stays cuts cut None
       → Keeps written health limits parts part number front scratch stays cuts (Some (whole_cut growing)) (Some (grown_in_part growing))
   keeps_staying memory front scratch stays cuts cut growing from grown stands parted grows it = record {
@@ -372,8 +381,8 @@ module _ {S : Type 0} (written : S → Option (List ℕ)) (health : S → Health
           | inr rest ↦ inr (inr (inr rest))
         ]) (λ b. inr (inl b)) (λ c. inr (inr (inl c))) (λ d. absurd (none r d)))
         (λ r h. kept front it.runs it.lists grown r h
-        (λ a. inl (subst (λ (l : List ByteRow). Has l r) (sym parted) (has_front front grown r a))) (λ b. inr (inl b)) (λ c. inr (inr (inl c)))
-        (λ d. inl (subst (λ (l : List ByteRow). Has l r) (sym parted) (has_back front grown r d))));
+        (λ a. inl (subst (λ (l : List ByteRow). Has l r) (sym parted) (has_front front grown r a))) (λ b. inr (inl b))
+        (λ c. inr (inr (inl c))) (λ d. inl (subst (λ (l : List ByteRow). Has l r) (sym parted) (has_back front grown r d))));
     cut = cut_first limits parts part number cuts (all_rows it.lists) growing memory grown it.numbered grows it.cut;
   }
     where

@@ -25,6 +25,7 @@ use Rattle.hprof_objects.specs.Stretches.{IsStretch}
 use Rattle.hprof_objects.specs.Wanted.{is_among, wanted_rows}
 use Rattle.hprof_objects.proofs.PickedRows.{wanted_both}
 use Rattle.hprof_objects.proofs.Stretches.{at_most_last}
+use Rattle.hprof_objects.proofs.TwoPieces.{ascends_behind, from_first, has_back, has_front}
 use Rattle.hprof_objects.proofs.WantedRows.{wanted-append, wanted-none, wanted-same}
 
 -- ---- one cut
@@ -127,26 +128,7 @@ left_after limits cuts rest after cut is are reads lists all = others there.0 th
     others [] its = absurd its
     others (rows ∷ behind) its = (behind, its.1)
 
--- ---- ascending rows in two pieces
-
-has_front : (rows others : List ByteRow) (row : ByteRow) → Has rows row → Has (rows ++ others) row
-has_front [] others row has = absurd has
-has_front (first ∷ rows) others row (inl e) = inl e
-has_front (first ∷ rows) others row (inr has) = inr (has_front rows others row has)
-
-has_back : (rows others : List ByteRow) (row : ByteRow) → Has others row → Has (rows ++ others) row
-has_back [] others row has = has
-has_back (first ∷ rows) others row has = inr (has_back rows others row has)
-
-ascends_behind : (rows others : List ByteRow) → IsAscending (rows ++ others) → IsAscending others
-ascends_behind [] others up = up
-ascends_behind (first ∷ rows) others up = ascends_behind rows others up.1
-
--- no row is below the first
-from_first : (first : ByteRow) (rows : List ByteRow) → IsAscending (first ∷ rows) → (row : ByteRow) → Has (first ∷ rows) row
-    → first.0 ≤ row.0
-from_first first rows up row (inl is) = subst (λ (r : ByteRow). first.0 ≤ r.0) (sym is) (omega arith)
-from_first first rows up row (inr has) = let lt = up.0 row has in omega (arith, lt)
+-- ---- what was picked
 
 module _ {T : Type 0} (steps : T → ℕ → List ℕ → T → Type 0) (wanted : List ℕ) where
   -- the sink took the wanted ones of the objects of the first cuts; from the next object on the same are wanted
@@ -159,7 +141,8 @@ module _ {T : Type 0} (steps : T → ℕ → List ℕ → T → Type 0) (wanted 
     pub run : Runs steps old (wanted_rows wanted done) new
     pub same : (row : ByteRow) → Has more row → is_among behind row.0 ≡ is_among wanted row.0
 
-  pub no_cuts : (limits : Limits) (reads : List PartRead) (rows : List ByteRow) (cuts : List Cut) (sink : T) → CutInto limits reads cuts rows
+  pub no_cuts : (limits : Limits) (reads : List PartRead) (rows : List ByteRow) (cuts : List Cut) (sink : T)
+      → CutInto limits reads cuts rows
       → CutsSoFar limits reads rows cuts wanted sink sink
   no_cuts limits reads rows cuts sink cut =
       record { done = []; more = rows; are = refl; cuts = cut; run = refl; same = λ row has. refl }

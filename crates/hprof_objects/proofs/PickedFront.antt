@@ -15,48 +15,9 @@ use Rattle.hprof_objects.specs.MergedObjects.{IfScratchFails, TellsChange}
 use Rattle.hprof_objects.specs.PickedCuts.{TellsCuts}
 use Rattle.hprof_objects.specs.Picks.{Picks, PicksFirst, PicksFront, PicksOf, RefusesAmong, RefusesWanted}
 use Rattle.hprof_objects.specs.StoredObjects.{HoldsObjects}
+use Rattle.hprof_objects.proofs.TwoPieces.{ascends_behind, ascends_front, below_behind, from_first, has_either, has_front}
 
 -- ---- the first rows of a union
-
-has_either : (rows others : List ByteRow) (row : ByteRow) → Has (rows ++ others) row → Has rows row ⊎ Has others row
-has_either [] others row has = inr has
-has_either (first ∷ rows) others row (inl e) = inl (inl e)
-has_either (first ∷ rows) others row (inr has) = elim (has_either rows others row has) [
-  | inl there ↦ inl (inr there)
-  | inr there ↦ inr there
-]
-
-has_front : (rows others : List ByteRow) (row : ByteRow) → Has rows row → Has (rows ++ others) row
-has_front [] others row has = absurd has
-has_front (first ∷ rows) others row (inl e) = inl e
-has_front (first ∷ rows) others row (inr has) = inr (has_front rows others row has)
-
-ascends_front : (rows others : List ByteRow) → IsAscending (rows ++ others) → IsAscending rows
-ascends_front [] others up = tt
-ascends_front (first ∷ rows) others up =
-    ((λ row has. up.0 row (has_front rows others row has)), ascends_front rows others up.1)
-
-ascends_behind : (rows others : List ByteRow) → IsAscending (rows ++ others) → IsAscending others
-ascends_behind [] others up = up
-ascends_behind (first ∷ rows) others up = ascends_behind rows others up.1
-
--- each row is below each behind it
-below_behind : (rows : List ByteRow) (next : ByteRow) (others : List ByteRow) → IsAscending (rows ++ next ∷ others) → (row : ByteRow)
-    → Has rows row → row.0 < next.0
-below_behind [] next others up row has = absurd has
-below_behind (first ∷ rows) next others up row (inl is) =
-    subst (λ (r : ByteRow). r.0 < next.0) (sym is) (up.0 next (has_next rows))
-  where
-    has_next : (l : List ByteRow) → Has (l ++ next ∷ others) next
-    has_next [] = inl refl
-    has_next (row ∷ l) = inr (has_next l)
-below_behind (first ∷ rows) next others up row (inr has) = below_behind rows next others up.1 row has
-
--- no row is below the first
-from_first : (first : ByteRow) (rows : List ByteRow) → IsAscending (first ∷ rows) → (row : ByteRow) → Has (first ∷ rows) row
-    → first.0 ≤ row.0
-from_first first rows up row (inl is) = subst (λ (r : ByteRow). first.0 ≤ r.0) (sym is) (omega arith)
-from_first first rows up row (inr has) = let lt = up.0 row has in omega (arith, lt)
 
 -- a key above all
 top : List ByteRow → ℕ
@@ -119,14 +80,17 @@ module _ (lists : List (List ByteRow)) (rows : List ByteRow) (union : IsUnion li
 
     refuses_wanted : (fault : G) → RefusesAmong steps refuses wanted rows fault old new
         → (row : ByteRow) × RefusesWanted steps refuses wanted lists row fault old new
-    refuses_wanted fault picks = (picks.row, record {
-      front = picks.front;
-      union = below_row picks.front picks.row picks.behind picks.are;
-      mid = picks.mid;
-      run = picks.run;
-      is_wanted = picks.is_wanted;
-      refused = picks.refused;
-    })
+    refuses_wanted fault picks = (
+      picks.row,
+      record {
+        front = picks.front;
+        union = below_row picks.front picks.row picks.behind picks.are;
+        mid = picks.mid;
+        run = picks.run;
+        is_wanted = picks.is_wanted;
+        refused = picks.refused;
+      },
+    )
 
     pub picks_of : {A : Type 0} (result : Result A (ObjectStop G)) → PicksOf steps refuses wanted rows result old new
         → Picks steps refuses wanted lists result old new

@@ -6,6 +6,7 @@ use Rattle.hprof_merge.specs.Merging.{TakesAll, TakesBelow, RefusesRow}
 use Rattle.hprof_merge.specs.Rows.{ByteRow, Has, IsAscending}
 use Rattle.hprof_merge.specs.Run.{Runs}
 use Rattle.hprof_merge.specs.Union.{IsUnion}
+use Rattle.hprof_merge.proofs.Lists.{append-last}
 use Rattle.hprof_objects.specs.declared.object_stop.ObjectStop.{ObjectStop}
 use Rattle.hprof_objects.specs.declared.object_stop.ObjectStop.TheVariants as stops
 use Rattle.hprof_objects.specs.declared.picking_sink.PickingSink.{PickingSink}
@@ -14,6 +15,7 @@ use Rattle.hprof_objects.specs.Picks.{Picks, PicksBelow, RefusesWanted}
 use Rattle.hprof_objects.specs.PickingSink.{IsOver, IsWell, PicksRow, RefusesPicked, sink_under, wanted_under}
 use Rattle.hprof_objects.specs.Wanted.{is_among, wanted_rows}
 use Rattle.hprof_objects.proofs.PickedRows.{wanted_both, wanted_one}
+use Rattle.hprof_objects.proofs.TwoPieces.{ascends_front}
 
 module _ {T G : Type 0} (steps : T → ℕ → List ℕ → T → Type 0) (refuses : T → ℕ → List ℕ → G → T → Type 0) where
   -- ---- the sink under it stays the same one
@@ -53,21 +55,8 @@ module _ {T G : Type 0} (steps : T → ℕ → List ℕ → T → Type 0) (refus
         → Runs (PicksRow steps) old rows new → is_among (wanted_under new) last.0 ≡ is_among (wanted_under old) last.0
     wanted_still old [] new last up run = ap (λ (it : PickingSink T). is_among (wanted_under it) last.0) (sym run)
     wanted_still old (row ∷ rows) new last up run =
-        let lt = up.0 last (has_last rows) in
+        let lt = up.0 last (append-last rows last) in
         wanted_still run.0 rows new last up.1 run.2 ∙ run.1.same last.0 (omega (arith, lt))
-      where
-        has_last : (l : List ByteRow) → Has (l ++ last ∷ []) last
-        has_last [] = inl refl
-        has_last (other ∷ l) = inr (has_last l)
-
-    front_ascends : (rows : List ByteRow) (last : ByteRow) → IsAscending (rows ++ last ∷ []) → IsAscending rows
-    front_ascends [] last up = tt
-    front_ascends (row ∷ rows) last up = ((λ other has. up.0 other (has_too rows other has)), front_ascends rows last up.1)
-      where
-        has_too : (l : List ByteRow) (other : ByteRow) → Has l other → Has (l ++ last ∷ []) other
-        has_too [] other has = absurd has
-        has_too (first ∷ l) other (inl is) = inl is
-        has_too (first ∷ l) other (inr has) = inr (has_too l other has)
 
     module _ (lists : List (List ByteRow)) (old new : PickingSink T) (begins : wanted_under old ≡ wanted) where
       same_keys : (key : ℕ) → is_among (wanted_under old) key ≡ is_among wanted key
@@ -87,7 +76,7 @@ module _ {T G : Type 0} (steps : T → ℕ → List ℕ → T → Type 0) (refus
         front = it.front;
         union = it.union;
         mid = sink_under it.mid;
-        run = passed_on old it.front it.mid (front_ascends it.front row it.union.ascends) (λ other has. same_keys other.0) it.run;
+        run = passed_on old it.front it.mid (ascends_front it.front (row ∷ []) it.union.ascends) (λ other has. same_keys other.0) it.run;
         is_wanted = sym (wanted_still old it.front it.mid row it.union.ascends it.run ∙ same_keys row.0) ∙ it.refused.wanted;
         refused = it.refused.refused;
       }

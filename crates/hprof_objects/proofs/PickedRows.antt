@@ -1,5 +1,5 @@
 -- Picking rows that a cursor over a stretch shows.
-use Rattle.std.proofs.Common.{◌≡◌, ◌<◌, ◌≤◌, ◌+◌, ◌++◌, ℕ, zero, suc, Bool, true, false, cond, List, [], ◌∷◌, length, Option, Some, None, Err}
+use Rattle.std.proofs.Common.{◌≡◌, ◌≤◌, ◌+◌, ◌++◌, ℕ, Bool, true, false, cond, List, [], ◌∷◌, length, Option, Some, None, Err}
 use Rattle.std.proofs.Common.{refl, sym, ap, subst, ◌∙◌, arith, append_assoc, append-nil, length-append, inl, inr}
 use Rattle.hprof_devices.specs.declared.health.Health.{Health}
 use Rattle.hprof_merge.specs.Rows.{ByteRow, Has, IsAscending}
@@ -180,15 +180,15 @@ module _ {R T : Type 0} (left : R → Option (List ℕ)) (health : R → Health)
 
 -- ---- a cursor that failed
 
-pub first_stops : (A : Type 0) {T G : Type 0} (steps : T → ℕ → List ℕ → T → Type 0) (refuses : T → ℕ → List ℕ → G → T → Type 0) (wanted : List ℕ)
-    (rows : List ByteRow) (old new : T) (part : ℕ) (fault : StretchFault) → PicksFirst steps refuses wanted rows old new
+pub first_stops : (A : Type 0) {T G : Type 0} (steps : T → ℕ → List ℕ → T → Type 0) (refuses : T → ℕ → List ℕ → G → T → Type 0)
+    (wanted : List ℕ) (rows : List ByteRow) (old new : T) (part : ℕ) (fault : StretchFault) → PicksFirst steps refuses wanted rows old new
     → PicksOf steps refuses wanted {A = A} rows (Err (part_stop part fault)) old new
 first_stops A steps refuses wanted rows old new part faults.OutOfMemory picks = picks
 first_stops A steps refuses wanted rows old new part faults.Read picks = picks
 first_stops A steps refuses wanted rows old new part faults.Changed picks = picks
 
-pub cursor_tells : (G : Type 0) {R : Type 0} (left : R → Option (List ℕ)) (health : R → Health) (pulls : R → ℕ) (part : ℕ) (was it on : StretchCursor R)
-    (fault : StretchFault) → FailsAt left health pulls it fault on
+pub cursor_tells : (G : Type 0) {R : Type 0} (left : R → Option (List ℕ)) (health : R → Health) (pulls : R → ℕ) (part : ℕ)
+    (was it on : StretchCursor R) (fault : StretchFault) → FailsAt left health pulls it fault on
     → ((rows : List ByteRow) → StretchComes left health pulls was rows → (rest : List ByteRow) × StretchComes left health pulls it rest)
     → TellsCursor {G = G} left health pulls part was (part_stop part fault)
 cursor_tells G left health pulls part was it on faults.OutOfMemory fails comes = tt

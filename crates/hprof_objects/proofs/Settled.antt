@@ -45,8 +45,9 @@ piece_goes_on limits part fact piece next it same more = record {
 module _ {S : Type 0} (written : S → Option (List ℕ)) (health : S → Health) (limits : Limits) (parts : List PartRead) (part : PartRead)
     (number : ℕ) where
   -- it stays in the part
-  pub settled_staying : (memory after : List ByteRow) (scratch : Runs S) (stays : List Stretch) (cuts : List Cut) (cut : Option OpenCut) (growing next : Growing) (from : ℕ)
-      (rows : List ByteRow) → growing.stands ≡ InMemory from → next ≡ grown_in_part growing → after ≡ take from memory
+  pub settled_staying : (memory after : List ByteRow) (scratch : Runs S) (stays : List Stretch) (cuts : List Cut)
+      (cut : Option OpenCut) (growing next : Growing) (from : ℕ) (rows : List ByteRow) → growing.stands ≡ InMemory from
+      → next ≡ grown_in_part growing → after ≡ take from memory
       → IsGrowingStretch limits number part growing memory rows
       → Keeps written health limits parts part number memory scratch stays cuts cut None
       → Keeps written health limits parts part number after scratch stays cuts (Some (whole_cut growing)) (Some next)
@@ -107,7 +108,8 @@ keeps_same written health limits parts part number other memory after scratch ne
 
 -- no stretch grows
 pub ungrown : {S : Type 0} (written : S → Option (List ℕ)) (health : S → Health) (limits : Limits) (parts : List PartRead) (part : PartRead)
-    (number : ℕ) (memory : List ByteRow) (scratch : Runs S) (stays : List Stretch) (cuts : List Cut) (cut : Option OpenCut) (growing : Option Growing) → growing ≡ None
+    (number : ℕ) (memory : List ByteRow) (scratch : Runs S) (stays : List Stretch) (cuts : List Cut) (cut : Option OpenCut)
+    (growing : Option Growing) → growing ≡ None
     → Keeps written health limits parts part number memory scratch stays cuts cut growing
     → Keeps written health limits parts part number memory scratch stays cuts cut None
 ungrown written health limits parts part number memory scratch stays cuts cut growing none it =
@@ -115,7 +117,8 @@ ungrown written health limits parts part number memory scratch stays cuts cut gr
 
 -- a row was pushed
 pub pushed_keeps : {S : Type 0} (written : S → Option (List ℕ)) (health : S → Health) (limits : Limits) (parts : List PartRead)
-    (part : PartRead) (number : ℕ) (stays : List Stretch) (cuts : List Cut) (cut : Option OpenCut) (fact : FactValue) (row : ByteRow) (old new : RowStore S) (spilled : Bool)
+    (part : PartRead) (number : ℕ) (stays : List Stretch) (cuts : List Cut) (cut : Option OpenCut) (fact : FactValue) (row : ByteRow)
+    (old new : RowStore S) (spilled : Bool)
     → object_row part.ids fact ≡ Some row → Pushes written health spilled old row new
     → Keeps written health limits parts part number (rows_of_store old) (runs_of_store old) stays cuts cut None
     → Keeps written health limits parts (with_fact part fact) number (rows_of_store new) (runs_of_store new) stays cuts cut None
@@ -133,15 +136,17 @@ where_ok (Err fault) holds then = tt
 
 -- the rows of a growing stretch, and what is kept where it is forgotten
 pub record WasGrowing {S : Type 0} (written : S → Option (List ℕ)) (health : S → Health) (limits : Limits) (parts : List PartRead)
-    (part : PartRead) (number : ℕ) (memory : List ByteRow) (scratch : Runs S) (stays : List Stretch) (cuts : List Cut) (cut : Option OpenCut) (growing : Growing) : Type 0 where
+    (part : PartRead) (number : ℕ) (memory : List ByteRow) (scratch : Runs S) (stays : List Stretch) (cuts : List Cut)
+    (cut : Option OpenCut)
+    (growing : Growing) : Type 0 where
   pub rows : List ByteRow
   pub grows : IsGrowingStretch limits number part growing memory rows
   pub keeps : Keeps written health limits parts part number memory scratch stays cuts cut None
 
 pub was_growing : {S : Type 0} (written : S → Option (List ℕ)) (health : S → Health) (limits : Limits) (parts : List PartRead)
-    (part : PartRead) (number : ℕ) (memory : List ByteRow) (scratch : Runs S) (stays : List Stretch) (cuts : List Cut) (cut : Option OpenCut) (known : Option Growing)
-    (growing : Growing)
-    (from : ℕ) → known ≡ Some growing → growing.stands ≡ InMemory from
+    (part : PartRead) (number : ℕ) (memory : List ByteRow) (scratch : Runs S) (stays : List Stretch) (cuts : List Cut)
+    (cut : Option OpenCut)
+    (known : Option Growing) (growing : Growing) (from : ℕ) → known ≡ Some growing → growing.stands ≡ InMemory from
     → Keeps written health limits parts part number memory scratch stays cuts cut known
     → WasGrowing written health limits parts part number memory scratch stays cuts cut growing
 was_growing written health limits parts part number memory scratch stays cuts cut known growing from is stands it =
@@ -154,14 +159,16 @@ was_growing written health limits parts part number memory scratch stays cuts cu
 
 -- a stretch that stays in its part has one object more
 pub grows_in_part : {S : Type 0} (written : S → Option (List ℕ)) (health : S → Health) (limits : Limits) (parts : List PartRead)
-    (part : PartRead) (number : ℕ) (memory : List ByteRow) (scratch : Runs S) (stays : List Stretch) (cuts : List Cut) (cut : Option OpenCut) (known : Option Growing)
-    (growing next : Growing) (fact : FactValue) (id len : ℕ) (bytes : List ℕ) → known ≡ Some growing → growing.stands ≡ InPart
-    → growing.last < id → object_row part.ids fact ≡ Some (id, bytes) → next ≡ extended growing id len
+    (part : PartRead) (number : ℕ) (memory : List ByteRow) (scratch : Runs S) (stays : List Stretch) (cuts : List Cut)
+    (cut : Option OpenCut)
+    (known : Option Growing) (growing next : Growing) (fact : FactValue) (id len : ℕ) (bytes : List ℕ) → known ≡ Some growing
+    → growing.stands ≡ InPart → growing.last < id → object_row part.ids fact ≡ Some (id, bytes) → next ≡ extended growing id len
     → Keeps written health limits parts part number memory scratch stays cuts cut known
     → Keeps written health limits parts (with_fact part fact) number memory scratch stays cuts cut (Some next)
-grows_in_part written health limits parts part number memory scratch stays cuts cut known growing next fact id len bytes is stands above object same
-    it =
-    subst (λ (g : Growing). Keeps written health limits parts (with_fact part fact) number memory scratch stays cuts cut (Some g)) (sym same)
+grows_in_part written health limits parts part number memory scratch stays cuts cut known growing next fact id len bytes is stands above
+    object same it =
+    subst (λ (g : Growing). Keeps written health limits parts (with_fact part fact) number memory scratch stays cuts cut (Some g))
+    (sym same)
     (keeps_extended written health limits parts part number fact (id, bytes) memory scratch stays cuts cut growing len object above stands
     (subst (λ (g : Option Growing). Keeps written health limits parts part number memory scratch stays cuts cut g) is it))
 

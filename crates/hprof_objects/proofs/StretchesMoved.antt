@@ -66,7 +66,8 @@ module _ (limits : Limits) where
       (moves stretch rows are.0, each_stretch old new moves stretches lists are.1)
 
   -- one stretch more
-  pub stretches_with : (parts : List PartRead) (stretches : List Stretch) (lists : List (List ByteRow)) (last : Stretch) (rows : List ByteRow)
+  pub stretches_with : (parts : List PartRead) (stretches : List Stretch) (lists : List (List ByteRow)) (last : Stretch)
+      (rows : List ByteRow)
       → AreStretches limits parts stretches lists → IsStretch limits parts last rows
       → AreStretches limits parts (stretches ++ last ∷ []) (lists ++ rows ∷ [])
   stretches_with parts [] [] last rows are it = (it, tt)
@@ -76,7 +77,8 @@ module _ (limits : Limits) where
       (are.0, stretches_with parts stretches lists last rows are.1 it)
 
   -- a part more, of which nothing came
-  pub stretch_begun : (parts : List PartRead) (part : PartRead) (stretch : Stretch) (rows : List ByteRow) → IsStretch limits parts stretch rows
+  pub stretch_begun : (parts : List PartRead) (part : PartRead) (stretch : Stretch) (rows : List ByteRow)
+      → IsStretch limits parts stretch rows
       → IsStretch limits (parts ++ part ∷ []) stretch rows
   stretch_begun parts part stretch rows it = record {
     part = it.part;

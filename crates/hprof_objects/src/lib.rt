@@ -2,6 +2,10 @@
 //! or in scratch, in sorted runs.
 //!
 //! Begin with [`ObjectLog`], which takes objects, and [`StoredObjects::merge`].
+//!
+//! [`StoredObjects::pick`] gives a few objects by their identifiers. While a stretch that stays in its part is read, it is divided into
+//! cuts: a [`Cut`] begins in some piece of the part, and its first and last identifier are kept. If one stretch has all objects, `pick`
+//! reads only cuts in whose range a wanted identifier is. Otherwise it reads all objects.
 #![tactic(auto)]
 
 mod cut;

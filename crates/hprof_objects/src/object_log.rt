@@ -365,6 +365,7 @@ impl<S: Scratch + Drop> ObjectLog<S> {
 
     /// Takes an object behind those of the growing stretch, which stays in its part. The object begins another cut, unless memory for it is
     /// refused.
+    #[inline(never)]
     fn cut_at(&mut self, growing: Growing, id: u64, len: usize)
         requires growing { self.old.growing ≡ Some growing }
         requires stands { growing.stands ≡ InPart }
