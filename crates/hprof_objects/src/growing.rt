@@ -25,6 +25,8 @@ pub(crate) enum Stands {
 #[derive(Clone, Copy)]
 pub(crate) struct Growing {
     pub(crate) stretch: Stretch,
+    /// The identifier of its first object.
+    pub(crate) first: u64,
     /// The identifier of its last object.
     pub(crate) last: u64,
     /// The number of bytes of its objects. It saturates.
@@ -57,6 +59,7 @@ impl Growing {
                 count: self.stretch.count + 1,
                 ..self.stretch
             },
+            first: self.first,
             last: id,
             size: self.size.saturating_add(len as u64),
             stands: self.stands,
@@ -74,6 +77,7 @@ impl Growing {
                 passed: piece.passed,
                 count: 1,
             },
+            first: id,
             last: id,
             size: len as u64,
             stands: Stands::InMemory(from),
