@@ -1,6 +1,6 @@
 -- Picking objects of cuts, one cut after another.
-use Rattle.std.proofs.Common.{◌≡◌, ◌<◌, ◌≤◌, ◌+◌, ◌++◌, ℕ, Bool, true, false, List, [], ◌∷◌, length, Option, Result, Ok, Err}
-use Rattle.std.proofs.Common.{refl, sym, ap, subst, ◌∙◌, arith, append_assoc, append-nil, inl, inr}
+use Rattle.std.proofs.Common.{◌≡◌, ◌≤◌, ◌++◌, ℕ, false, List, [], ◌∷◌, Option, Result, Ok, Err}
+use Rattle.std.proofs.Common.{refl, sym, ap, subst, ◌∙◌, append_assoc, append-nil, inl}
 use Rattle.std.specs.Prelude.{IfErr, ⊤}
 use Rattle.hprof_devices.specs.declared.health.Health.{Health}
 use Rattle.hprof_stream.specs.declared.limits.Limits.{Limits}
@@ -21,12 +21,11 @@ use Rattle.hprof_objects.specs.ReadAgain.{IsSameAt}
 use Rattle.hprof_objects.specs.StretchCursor.{OpensStretch, RefusesStretch}
 use Rattle.hprof_objects.specs.StretchFault.{ByFault}
 use Rattle.hprof_objects.specs.StretchKnown.{StretchComes}
-use Rattle.hprof_objects.specs.Stretches.{IsStretch}
 use Rattle.hprof_objects.specs.Wanted.{is_among, wanted_rows}
 use Rattle.hprof_objects.proofs.PickedRows.{wanted_both}
 use Rattle.hprof_objects.proofs.Stretches.{at_most_last}
 use Rattle.hprof_objects.proofs.TwoPieces.{ascends_behind, from_first, has_back, has_front}
-use Rattle.hprof_objects.proofs.WantedRows.{wanted-append, wanted-none, wanted-same}
+use Rattle.hprof_objects.proofs.WantedRows.{wanted-none, wanted-same}
 
 -- ---- one cut
 

@@ -1,9 +1,11 @@
 //! The last cut of a stretch that goes on.
 
-ghost use Rattle.std.specs.Prelude.{◌≡◌};
+ghost use Rattle.std.specs.Prelude.{◌≡◌, ◌++◌, vec_capacity, vec_len};
+ghost use Rattle.hprof_objects.specs.Cuts.{last_cut};
+ghost use Rattle.hprof_objects.specs.Reserved.{IsReserved};
 
 use crate::cut::Cut;
-use crate::growing::{Growing, Piece};
+use crate::growing::{Growing, Piece, Stands};
 use crate::stretch::Stretch;
 use hprof_stream::PartPlace;
 
@@ -68,5 +70,33 @@ impl OpenCut {
     pub(crate) fn is_before(&self, place: &PartPlace) -> bool {
         let begun = self.piece.place.offset();
         place.offset() >= begun.saturating_add(65_536).saturating_add(begun / 65_536)
+    }
+}
+
+/// Adds the last cut of the growing stretch to the cuts, if the stretch stays. There is room for it.
+pub(crate) fn keep_cut(cuts: &mut Vec<Cut>, growing: Option<Growing>, cut: Option<OpenCut>)
+    requires { IsReserved growing (vec_len cuts.old) (vec_capacity cuts.old) }
+    ensures { cuts.new.items ≡ cuts.old.items ++ last_cut growing cut }
+{
+    let Some(growing) = growing else {
+        return;
+    };
+    let Stands::InPart = growing.stands else {
+        return;
+    };
+    let Some(cut) = cut else {
+        return;
+    };
+    cuts.push_reserved(cut.end(&growing));
+}
+
+/// Returns whether another cut may begin in the piece at a place, behind the cut that goes on.
+pub(crate) fn is_due(cut: Option<OpenCut>, place: Option<PartPlace>) -> bool {
+    match cut {
+        Some(cut) => match place {
+            Some(place) => cut.is_before(&place),
+            None => false,
+        },
+        None => false,
     }
 }

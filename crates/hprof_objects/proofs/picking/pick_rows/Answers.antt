@@ -1,11 +1,8 @@
-use Rattle.std.proofs.Common.{◌≡◌, ◌∷◌, [], ℕ, List, Option, length, subst, sym, Err, arith, rules}
+use Rattle.std.proofs.Common.{◌≡◌, [], length, subst, sym, Err, arith, rules}
 use Rattle.std.proofs.lemmas.List.{nil_from_length}
-use Rattle.hprof_merge.specs.Rows.{ByteRow}
-use Rattle.hprof_merge.specs.Showing.{only}
 use Rattle.hprof_objects.specs.declared.object_stop.ObjectStop.{ObjectStop}
 use Rattle.hprof_objects.specs.PickedCuts.{TellsCursor}
-use Rattle.hprof_objects.specs.Picks.{PicksFirst, PicksOf}
-use Rattle.hprof_objects.specs.StretchCursor.{stretch_shown}
+use Rattle.hprof_objects.specs.Picks.{PicksOf}
 use Rattle.hprof_objects.proofs.PickedRows.{cursor_tells, first_stops, none_picked, picked_counted, picked_first, picked_last, picked_more}
 use Rattle.hprof_objects.proofs.PickedRows.{picked_refused, picked_to_end}
 use Rattle.hprof_objects.proofs.picking.pick_rows.Goals as goal
