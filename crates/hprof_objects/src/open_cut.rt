@@ -67,7 +67,7 @@ impl OpenCut {
 
     /// Returns whether the piece at a place is so far behind the piece in which the cut begins that another cut may begin in it: 64 KiB,
     /// and a 65536th of the offset. So the number of cuts grows with the logarithm of the size of a very large part.
-    pub(crate) fn is_before(&self, place: &PartPlace) -> bool {
+    pub(crate) fn may_end_before(&self, place: &PartPlace) -> bool {
         let begun = self.piece.place.offset();
         place.offset() >= begun.saturating_add(65_536).saturating_add(begun / 65_536)
     }
@@ -94,7 +94,7 @@ pub(crate) fn keep_cut(cuts: &mut Vec<Cut>, growing: Option<Growing>, cut: Optio
 pub(crate) fn is_due(cut: Option<OpenCut>, place: Option<PartPlace>) -> bool {
     match cut {
         Some(cut) => match place {
-            Some(place) => cut.is_before(&place),
+            Some(place) => cut.may_end_before(&place),
             None => false,
         },
         None => false,

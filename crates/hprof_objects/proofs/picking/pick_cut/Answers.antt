@@ -32,7 +32,7 @@ returns-in-Err-clause-tells g c =
 
 pub returns-clause-rows : goal.returns-clause-rows
 returns-clause-rows g c = λ reads rows it same.
-    c.pick_rows.ensures.rows rows (c.args.limits.max_reads, c.in-Ok.ensures.rows reads rows it.is same) it.is.stands.count
+    c.pick_rows.ensures.rows rows (c.args.limits.max_reads, c.in-Ok.ensures.rows reads rows it.is same) it.is.stands.count it.last
 
 pub returns-clause-tells : goal.returns-clause-tells
 returns-clause-tells g c =
