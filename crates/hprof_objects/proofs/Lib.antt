@@ -23,8 +23,8 @@ pub mod MergedObjects
 pub mod OpeningFaults
 pub mod OneStretch
 mod WantedRows
-mod PickedRows
 mod TwoPieces
+mod PickedRows
 mod PickedCuts
 mod PickedFront
 mod PickedMerge

@@ -1,6 +1,6 @@
 -- Picking objects of cuts, one cut after another.
-use Rattle.std.proofs.Common.{◌≡◌, ◌<◌, ◌≤◌, ◌+◌, ◌++◌, ℕ, Bool, true, false, List, [], ◌∷◌, length, Option, Result, Ok, Err}
-use Rattle.std.proofs.Common.{refl, sym, ap, subst, ◌∙◌, arith, append_assoc, append-nil, inl, inr}
+use Rattle.std.proofs.Common.{◌≡◌, ◌≤◌, ◌++◌, ℕ, false, List, [], ◌∷◌, Option, Result, Ok, Err}
+use Rattle.std.proofs.Common.{refl, sym, ap, subst, ◌∙◌, append_assoc, append-nil, inl}
 use Rattle.std.specs.Prelude.{IfErr, ⊤}
 use Rattle.hprof_devices.specs.declared.health.Health.{Health}
 use Rattle.hprof_stream.specs.declared.limits.Limits.{Limits}
@@ -21,12 +21,10 @@ use Rattle.hprof_objects.specs.ReadAgain.{IsSameAt}
 use Rattle.hprof_objects.specs.StretchCursor.{OpensStretch, RefusesStretch}
 use Rattle.hprof_objects.specs.StretchFault.{ByFault}
 use Rattle.hprof_objects.specs.StretchKnown.{StretchComes}
-use Rattle.hprof_objects.specs.Stretches.{IsStretch}
 use Rattle.hprof_objects.specs.Wanted.{is_among, wanted_rows}
-use Rattle.hprof_objects.proofs.PickedRows.{wanted_both}
-use Rattle.hprof_objects.proofs.Stretches.{at_most_last}
+use Rattle.hprof_objects.proofs.PickedRows.{at_most_end, wanted_both}
 use Rattle.hprof_objects.proofs.TwoPieces.{ascends_behind, from_first, has_back, has_front}
-use Rattle.hprof_objects.proofs.WantedRows.{wanted-append, wanted-none, wanted-same}
+use Rattle.hprof_objects.proofs.WantedRows.{wanted-none, wanted-same}
 
 -- ---- one cut
 
@@ -34,10 +32,7 @@ use Rattle.hprof_objects.proofs.WantedRows.{wanted-append, wanted-none, wanted-s
 pub cut_passed : (limits : Limits) (reads : List PartRead) (cut : Cut) (rows : List ByteRow) (wanted : List ℕ)
     → ((id : ℕ) → id ≤ cut.last → is_among wanted id ≡ false) → IsCutOf limits reads cut rows → wanted_rows wanted rows ≡ []
 cut_passed limits reads cut rows wanted none it =
-    let ends = it.last in
-    let up = subst (λ (l : List ByteRow). IsAscending l) ends.2 it.is.stands.ascend in
-    wanted-none wanted rows (λ row has. none row.0
-    (at_most_last ends.0 (cut.last, ends.1) up row (subst (λ (l : List ByteRow). Has l row) ends.2 has)))
+    wanted-none wanted rows (λ row has. none row.0 (at_most_end rows cut.last it.last it.is.stands.ascend row has))
 
 -- it cannot be read again
 pub cut_refuses : (G : Type 0) (limits : Limits) (told : List (Option (List ℕ))) (cut : Cut) (fault : StretchFault)

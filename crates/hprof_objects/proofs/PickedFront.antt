@@ -1,7 +1,7 @@
 -- What was picked of one list of rows, which is the union of lists.
-use Rattle.std.proofs.Common.{◌≡◌, ◌⊎◌, ◌<◌, ◌≤◌, ◌+◌, ◌++◌, ℕ, List, [], ◌∷◌, Option, Result, Ok, Err}
-use Rattle.std.proofs.Common.{refl, sym, ap, subst, ◌∙◌, arith, append_assoc, append-nil, inl, inr, max}
-use Rattle.std.specs.Prelude.{IfErr, OnOk, ⊤}
+use Rattle.std.proofs.Common.{◌≡◌, ◌<◌, ◌≤◌, ◌+◌, ◌++◌, ℕ, List, [], ◌∷◌, Option, Result, Ok, Err}
+use Rattle.std.proofs.Common.{sym, subst, ◌∙◌, arith, append_assoc, inl, inr}
+use Rattle.std.specs.Prelude.{IfErr, OnOk}
 use Rattle.hprof_devices.specs.declared.health.Health.{Health}
 use Rattle.hprof_stream.specs.declared.limits.Limits.{Limits}
 use Rattle.hprof_merge.specs.Rows.{ByteRow, Has, IsAscending}
@@ -14,7 +14,6 @@ use Rattle.hprof_objects.specs.declared.stretch_fault.StretchFault.TheVariants a
 use Rattle.hprof_objects.specs.MergedObjects.{IfScratchFails, TellsChange}
 use Rattle.hprof_objects.specs.PickedCuts.{TellsCuts}
 use Rattle.hprof_objects.specs.Picks.{Picks, PicksFirst, PicksFront, PicksOf, RefusesAmong, RefusesWanted}
-use Rattle.hprof_objects.specs.StoredObjects.{HoldsObjects}
 use Rattle.hprof_objects.proofs.TwoPieces.{ascends_behind, ascends_front, below_behind, from_first, has_either, has_front}
 
 -- ---- the first rows of a union

@@ -1,8 +1,8 @@
 -- A merge into a sink that passes the wanted rows on.
-use Rattle.std.proofs.Common.{◌≡◌, ◌<◌, ◌≤◌, ◌+◌, ◌++◌, ℕ, true, List, [], ◌∷◌, Result, Ok, Err}
+use Rattle.std.proofs.Common.{◌≡◌, ◌++◌, ℕ, List, [], ◌∷◌, Result, Ok, Err}
 use Rattle.std.proofs.Common.{refl, sym, ap, subst, ◌∙◌, arith, inl, inr}
 use Rattle.std.specs.Prelude.{OnOk}
-use Rattle.hprof_merge.specs.Merging.{TakesAll, TakesBelow, RefusesRow}
+use Rattle.hprof_merge.specs.Merging.{TakesBelow, RefusesRow}
 use Rattle.hprof_merge.specs.Rows.{ByteRow, Has, IsAscending}
 use Rattle.hprof_merge.specs.Run.{Runs}
 use Rattle.hprof_merge.specs.Union.{IsUnion}

@@ -15,6 +15,9 @@ use Rattle.hprof_objects.specs.PickingSink.{TakesIf}
 use Rattle.hprof_objects.specs.StretchCursor.{ComesTo, FailsAt, GoesOn, stretch_shown}
 use Rattle.hprof_objects.specs.StretchKnown.{StretchComes}
 use Rattle.hprof_objects.specs.Wanted.{is_among, wanted_rows}
+use Rattle.hprof_objects.specs.Stretches.{EndsAt}
+use Rattle.hprof_objects.proofs.Stretches.{at_most_last}
+use Rattle.hprof_objects.proofs.TwoPieces.{has_back}
 use Rattle.hprof_objects.proofs.WantedRows.{wanted-append, wanted-none}
 
 -- ---- runs
@@ -43,6 +46,12 @@ pub wanted_one : {T : Type 0} (steps : T → ℕ → List ℕ → T → Type 0) 
     → Runs steps old (wanted_rows wanted ((key, bytes) ∷ [])) new
 wanted_one steps wanted is old key bytes new same took =
     subst (λ (b : Bool). Runs steps old (cond b ((key, bytes) ∷ []) []) new) same (taken_if steps is old key bytes new took)
+
+-- no row is above the last
+pub at_most_end : (rows : List ByteRow) (last : ℕ) → EndsAt rows last → IsAscending rows → (row : ByteRow) → Has rows row → row.0 ≤ last
+at_most_end rows last ends up row has =
+    at_most_last ends.0 (last, ends.1) (subst (λ (l : List ByteRow). IsAscending l) ends.2 up) row
+    (subst (λ (l : List ByteRow). Has l row) ends.2 has)
 
 -- ---- a row that is shown
 
@@ -123,12 +132,13 @@ module _ {R T : Type 0} (left : R → Option (List ℕ)) (health : R → Health)
           let lt = comes_first.ascends.0 row has in
           from row.0 (omega (arith, lt)) ∙ picked.same row (subst (λ (l : List ByteRow). Has l row) (sym first) (inr has))
 
-      -- no key is wanted from it on
-      pub picked_last : next ≡ [] → Runs steps old (wanted_rows wanted rows) mid
-      picked_last none =
+      -- no key is wanted from it on, up to the last row
+      pub picked_last : (last : ℕ) → ((id : ℕ) → id ≤ last → is_among next id ≡ false)
+          → ((row : ByteRow) → Has rows row → row.0 ≤ last) → Runs steps old (wanted_rows wanted rows) mid
+      picked_last last none low =
           let never : wanted_rows wanted picked.rest ≡ [] =
           wanted-none wanted picked.rest (λ row has. sym (from_first row (subst (λ (l : List ByteRow). Has l row) first has))
-          ∙ ap (λ (l : List ℕ). is_among l row.0) none) in
+          ∙ none row.0 (low row (subst (λ (l : List ByteRow). Has l row) (sym picked.are) (has_back picked.done picked.rest row has)))) in
           subst (λ (l : List ByteRow). Runs steps old (wanted_rows wanted l) mid) (sym picked.are)
           (wanted_both steps wanted old mid mid picked.done picked.rest picked.run
           (subst (λ (l : List ByteRow). Runs steps mid l mid) (sym never) refl))

@@ -11,14 +11,14 @@ ghost use Rattle.hprof_values.specs.declared.ids.IdSize.{IdSize};
 ghost use Rattle.hprof_objects.specs.ObjectRows.{object_row};
 ghost use Rattle.hprof_objects.specs.PartsRead.{PartRead, part_begun, with_bytes, with_fact};
 ghost use Rattle.hprof_objects.specs.Cuts.{last_cut};
-ghost use Rattle.hprof_objects.specs.Growing.{piece_begun, staying};
+ghost use Rattle.hprof_objects.specs.Growing.{staying};
 ghost use Rattle.hprof_objects.specs.Reserved.{IsReserved, IsReserved-prop};
 ghost use Rattle.hprof_objects.specs.Stretches.{IsPieceOf};
 
 use crate::cut::Cut;
-use crate::growing::{Growing, Piece, Stands};
+use crate::growing::{Growing, Piece, Stands, pass_one, piece_at};
 use crate::keeping::Keeping;
-use crate::open_cut::OpenCut;
+use crate::open_cut::{OpenCut, is_due, keep_cut};
 use crate::row_store::RowStore;
 use crate::stored_objects::StoredObjects;
 use crate::stretch::Stretch;
@@ -68,59 +68,6 @@ fn keep(stretches: &mut Vec<Stretch>, growing: Option<Growing>)
     {
         stretches.push_reserved(stretch);
     }
-}
-
-/// Adds the last cut of the growing stretch to the cuts, if the stretch stays. There is room for it.
-fn keep_cut(cuts: &mut Vec<Cut>, growing: Option<Growing>, cut: Option<OpenCut>)
-    requires { IsReserved growing (vec_len cuts.old) (vec_capacity cuts.old) }
-    ensures { cuts.new.items ≡ cuts.old.items ++ last_cut growing cut }
-{
-    let Some(growing) = growing else {
-        return;
-    };
-    let Stands::InPart = growing.stands else {
-        return;
-    };
-    let Some(cut) = cut else {
-        return;
-    };
-    cuts.push_reserved(cut.end(&growing));
-}
-
-/// Returns whether another cut may begin in the piece at a place, behind the cut that goes on.
-fn is_due(cut: Option<OpenCut>, place: Option<PartPlace>) -> bool {
-    match cut {
-        Some(cut) => match place {
-            Some(place) => cut.is_before(&place),
-            None => false,
-        },
-        None => false,
-    }
-}
-
-/// Returns the piece that begins at a place, of which no fact was taken.
-fn piece_at(place: Option<PartPlace>) -> Option<Piece>
-    ensures { result ≡ piece_begun place }
-{
-    match place {
-        Some(place) => Some(Piece { place, passed: 0 }),
-        None => None,
-    }
-}
-
-/// Counts one fact more that was taken of the piece. Where they cannot be counted, no stretch may begin behind them.
-#[inline(always)]
-fn pass_one(piece: &mut Option<Piece>)
-    ensures { (limits : Limits) (part : PartRead) (fact : FactValue) → IsPieceOf limits part piece.old
-        → IsPieceOf limits (with_fact part fact) piece.new }
-{
-    if let Some(begun) = piece {
-        if begun.passed < u64::MAX {
-            begun.passed += 1;
-            return;
-        }
-    }
-    *piece = None;
 }
 
 impl<S: Scratch + Drop> ObjectLog<S> {

@@ -1,9 +1,11 @@
 //! The last cut of a stretch that goes on.
 
-ghost use Rattle.std.specs.Prelude.{◌≡◌};
+ghost use Rattle.std.specs.Prelude.{◌≡◌, ◌++◌, vec_capacity, vec_len};
+ghost use Rattle.hprof_objects.specs.Cuts.{last_cut};
+ghost use Rattle.hprof_objects.specs.Reserved.{IsReserved};
 
 use crate::cut::Cut;
-use crate::growing::{Growing, Piece};
+use crate::growing::{Growing, Piece, Stands};
 use crate::stretch::Stretch;
 use hprof_stream::PartPlace;
 
@@ -65,8 +67,36 @@ impl OpenCut {
 
     /// Returns whether the piece at a place is so far behind the piece in which the cut begins that another cut may begin in it: 64 KiB,
     /// and a 65536th of the offset. So the number of cuts grows with the logarithm of the size of a very large part.
-    pub(crate) fn is_before(&self, place: &PartPlace) -> bool {
+    pub(crate) fn may_end_before(&self, place: &PartPlace) -> bool {
         let begun = self.piece.place.offset();
         place.offset() >= begun.saturating_add(65_536).saturating_add(begun / 65_536)
+    }
+}
+
+/// Adds the last cut of the growing stretch to the cuts, if the stretch stays. There is room for it.
+pub(crate) fn keep_cut(cuts: &mut Vec<Cut>, growing: Option<Growing>, cut: Option<OpenCut>)
+    requires { IsReserved growing (vec_len cuts.old) (vec_capacity cuts.old) }
+    ensures { cuts.new.items ≡ cuts.old.items ++ last_cut growing cut }
+{
+    let Some(growing) = growing else {
+        return;
+    };
+    let Stands::InPart = growing.stands else {
+        return;
+    };
+    let Some(cut) = cut else {
+        return;
+    };
+    cuts.push_reserved(cut.end(&growing));
+}
+
+/// Returns whether another cut may begin in the piece at a place, behind the cut that goes on.
+pub(crate) fn is_due(cut: Option<OpenCut>, place: Option<PartPlace>) -> bool {
+    match cut {
+        Some(cut) => match place {
+            Some(place) => cut.may_end_before(&place),
+            None => false,
+        },
+        None => false,
     }
 }

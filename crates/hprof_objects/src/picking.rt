@@ -13,6 +13,7 @@ ghost use Rattle.hprof_objects.specs.ReadAgain.{IsSameAt};
 ghost use Rattle.hprof_objects.specs.StoredObjects.{AreToldAgain, objects_of, scratch_under};
 ghost use Rattle.hprof_objects.specs.StretchCursor.{CanGoOn};
 ghost use Rattle.hprof_objects.specs.StretchKnown.{StretchComes};
+ghost use Rattle.hprof_objects.specs.Stretches.{EndsAt};
 ghost use Rattle.hprof_objects.specs.Wanted.{Rises};
 
 use crate::cut::Cut;
@@ -30,37 +31,36 @@ use hprof_runs::Scratch;
 use hprof_stream::Limits;
 use std::alloc::Global;
 
-/// Gives a sink the wanted ones of the rows that a cursor shows, of which there are at most so many. It does not go on behind the last
-/// wanted key. The cursor reads the part of that number.
+/// Gives a sink the wanted ones of the rows that a cursor shows, which are those of the cut. It does not go on behind the last wanted one.
 fn pick_rows<R: Source + Drop, T: RowSink>(
     cursor: &mut StretchCursor<R>,
-    count: u64,
-    part: usize,
+    cut: &Cut,
     wanted: &[u64],
     sink: &mut T,
 ) -> Result<(), ObjectStop<T::Fault>>
     requires cursor { CanGoOn R.health cursor.old }
     requires sink { T.well sink.old }
     requires rises { Rises wanted.now }
-    ensures rows { (rows : List ByteRow) → StretchComes R.left R.health R.pulls cursor.old rows → count ≡ length rows
+    ensures rows { (rows : List ByteRow) → StretchComes R.left R.health R.pulls cursor.old rows
+        → cut.now.stretch.count ≡ length rows → EndsAt rows cut.now.last
         → PicksOf T.steps T.refuses wanted.now rows result sink.old sink.new }
-    ensures tells { IfErr result (TellsCursor R.left R.health R.pulls part cursor.old) }
+    ensures tells { IfErr result (TellsCursor R.left R.health R.pulls cut.now.stretch.part cursor.old) }
     ensures well { UnlessRefused (T.well sink.new) result }
 {
     let mut rest = wanted;
-    for _ in 0..count {
+    for _ in 0..cut.stretch.count {
         let Some((key, bytes)) = cursor.current() else {
             return Ok(());
         };
         rest = from_key(rest, key);
-        if rest.is_empty() {
+        if !has_up_to(rest, cut.last) {
             return Ok(());
         }
         if let Err(fault) = give(rest, key, bytes, sink) {
             return Err(ObjectStop::Sink(fault));
         }
         if let Err(fault) = cursor.advance() {
-            return Err(part_stop(part, fault));
+            return Err(part_stop(cut.stretch.part, fault));
         }
     }
     Ok(())
@@ -94,7 +94,7 @@ fn pick_cut<R: Source + Drop, P: Parts<Reader = R>, T: RowSink>(
         Ok(cursor) => cursor,
         Err(fault) => return Err(part_stop(stretch.part, fault)),
     };
-    pick_rows(&mut cursor, stretch.count, stretch.part, wanted, sink)
+    pick_rows(&mut cursor, cut, wanted, sink)
 }
 
 /// Gives a sink the wanted ones of the objects of cuts, one cut after another, of which all objects ascend. A cut without a wanted object

@@ -1,5 +1,4 @@
-use Rattle.std.proofs.Common.{◌≡◌, ◌∷◌, [], ℕ, List, false, subst, sym, refl, Err, arith, rules}
-use Rattle.std.specs.Prelude.{IfErr}
+use Rattle.std.proofs.Common.{◌≡◌, ◌∷◌, [], List, false, subst, sym, refl, arith, rules}
 use Rattle.hprof_merge.specs.Rows.{ByteRow}
 use Rattle.hprof_merge.specs.Run.{Runs}
 use Rattle.hprof_objects.specs.declared.object_stop.ObjectStop.{ObjectStop}
@@ -33,7 +32,7 @@ returns-in-Err-clause-tells g c =
 
 pub returns-clause-rows : goal.returns-clause-rows
 returns-clause-rows g c = λ reads rows it same.
-    c.pick_rows.ensures.rows rows (c.args.limits.max_reads, c.in-Ok.ensures.rows reads rows it.is same) it.is.stands.count
+    c.pick_rows.ensures.rows rows (c.args.limits.max_reads, c.in-Ok.ensures.rows reads rows it.is same) it.is.stands.count it.last
 
 pub returns-clause-tells : goal.returns-clause-tells
 returns-clause-tells g c =

@@ -1,6 +1,4 @@
-use Rattle.std.proofs.Common.{ℕ, ◌∷◌, List}
 use Rattle.std.proofs.lemmas.List.{nil_from_length}
-use Rattle.hprof_merge.specs.Rows.{ByteRow}
 use Rattle.hprof_objects.proofs.PickedCuts.{all_cuts, among_tells, cut_done, cut_stops, left_after, left_first, next_cut, no_cuts}
 use Rattle.hprof_objects.proofs.picking.pick_cuts.Goals as goal
 

@@ -1,12 +1,10 @@
-use Rattle.std.proofs.Common.{◌≡◌, ℕ, List, Option, Result, rules, subst, sym}
-use Rattle.std.specs.Prelude.{IfErr, OnOk}
-use Rattle.hprof_merge.specs.Rows.{ByteRow, IsAscending}
-use Rattle.hprof_merge.specs.Union.{IsUnion}
+use Rattle.std.proofs.Common.{ℕ, List, rules, subst, sym}
+use Rattle.std.specs.Prelude.{IfErr}
 use Rattle.hprof_objects.specs.declared.cut.Cut.{Cut}
 use Rattle.hprof_objects.specs.Cuts.{CutInto, all_rows}
 use Rattle.hprof_objects.specs.PartsRead.{PartRead}
 use Rattle.hprof_objects.specs.PickedCuts.{TellsCuts}
-use Rattle.hprof_objects.specs.PickingSink.{PicksRow, RefusesPicked, sink_under, wanted_under}
+use Rattle.hprof_objects.specs.PickingSink.{PicksRow, RefusesPicked}
 use Rattle.hprof_objects.specs.StoredObjects.{AreToldAgain, IsOneStretch, objects_of, scratch_under}
 use Rattle.hprof_objects.specs.Wanted.{Rises}
 use Rattle.hprof_objects.proofs.OneStretch.{rows_union, stretch_union}
