@@ -29,7 +29,8 @@ module _ (P : Edge → Type 0) (ids : IdSize) (facts : List FactValue) (graph : 
   listed_within number one listed = subst (λ (n : ℕ). one < n) is.as_many (is.leads number one listed)
 
   -- edges between nodes
-  steps_same : (from to : ℕ) → IsNode facts from → (LeadsByList graph.edges nodes from to × Contains nodes to) ↔ IsStepBy P ids facts from to
+  steps_same : (from to : ℕ) → IsNode facts from
+      → (LeadsByList graph.edges nodes from to × Contains nodes to) ↔ IsStepBy P ids facts from to
   steps_same from to is_from = (there, back) where
     there : LeadsByList graph.edges nodes from to × Contains nodes to → IsStepBy P ids facts from to
     there step =
@@ -76,7 +77,8 @@ module _ (P : Edge → Type 0) (ids : IdSize) (facts : List FactValue) (graph : 
           )
 
     pub reached_by_numbers : (search : Search)
-        → IsSearch (λ node. Contains nodes node × Contains starts node) (λ from to. LeadsByList graph.edges nodes from to × Contains nodes to) search
+        → IsSearch (λ node. Contains nodes node × Contains starts node) (λ from to. LeadsByList graph.edges nodes from to × Contains nodes
+        to) search
         → IsSearch (IsStart facts) (IsStepBy P ids facts) search
     reached_by_numbers =
         search_within (λ node. Contains nodes node × Contains starts node) (IsStart facts)

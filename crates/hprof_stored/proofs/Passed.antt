@@ -33,7 +33,8 @@ module _ {T E : Type 0} (takes : T → IdSize → FactValue → T → Type 0) (r
   pub same_then : (old mid new : RowDecoder T) → AreOverSame old mid → AreOverSame mid new → AreOverSame old new
   same_then old mid new first second = (second.0 ∙ first.0, second.1 ∙ first.1)
 
-  pub same_run : (old : RowDecoder T) (rows : List ByteRow) (new : RowDecoder T) → Runs (GivesObject takes) old rows new → AreOverSame old new
+  pub same_run : (old : RowDecoder T) (rows : List ByteRow) (new : RowDecoder T) → Runs (GivesObject takes) old rows new
+      → AreOverSame old new
   same_run =
       unchanged.same_run (GivesObject takes) (GivesNone refuses) AreOverSame (λ it. (refl, refl)) same_then
       (λ old key bytes new gives. gives.over)

@@ -2,7 +2,8 @@ use Rattle.std.proofs.Common.{◌≡◌, false, subst, sym, Err, arith, rules}
 use Rattle.hprof_objects.specs.declared.object_stop.ObjectStop.{ObjectStop}
 use Rattle.hprof_objects.specs.PickedCuts.{TellsCursor}
 use Rattle.hprof_objects.specs.Picks.{PicksOf}
-use Rattle.hprof_objects.proofs.PickedRows.{at_most_end, cursor_tells, first_stops, none_picked, picked_counted, picked_first, picked_last, picked_more}
+use Rattle.hprof_objects.proofs.PickedRows.{at_most_end, cursor_tells, first_stops, none_picked}
+use Rattle.hprof_objects.proofs.PickedRows.{picked_counted, picked_first, picked_last, picked_more}
 use Rattle.hprof_objects.proofs.PickedRows.{picked_refused, picked_to_end}
 use Rattle.hprof_objects.proofs.picking.pick_rows.Goals as goal
 
@@ -32,7 +33,8 @@ returns-in-Err-advance-clause-rows g c = λ rows comes count ends.
     let refuses = g.T.RowSink.refuses in
     subst (λ (s : ObjectStop g.row.T-Fault.Denot). PicksOf steps refuses c.args.wanted.now {A = Unit {0}} rows (Err s) c.args.sink.now
     c.give.new.sink) (sym c.part_stop.ensures)
-    (first_stops (Unit {0}) steps refuses c.args.wanted.now rows c.args.sink.now c.give.new.sink c.args.cut.now.stretch.part c.in-Err-advance.fault
+    (first_stops (Unit {0}) steps refuses c.args.wanted.now rows c.args.sink.now c.give.new.sink c.args.cut.now.stretch.part
+    c.in-Err-advance.fault
     (picked_first g.R.Source.left g.R.Source.health g.R.Source.pulls steps c.args.wanted.now rows c.loop.cursor c.loop.rest.now
     c.loop.counter c.args.sink.now c.loop.sink (c.loop.invariant.picked rows comes) c.in-Some.key c.in-Some.bytes.now c.in-Some.ensures.0
     c.in-Some.ensures.1 c.from_key-rest.result.now c.from_key-rest.ensures.same c.give.new.sink c.in_default-give.ensures.took refuses))
@@ -42,7 +44,8 @@ returns-in-Err-advance-clause-tells g c =
     let left = g.R.Source.left in
     let health = g.R.Source.health in
     let pulls = g.R.Source.pulls in
-    subst (λ (s : ObjectStop g.row.T-Fault.Denot). TellsCursor left health pulls c.args.cut.now.stretch.part c.args.cursor.now s) (sym c.part_stop.ensures)
+    subst (λ (s : ObjectStop g.row.T-Fault.Denot). TellsCursor left health pulls c.args.cut.now.stretch.part c.args.cursor.now s) (sym
+    c.part_stop.ensures)
     (cursor_tells g.row.T-Fault.Denot left health pulls c.args.cut.now.stretch.part c.args.cursor.now c.loop.cursor c.advance.new.self
     c.in-Err-advance.fault c.in-Err-advance.ensures.fails (λ rows comes.
     let picked = c.loop.invariant.picked rows comes in (picked.rest, picked.comes)))

@@ -1,4 +1,5 @@
-use Rattle.std.proofs.Common.{◌≡◌, ◌<◌, ◌++◌, ◌∙◌, ℕ, List, [], ◌∷◌, Some, None, Contains, length, slice_index, refl, sym, subst, take_all, arith}
+use Rattle.std.proofs.Common.{◌≡◌, ◌<◌, ◌++◌, ◌∙◌, ℕ, List, [], ◌∷◌, Some}
+use Rattle.std.proofs.Common.{None, Contains, length, slice_index, refl, sym, subst, take_all, arith}
 use Rattle.std.specs.Prelude.{◌↔◌}
 use Rattle.std.proofs.lemmas.List.Elements.{All-push}
 use Rattle.hprof_numbers.specs.Places.{number_in}

@@ -16,8 +16,10 @@ returns-in-Ok-clause-given g c = λ all make.
     let refuses = g.T.ObjectSink.refuses in
     let wanted = c.args.wanted.now in
     let picks = c.in-Ok.ensures.objects make.reads make.as_read in
-    let same = same_picked takes refuses wanted (objects_of make.reads) m.result old m.new.sink (m.ensures.objects make.reads make.as_read) in
-    all_given g.S.Target.written g.S.Target.health g.P.Parts.bytes g.S.Scratch.unreadable takes refuses c.args.self.now wanted old m.new.sink
+    let same = same_picked takes refuses wanted (objects_of make.reads) m.result old m.new.sink (m.ensures.objects make.reads
+    make.as_read) in
+    all_given g.S.Target.written g.S.Target.health g.P.Parts.bytes g.S.Scratch.unreadable takes refuses c.args.self.now wanted old
+    m.new.sink
     (size_of c.args.heap.now) (facts_of c.args.heap.now) all make (search rules) c.args.sink.now _ (search rules) (search rules) picks
 
 pub returns-in-Err-clause-given : goal.returns-in-Err-clause-given
@@ -28,8 +30,10 @@ returns-in-Err-clause-given g c = λ all make.
     let refuses = g.T.ObjectSink.refuses in
     let wanted = c.args.wanted.now in
     let picks = c.in-Err.ensures.objects make.reads make.as_read in
-    let same = same_picked takes refuses wanted (objects_of make.reads) m.result old m.new.sink (m.ensures.objects make.reads make.as_read) in
-    some_given g.S.Target.written g.S.Target.health g.P.Parts.bytes g.S.Scratch.unreadable takes refuses c.args.self.now wanted old m.new.sink
+    let same = same_picked takes refuses wanted (objects_of make.reads) m.result old m.new.sink (m.ensures.objects make.reads
+    make.as_read) in
+    some_given g.S.Target.written g.S.Target.health g.P.Parts.bytes g.S.Scratch.unreadable takes refuses c.args.self.now wanted old
+    m.new.sink
     (size_of c.args.heap.now) (facts_of c.args.heap.now) all make (search rules) c.args.sink.now _ (search rules) (search rules)
     c.in-Err.stop c.pass_stop.result c.pass_stop.ensures picks
 
