@@ -9,10 +9,9 @@ REPORTS = ROOT / "crates" / "hprof_questions" / "src" / "report_word.rt"
 COMMANDS = ROOT / "crates" / "hprof_command" / "src" / "command" / "subcommands.rt"
 REPORT = re.compile(r'word: "(\w+)",\s+follows: Follows::(\w+),\s+about: "([^"]*)"')
 COMMAND = re.compile(r'word: "(\w+)",\s+about: "([^"]*)",\s+help: [\w:]+,\s+arguments: &\[([\w, ]*)\]')
-# Which commands take the option --memory: each in its row, but reports in an arm of their own.
+# Which commands take the option --memory: each in its row, and reports in one for all of them.
 TAKES_MEMORY = re.compile(r'word: "(\w+)",[^}]*takes_memory: true')
-REPORT_ROW = re.compile(r'(\w+Report::\w+) => ReportRow \{\s+word: "(\w+)"')
-READS_AGAIN = re.compile(r"(?m)^\s+((?:\w+Report::\w+(?:\s+\| )?)+) =>\s+true,$")
+REPORTS_TAKE_MEMORY = re.compile(r"word: row\.word,[^}]*takes_memory: true")
 # The list that a completion has a command in, by what the command takes before dumps.
 TAKES = {
     "Nothing": "heaps",
@@ -24,7 +23,7 @@ TAKES = {
     "OLDER, NEWER": "pairs",
 }
 LIST = re.compile(r"(?m)^\s*(?:local|set)(?: -\w)? (outs|heaps|kinds|nodes|pairs)(?:='|=\(| )([\w ]+)")
-SIZED = re.compile(r"(?m)^\s*(?:local|set)(?: -\w)? sized(?:='|=\(| )([\w ]+)")
+SIZED = re.compile(r"(?m)^\s*(?:(?:local|set)(?: -\w)? )?sized\+?(?:='|=\(| ) ?([\w ]+)")
 # How a completion has a command with its line of help; that for bash has none.
 ABOUT = {
     "_hprof": re.compile(r"(?m)^        '(\w+):(.*)'$"),
@@ -42,8 +41,8 @@ def commands():
 
 def sized():
     """The commands that take the option for the memory."""
-    words, table = dict(REPORT_ROW.findall(REPORTS.read_text())), COMMANDS.read_text()
-    reports = {words[report] for arm in READS_AGAIN.findall(table) for report in re.split(r"\s+\| ", arm)}
+    table = COMMANDS.read_text()
+    reports = {word for word, _, _ in REPORT.findall(REPORTS.read_text())} if REPORTS_TAKE_MEMORY.search(table) else set()
     return reports | set(TAKES_MEMORY.findall(table))
 
 

@@ -259,8 +259,8 @@ class Words(unittest.TestCase):
             self.assertEqual({line.split(":")[1] for line in lines}, {" biggest", " retained"}, name)
 
     def test_commands_with_the_option_for_the_memory(self):
-        words = "check histo classes threads retained biggest objects show why who keeps text object refs path diff join join101 salvage"
-        self.assertEqual(completions.sized(), set(words.split()))
+        reports = "check histo classes threads suspects retained biggest objects show why who keeps text object refs path"
+        self.assertEqual(completions.sized(), {*reports.split(), "diff", "join", "join101", "salvage"})
         for name in ("hprof.bash", "_hprof", "hprof.fish"):
             faults = self.faults(name, "join101 salvage check", "salvage check ask")
             self.assertEqual(faults, [f"{name}: ask with --memory", f"{name}: join101 with --memory"])

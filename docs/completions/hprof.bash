@@ -42,7 +42,8 @@ _hprof() {
     local nodes='show why who keeps text object refs path'
     local pairs='diff'
     # The commands that take --memory SIZE.
-    local sized='join join101 salvage check histo classes threads retained biggest objects show why who keeps text object refs path diff'
+    local sized='join join101 salvage check histo classes threads suspects retained objects biggest'
+    sized+=' show why who keeps text object refs path diff'
     local commands="$outs $heaps $kinds $pairs $nodes"
     local command=${COMP_WORDS[1]} before=${COMP_WORDS[COMP_CWORD - 1]} place
     _hprof_place

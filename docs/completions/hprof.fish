@@ -30,7 +30,8 @@ set -l kinds biggest objects
 set -l nodes show why who keeps text object refs path
 set -l pairs diff
 # The commands that take --memory SIZE.
-set -l sized join join101 salvage check histo classes threads retained biggest objects show why who keeps text object refs path diff
+set -l sized join join101 salvage check histo classes threads suspects retained objects biggest
+set -a sized show why who keeps text object refs path diff
 
 complete -c hprof -f
 complete -c hprof -s h -l help -d 'Print the help'
