@@ -147,10 +147,16 @@ fn write_answer<W: Target>(
 }
 
 impl<'a> Answers for Answerer<'a> {
+    ghost use Rattle.hprof_ask.specs.InMemory.{IsValueOf};
     ghost use Rattle.hprof_ask.specs.OneHeapAnswer.{one_heap_answer};
     ghost use Rattle.hprof_ask.specs.SomeHeapAnswer.{some_heap_answer};
 
-    ghost is_answer = { λ answers. IsHeapAnswer answers.summaries.now (size_of answers.heap.now) (facts_of answers.heap.now) };
+    ghost about = { λ answers. IsValueOf answers.heap.now };
+
+    ghost is_answer = { λ answers heap. IsHeapAnswer answers.summaries.now heap.ids heap.facts };
+
+    // A heap in memory is never lost.
+    ghost loses = { λ answers loss. ⊥ };
 
     ghost keeps = { λ answers kept. IsKept (size_of answers.heap.now) (facts_of answers.heap.now) kept };
 
@@ -174,5 +180,5 @@ impl<'a> Answers for Answerer<'a> {
 
     ghost some_answer = { λ answers. some_heap_answer answers.summaries.now answers.heap.now };
 
-    ghost one_answer = { λ answers. one_heap_answer answers.summaries.now (size_of answers.heap.now) (facts_of answers.heap.now) };
+    ghost one_answer = { λ answers heap is. one_heap_answer answers.summaries.now heap.ids heap.facts };
 }

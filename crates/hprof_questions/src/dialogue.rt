@@ -41,8 +41,8 @@ pub trait Answers {
     ghost use Rattle.hprof_questions.specs.Same.{IsSame};
     ghost use Rattle.hprof_rows.specs.HeapValue.{HeapValue};
 
-    // The answers may be about that heap. It need not be known which heap they are about, nor whether there is one: so of answers it is
-    // said what they are if they are about a heap, for each heap that they may be about.
+    // The answers may be about that heap. It need not be known which one it is: if the bytes of the parts are not known, there may be
+    // several such heaps, or none. So all that is said of answers is said for each heap that they may be about.
     ghost about: { Self → HeapValue → Type 0 };
 
     // The text is the answer to that question about that heap.
