@@ -59,13 +59,13 @@ module _ (ids : IdSize) (wanted : List ℕ) (all small : List FactValue) (id : �
         let fields_are = fields_in_all ids wanted all small is id object_there fields are_fields in
         let each = all_of (Agrees one other.object other.text other.thread_name) (shown_ids id fields (one.class id) (one.object id))
         (λ node shown. same_of ids wanted all small agree
-            is one other are are_too node (has fields (one.class id) (one.object id) fields_are class_is object_is node shown)) in
+        is one other are are_too node (has fields (one.class id) (one.object id) fields_are class_is object_is node shown)) in
         found_same one other.object other.text other.thread_name id fields (one.class id) (one.object id)
         (found_of (one.class id) (one.object id) (are.classes id) (are.objects id)) each
         ∙ ap (λ (o : Option FactValue). found_text (with_others one other.object other.text other.thread_name) id fields (one.class id) o)
         (same_of ids wanted all small agree
-            is one other are are_too id (has fields (one.class id) (one.object id) fields_are class_is object_is
-            id (0, omega arith, refl))).object_is
+        is one other are are_too id (has fields (one.class id) (one.object id) fields_are class_is object_is
+        id (0, omega arith, refl))).object_is
 
   pub show_in_all : (text : List ℕ) → IsShowText ids small id text → IsShowText ids all id text
   show_in_all text of =

@@ -20,7 +20,7 @@ returns-in-Of g c = λ summaries.
     g.W.Target.health c.args.target.now c.write_of_kind.new.target
     (λ all text make is. subst
     (λ (k : Kinds). IsReportText (reports.Kind c.args.report k) summaries
-        (heap_with (heap_of c.args.heap.now) all) text) (sym c.in-Of.is) is)
+    (heap_with (heap_of c.args.heap.now) all) text) (sym c.in-Of.is) is)
     (λ refusal all. RefusesReport all (reports.Kind c.args.report c.args.kinds) refusal) c.write_of_kind.result c.write_of_kind.ensures
 
 pub returns-in-Named : goal.returns-in-Named
