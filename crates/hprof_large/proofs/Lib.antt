@@ -1,3 +1,4 @@
 mod FewerMade
 mod NamedKind
 mod NamedDumps
+mod Answering
