@@ -22,6 +22,8 @@ pub struct PassedReport<'a> {
 }
 
 impl<'a> PassedReport<'a> {
+    ghost use Rattle.std.specs.Prelude.{◌≡◌};
+
     /// Returns the report as a product of parts whose objects are in memory.
     fn reporting(self) -> Reporting<'a>
         ensures { result.report ≡ self.entry.report }

@@ -1,4 +1,5 @@
-use Rattle.std.proofs.Common.{sym, subst}
+use Rattle.std.proofs.Common.{ℕ, List, sym, subst}
+use Rattle.hprof_items.specs.FactValue.{FactValue}
 use Rattle.hprof_heap.specs.HeapFacts.{facts_of, size_of}
 use Rattle.hprof_histogram.specs.Known.{MadeUpWith}
 use Rattle.hprof_lines.specs.Passed.{EndsPassed}
@@ -17,7 +18,7 @@ returns-in-Check g c =
     let Made = MadeUpWith MakeUp ids c.args.known in
     let agree = g.O.Objects.agree objects ids facts in
     let tells = g.O.Objects.tells objects ids facts in
-    let IsText = λ (report : HeapReport) all. IsHeapReport c.args.summaries.now ids all report in
+    let IsText : HeapReport → List FactValue → List ℕ → Type 0 = λ report all. IsHeapReport c.args.summaries.now ids all report in
     subst (λ (report : HeapReport). EndsPassed Made agree tells (IsText report) g.W.Target.written g.W.Target.health c.args.target.now
     c.write_check.new.target c.write_check.result) (sym c.in-Check.is)
     (passed_fewer MakeUp Made agree tells (IsText heaps.Check) g.W.Target.written g.W.Target.health c.args.target.now
@@ -32,7 +33,7 @@ returns-in-Histogram g c =
     let Made = MadeUpWith MakeUp ids c.args.known in
     let agree = g.O.Objects.agree objects ids facts in
     let tells = g.O.Objects.tells objects ids facts in
-    let IsText = λ (report : HeapReport) all. IsHeapReport c.args.summaries.now ids all report in
+    let IsText : HeapReport → List FactValue → List ℕ → Type 0 = λ report all. IsHeapReport c.args.summaries.now ids all report in
     subst (λ (report : HeapReport). EndsPassed Made agree tells (IsText report) g.W.Target.written g.W.Target.health c.args.target.now
     c.write_histogram_over.new.target c.write_histogram_over.result) (sym c.in-Histogram.is)
     c.write_histogram_over.ensures
@@ -46,7 +47,7 @@ returns-in-Classes g c =
     let Made = MadeUpWith MakeUp ids c.args.known in
     let agree = g.O.Objects.agree objects ids facts in
     let tells = g.O.Objects.tells objects ids facts in
-    let IsText = λ (report : HeapReport) all. IsHeapReport c.args.summaries.now ids all report in
+    let IsText : HeapReport → List FactValue → List ℕ → Type 0 = λ report all. IsHeapReport c.args.summaries.now ids all report in
     subst (λ (report : HeapReport). EndsPassed Made agree tells (IsText report) g.W.Target.written g.W.Target.health c.args.target.now
     c.write_classes_over.new.target c.write_classes_over.result) (sym c.in-Classes.is)
     c.write_classes_over.ensures
@@ -60,7 +61,7 @@ returns-in-Threads g c =
     let Made = MadeUpWith MakeUp ids c.args.known in
     let agree = g.O.Objects.agree objects ids facts in
     let tells = g.O.Objects.tells objects ids facts in
-    let IsText = λ (report : HeapReport) all. IsHeapReport c.args.summaries.now ids all report in
+    let IsText : HeapReport → List FactValue → List ℕ → Type 0 = λ report all. IsHeapReport c.args.summaries.now ids all report in
     subst (λ (report : HeapReport). EndsPassed Made agree tells (IsText report) g.W.Target.written g.W.Target.health c.args.target.now
     c.write_threads_over.new.target c.write_threads_over.result) (sym c.in-Threads.is)
     (passed_fewer MakeUp Made agree tells (IsText heaps.Threads) g.W.Target.written g.W.Target.health c.args.target.now
@@ -75,7 +76,7 @@ returns-in-Suspects g c =
     let Made = MadeUpWith MakeUp ids c.args.known in
     let agree = g.O.Objects.agree objects ids facts in
     let tells = g.O.Objects.tells objects ids facts in
-    let IsText = λ (report : HeapReport) all. IsHeapReport c.args.summaries.now ids all report in
+    let IsText : HeapReport → List FactValue → List ℕ → Type 0 = λ report all. IsHeapReport c.args.summaries.now ids all report in
     subst (λ (report : HeapReport). EndsPassed Made agree tells (IsText report) g.W.Target.written g.W.Target.health c.args.target.now
     c.write_suspects_over.new.target c.write_suspects_over.result) (sym c.in-Suspects.is)
     (passed_fewer MakeUp Made agree tells (IsText heaps.Suspects) g.W.Target.written g.W.Target.health c.args.target.now
@@ -90,7 +91,7 @@ returns-in-Retained g c =
     let Made = MadeUpWith MakeUp ids c.args.known in
     let agree = g.O.Objects.agree objects ids facts in
     let tells = g.O.Objects.tells objects ids facts in
-    let IsText = λ (report : HeapReport) all. IsHeapReport c.args.summaries.now ids all report in
+    let IsText : HeapReport → List FactValue → List ℕ → Type 0 = λ report all. IsHeapReport c.args.summaries.now ids all report in
     subst (λ (report : HeapReport). EndsPassed Made agree tells (IsText report) g.W.Target.written g.W.Target.health c.args.target.now
     c.write_retained_over.new.target c.write_retained_over.result) (sym c.in-Retained.is)
     (passed_fewer MakeUp Made agree tells (IsText heaps.Retained) g.W.Target.written g.W.Target.health c.args.target.now
