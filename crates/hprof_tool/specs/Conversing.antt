@@ -122,8 +122,8 @@ module _ {O : Type 0} (contents : O → Option (List ℕ)) (old : O) (Over : ((Q
       (λ front rest. AnswersSome IsAnswer (rest ≡ []) front (contents old) holds))
 
   -- the answers to the lines before the last one that was taken were written, and nothing of the answer to that
-  abbrev pub AnswersBut : (holds : Option (List ℕ)) → Type 0
-  AnswersBut holds = Over (λ IsAnswer questions. OfFront questions
+  abbrev pub AnswersButLast : (holds : Option (List ℕ)) → Type 0
+  AnswersButLast holds = Over (λ IsAnswer questions. OfFront questions
       (λ front rest. AnswersBefore IsAnswer (rest ≡ []) front (contents old) holds))
 
   -- what a refusal says, and leaves of the stream: behind what it held stand those answers, and if it failed all but some bytes at the end
@@ -135,7 +135,7 @@ module _ {O : Type 0} (contents : O → Option (List ℕ)) (old : O) (Over : ((Q
       (contents new) unwritten)
   LeavesAnswers Says (refusals.Engine (tool.Write fault)) None = ⊥
   LeavesAnswers Says (refusals.Engine (tool.Lost loss)) (Some new) =
-      Says (refusals.Engine (tool.Lost loss)) × ((new ≡ old) ⊎ AnswersBut (contents new))
+      Says (refusals.Engine (tool.Lost loss)) × ((new ≡ old) ⊎ AnswersButLast (contents new))
   LeavesAnswers Says (refusals.Engine (tool.Lost loss)) None = ⊥
   LeavesAnswers Says refusals.OutOfMemory (Some new) = (new ≡ old) ⊎ AnswersFirst (contents new)
   LeavesAnswers Says refusals.OutOfMemory None = ⊤
