@@ -122,7 +122,7 @@ module _ {R Q W : Type 0} (left : R → Option (List ℕ)) (health : R → Healt
     kind = kept_kind ended a;
     changed = λ loss lost parts told change. kept_lost ended a loss lost;
     answers = kept_answers ended a;
-    cause = λ fault e. (a.questions fault e).1.0;
+    cause = λ fault e. (a.questions fault e).1;
   }
 
   stored_changed : (ended : Option AskFault) → Stored ended → (loss : Loss) → LosesObjects ended loss → (parts : List (List ℕ))
@@ -132,7 +132,7 @@ module _ {R Q W : Type 0} (left : R → Option (List ℕ)) (health : R → Healt
 
   stored_cause : (ended : Option AskFault) → OfDialogue ended (λ result. EndsDialogue asked how turns well was is after result)
       → (fault : ReadFault) → ended ≡ Some (faults.Dialogue (stops.Questions fault)) → CannotReadOn how turns is
-  stored_cause (Some (faults.Dialogue (stops.Questions why))) ends fault same = ends.2.1.0
+  stored_cause (Some (faults.Dialogue (stops.Questions why))) ends fault same = ends.2.1
   stored_cause (Some (faults.Dialogue (stops.Write why))) ends fault same = absurd cc
   stored_cause (Some (faults.Dialogue (stops.Lost loss))) ends fault same = absurd cc
   stored_cause (Some (faults.Dialogue stops.OutOfMemory)) ends fault same = absurd cc
