@@ -25,6 +25,9 @@ fn text_of_asking(alloc: Global, fault: AskFault) -> Result<String, AllocError> 
         AskFault::Dialogue(DialogueStop::Write(fault)) => {
             text_of_fault(alloc, ToolFault::Write(fault))
         }
+        AskFault::Dialogue(DialogueStop::Lost(loss)) => {
+            text_of_fault(alloc, ToolFault::Lost(loss))
+        }
         AskFault::Dialogue(DialogueStop::OutOfMemory) => String::from_str(alloc, "out of memory"),
     }
 }
@@ -109,6 +112,18 @@ pub fn check_asked(
     asked.check_says(alloc, answer, &answers)
 }
 
+/// Returns the answer of a call that answers questions.
+pub(crate) fn of_dialogue(
+    alloc: Global,
+    answer: Result<(), AskFault>,
+) -> Result<Answer, AllocError> {
+    let text = match answer {
+        Ok(()) => String::from_str(alloc, "done")?,
+        Err(fault) => text_of_asking(alloc, fault)?,
+    };
+    Ok(plain(alloc, text))
+}
+
 /// Asks the questions of the input, and returns the result of the call.
 pub(crate) fn conversed(
     alloc: Global,
@@ -121,9 +136,6 @@ pub(crate) fn conversed(
     requires writer { health_of target.old ≡ Well }
 {
     let mut questions = Device::new(input);
-    let text = match ask_to(alloc, readers, &mut questions, target, limits) {
-        Ok(()) => String::from_str(alloc, "done")?,
-        Err(fault) => text_of_asking(alloc, fault)?,
-    };
-    Ok(plain(alloc, text))
+    let answer = ask_to(alloc, readers, &mut questions, target, limits);
+    of_dialogue(alloc, answer)
 }

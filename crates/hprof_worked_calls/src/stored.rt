@@ -4,9 +4,10 @@ ghost use Rattle.std.specs.Prelude.{◌≡◌, All};
 ghost use Rattle.hprof_devices.specs.declared.health.Health.TheVariants.{Well};
 ghost use Rattle.hprof_devices.specs.Device.{health_of};
 
+use crate::conversing::of_dialogue;
 use crate::engine::{
-    Answer, Call, Ways, of_salvaged, outcome_of, plain, readers_of, target_of, text_of_difference,
-    text_of_fault,
+    Answer, Call, Given, Ways, feed_of_parts, input_of, of_salvaged, outcome_of, plain, readers_of,
+    target_of, text_of_difference, text_of_fault,
 };
 use crate::outcome::Outcome;
 use crate::streams::{Reader, Writer};
@@ -14,7 +15,7 @@ use crate::trouble::Trouble;
 use hprof_devices::Device;
 use hprof_diff::{DiffFault, GrowthReport, count_stored};
 use hprof_engine::ToolFault;
-use hprof_large::PassedReport;
+use hprof_large::{PassedReport, ask_stored};
 use hprof_making::make_stored;
 use hprof_objects::Keeping;
 use hprof_parts::Slices;
@@ -169,4 +170,54 @@ pub fn check_stored(
         }
     }
     Ok(())
+}
+
+/// Answers the questions of the input over parts whose objects are kept so, and returns the result.
+fn asked_so(
+    alloc: Global,
+    given: Given<'_>,
+    ways: Ways,
+    keeping: Keeping,
+) -> Result<Outcome, AllocError> {
+    let feed = feed_of_parts(Call::Ask, ways.feed);
+    let mut readers = readers_of(alloc, given.parts, feed)?;
+    let mut questions = Device::new(input_of(given, ways.feed));
+    let mut target = target_of(alloc, ways.room);
+    let again = Slices::new(given.parts);
+    let scratch = MemoryScratch::new(alloc);
+    let answer = ask_stored(
+        alloc,
+        &mut readers,
+        &again,
+        ways.limits,
+        keeping,
+        scratch,
+        &mut questions,
+        &mut target,
+    );
+    let answer = of_dialogue(alloc, answer)?;
+    Ok(outcome_of(answer, readers, target.into_inner()))
+}
+
+/// Answers the same questions over parts whose objects are stored in several ways. Returns the result that is given, or the first that is
+/// another one, with an answer that says so.
+pub(crate) fn asked_stored(
+    alloc: Global,
+    given: Given<'_>,
+    ways: Ways,
+    whole: Outcome,
+) -> Result<Outcome, AllocError> {
+    // Of that the lines of the case tell.
+    if whole.is_out_of_memory() {
+        return Ok(whole);
+    }
+    for keeping in &KEEPINGS {
+        let mut found = asked_so(alloc, given, ways, *keeping)?;
+        if !whole.is_same(&found) {
+            let answer = found.answer_text();
+            found.answer = Some(format!(in alloc; "if objects are stored: {answer}")?);
+            return Ok(found);
+        }
+    }
+    Ok(whole)
 }
