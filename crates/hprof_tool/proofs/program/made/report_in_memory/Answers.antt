@@ -48,8 +48,8 @@ returns-in-Node-Who-Identifier g c =
     (are_usual c.usual-in-Node-Who-Identifier.result usual.item usual.reads usual.bytes) c.who_to.ensures))
 
 -- all other reports are made of a heap
-pub returns-in_default-report : goal.returns-in_default-report
-returns-in_default-report g c =
+pub returns-in_default : goal.returns-in_default
+returns-in_default g c =
     let made = c.make_of_heap in
     heap_makes g.R.Source.left g.R.Source.health g.R.Source.pulls usual_limits g.W.Target.written g.W.Target.health
     c.args.readers.now made.new.readers c.args.target.now made.new.target (fault_of made.result) c.args.report made.ensures
