@@ -27,13 +27,15 @@ use Rattle.hprof_lines.specs.Stopping.{LeavesTarget, WritesText}
 use Rattle.hprof_making.specs.Over.{EndsOver}
 use Rattle.hprof_questions.specs.declared.question.Question.{Question}
 use Rattle.hprof_questions.specs.declared.question.Question.TheVariants as questions
+use Rattle.hprof_questions.specs.declared.report.HeapReport.{HeapReport}
 use Rattle.hprof_questions.specs.declared.report.Report.{Report}
 use Rattle.hprof_questions.specs.declared.stop.DialogueStop.{DialogueStop}
 use Rattle.hprof_questions.specs.declared.stop.DialogueStop.TheVariants as stops
 use Rattle.hprof_questions.specs.Answering.{LeavesWriter, TellsLoss, WritesAnswer}
-use Rattle.hprof_ask.specs.HeapAnswers.{IsReply, IsReportReply}
-use Rattle.hprof_ask.specs.Report.{IsReport, LacksClass, RefusesReport}
-use Rattle.hprof_large.specs.SomeAnswer.{some_answer_of_whole}
+use Rattle.hprof_ask.specs.HeapAnswers.{IsReply, IsReportReply, reply_without_report}
+use Rattle.hprof_ask.specs.Report.{IsHeapReport, IsReport, LacksClass, RefusesReport}
+use Rattle.hprof_ask.specs.SomeReport.{some_heap_report}
+use Rattle.hprof_large.specs.SomeAnswer.{some_answer_of_whole, whole_agrees}
 use Rattle.hprof_large.specs.Stops.{IsLostBy, answer_of, stop_of_pass_fault, stop_of_writing}
 use Rattle.hprof_large.specs.Whole.{IsWholeHeap}
 
@@ -58,6 +60,23 @@ loses_nothing Loses (Ok done) = tt
 loses_nothing Loses (Err (writes.Write fault)) = tt
 loses_nothing Loses (Err writes.OutOfMemory) = tt
 loses_nothing Loses (Err (writes.Refused refusal)) = tt
+
+pub tells_more : (Loses : Loss → Type 0) (r : Result (Unit {0}) DialogueStop) → TellsLoss (λ loss. ⊥) r → TellsLoss Loses r
+tells_more Loses (Ok done) tells = tt
+tells_more Loses (Err (stops.Questions fault)) tells = tt
+tells_more Loses (Err (stops.Write fault)) tells = tt
+tells_more Loses (Err (stops.Lost loss)) tells = absurd tells
+tells_more Loses (Err stops.OutOfMemory) tells = tt
+
+-- a reply that is no report
+pub line_reply : (summaries : List PartSummary) (ids : IdSize) (facts : List FactValue) (question : Question)
+    → ((report : Report) → question ≡ questions.Report report → ⊥) → IsReply summaries ids facts question (reply_without_report question)
+line_reply summaries ids facts questions.Nothing other = refl
+line_reply summaries ids facts questions.Help other = refl
+line_reply summaries ids facts questions.Quit other = refl
+line_reply summaries ids facts (questions.Report report) other = absurd (other report refl)
+line_reply summaries ids facts (questions.Misnamed fault) other = refl
+line_reply summaries ids facts questions.NotUnderstood other = refl
 
 -- a front of a reply is one of the answer
 pub answer_stops : (old new : Option (List ℕ)) (stop : DialogueStop) (reply behind : List ℕ)
@@ -119,6 +138,14 @@ module _ (heap : Heap) (MakeUp : IdSize → List FactValue → List FactValue �
   no_reply question old new stop same whole is =
       let some = some_answer_of_whole summaries heap MakeUp are_whole whole is question in
       (some.1.reply, some.1.is_reply, unwritten old new stop some.1.reply same)
+
+  -- nothing was written of a report on the whole heap
+  pub no_heap_report : (report : HeapReport) (old new : Option (List ℕ)) (stop : DialogueStop) → new ≡ old → (whole : HeapValue)
+      → IsWholeHeap heap MakeUp whole → (text : List ℕ) × IsHeapReport summaries whole.ids whole.facts report text
+      × WritesAnswer {A = Unit {0}} old new (Err stop) text
+  no_heap_report report old new stop same whole is =
+      let some = some_heap_report whole.ids whole.facts (whole_agrees heap MakeUp are_whole whole is) summaries report in
+      (some.0, some.1, unwritten old new stop some.0 same)
 
   module _ {W : Type 0} (written : W → Option (List ℕ)) (well : W → Health) (before after : W) (agreed : Type 0)
       (Tells : PassFault → Type 0) (report : Report) (was_well : well before ≡ healths.Well) where
