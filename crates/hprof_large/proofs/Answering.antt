@@ -89,13 +89,25 @@ answer_stops old new stops.OutOfMemory reply behind front = WritesFront-more old
 -- nothing was written
 unwritten : (old new : Option (List ℕ)) (stop : DialogueStop) (text : List ℕ) → new ≡ old
     → WritesAnswer {A = Unit {0}} old new (Err stop) text
-unwritten old new (stops.Questions fault) text same = (0, omega arith, subst (λ (w : Option (List ℕ)). Appends old w []) (sym same)
-    (Appends-nil old))
-unwritten old new (stops.Write fault) text same = (0, omega arith, subst (λ (w : Option (List ℕ)). Appends old w []) (sym same)
-    (Appends-nil old))
+unwritten old new (stops.Questions fault) text same = (
+  0,
+  omega arith,
+  subst (λ (w : Option (List ℕ)). Appends old w []) (sym same)
+      (Appends-nil old),
+)
+unwritten old new (stops.Write fault) text same = (
+  0,
+  omega arith,
+  subst (λ (w : Option (List ℕ)). Appends old w []) (sym same)
+      (Appends-nil old),
+)
 unwritten old new (stops.Lost loss) text same = same
-unwritten old new stops.OutOfMemory text same = (0, omega arith, subst (λ (w : Option (List ℕ)). Appends old w []) (sym same)
-    (Appends-nil old))
+unwritten old new stops.OutOfMemory text same = (
+  0,
+  omega arith,
+  subst (λ (w : Option (List ℕ)). Appends old w []) (sym same)
+      (Appends-nil old),
+)
 
 -- ---- objects that cannot be gone through
 
@@ -209,7 +221,7 @@ module _ (heap : Heap) (MakeUp : IdSize → List FactValue → List FactValue �
         let it : EndsReport (Err (Sink (writes.Refused refusal))) =
         subst (λ (s : PassStop WriteStop PassFault). EndsReport (Err s)) is ends in
         (it.2, λ whole is_whole. lacks whole.facts refusal (it.1 whole.facts is_whole.made_up))
-          where
-            lacks : (facts : List FactValue) (why : ProductRefusal) → RefusesReport facts report why → LacksClass facts report
-            lacks facts refusals.DumpTooLong refuses = absurd refuses
-            lacks facts refusals.NoClass refuses = refuses
+      where
+        lacks : (facts : List FactValue) (why : ProductRefusal) → RefusesReport facts report why → LacksClass facts report
+        lacks facts refusals.DumpTooLong refuses = absurd refuses
+        lacks facts refusals.NoClass refuses = refuses

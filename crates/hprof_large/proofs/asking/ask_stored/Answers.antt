@@ -1,4 +1,4 @@
-use Rattle.std.proofs.Common.{◌≡◌, ℕ, List, Some, None, Ok, Err, sym, subst}
+use Rattle.std.proofs.Common.{◌≡◌, ℕ, List, Some, None, Result, Ok, Err, sym, subst}
 use Rattle.std.specs.Prelude.{⊤, Vec}
 use Rattle.std.specs.declared.alloc.Global.{Global}
 use Rattle.hprof_heap.specs.Heap.{heap_of}
@@ -14,6 +14,7 @@ use Rattle.hprof_stored.proofs.StoredReads.{some_readers}
 use Rattle.hprof_making.proofs.Made.{AreOfParts, of_loss}
 use Rattle.hprof_diff.specs.Comparing.{Counts}
 use Rattle.hprof_diff.proofs.Counting.{all_counts, pass_counts, reading_counts}
+use Rattle.hprof_questions.specs.declared.stop.DialogueStop.{DialogueStop}
 use Rattle.hprof_questions.specs.Dialogue.{AnswersDialogue}
 use Rattle.hprof_large.specs.AskingStored.{AsksStored}
 use Rattle.hprof_large.proofs.AskingStored.{are_stored_of, asks, lines_over, no_loss, over_told, refuses}
@@ -130,11 +131,11 @@ returns-in-Ok-converse-clause-asks g c =
     asks g.R.Source.left g.R.Source.health g.R.Source.pulls g.Q.Asker.left g.Q.Asker.health g.Q.Asker.pulls g.W.Target.written g.W.Target.health c.args.limits c.args.readers.now c.read_stored.new.readers c.args.questions.now c.args.target.now
     (counts_of g then) c.converse.new.questions c.converse.new.target (Ok c.in-Ok-converse.field-0)
     (λ told tell. over_told heap Made agreed Tells told (parts_of g then told tell) summaries (summaries_of g then told tell)
-    c.count.ensures.agree
+    c.in_default-count.ensures.agree
     (λ IsAnswer. AnswersDialogue IsAnswer g.Q.Asker.left g.Q.Asker.health g.Q.Asker.pulls g.W.Target.written g.W.Target.health c.args.questions.now c.converse.new.questions c.args.target.now c.converse.new.target (Ok c.in-Ok-converse.field-0))
     said.dialogue)
     said.ends
-    (λ told tell. no_loss heap Made agreed Tells told (parts_of g then told tell) c.count.ensures.agree (Ok c.in-Ok-converse.field-0) said.lost)
+    (λ told tell. no_loss heap Made agreed Tells told (parts_of g then told tell) c.in_default-count.ensures.agree (Ok c.in-Ok-converse.field-0) said.lost)
 
 -- it stopped
 pub returns-clause-asks : goal.returns-clause-asks
@@ -147,12 +148,13 @@ returns-clause-asks g c =
     let agreed = HaveUnion g.S.Target.written g.S.Target.health g.P.Parts.bytes it in
     let Tells = TellsPass g.S.Target.written g.S.Target.health g.P.Parts.bytes g.S.Scratch.unreadable it (size_of heap) (facts_of heap) in
     let summaries = c.read_stored.new.kept.items in
+    let ended : Result (Unit {0}) DialogueStop = Err c.in-Err-converse.stop in
     let said = c.in-Err-converse.ensures in
     asks g.R.Source.left g.R.Source.health g.R.Source.pulls g.Q.Asker.left g.Q.Asker.health g.Q.Asker.pulls g.W.Target.written g.W.Target.health c.args.limits c.args.readers.now c.read_stored.new.readers c.args.questions.now c.args.target.now
-    (counts_of g then) c.converse.new.questions c.converse.new.target (Err c.in-Err-converse.stop)
+    (counts_of g then) c.converse.new.questions c.converse.new.target ended
     (λ told tell. over_told heap Made agreed Tells told (parts_of g then told tell) summaries (summaries_of g then told tell)
-    c.count.ensures.agree
-    (λ IsAnswer. AnswersDialogue IsAnswer g.Q.Asker.left g.Q.Asker.health g.Q.Asker.pulls g.W.Target.written g.W.Target.health c.args.questions.now c.converse.new.questions c.args.target.now c.converse.new.target (Err c.in-Err-converse.stop))
+    c.in_default-count.ensures.agree
+    (λ IsAnswer. AnswersDialogue IsAnswer g.Q.Asker.left g.Q.Asker.health g.Q.Asker.pulls g.W.Target.written g.W.Target.health c.args.questions.now c.converse.new.questions c.args.target.now c.converse.new.target ended)
     said.dialogue)
     said.ends
-    (λ told tell. no_loss heap Made agreed Tells told (parts_of g then told tell) c.count.ensures.agree (Err c.in-Err-converse.stop) said.lost)
+    (λ told tell. no_loss heap Made agreed Tells told (parts_of g then told tell) c.in_default-count.ensures.agree ended said.lost)

@@ -68,8 +68,11 @@ returns-in-Err-Sink-Refused-clause-bytes g c = λ whole is.
     (it.field-0-is ∙ ap (λ (stop : WriteStop). Sink stop) it.field-0-0-is) it.ensures in
     let text = codes "no class has this name\n" in
     let wrote = c.write_reply_without_report in
-    let new = g.W.Target.written wrote.new.target in
-    (text, inr (lacks.1 whole is, refl), subst (λ (r : Result (Unit {0}) DialogueStop).
-    WritesAnswer (g.W.Target.written c.args.target.now) new r text) (sym c.answer_of.ensures)
-    (answered (g.W.Target.written c.args.target.now) new (g.W.Target.health wrote.new.target) wrote.result text wrote.ensures.health
-    (subst (λ (old : Option (List ℕ)). WritesText old new wrote.result text) (ap g.W.Target.written lacks.0) wrote.ensures.bytes)))
+    let new = g.W.Target.written wrote.new.target in (
+      text,
+      inr (lacks.1 whole is, refl),
+      subst (λ (r : Result (Unit {0}) DialogueStop).
+          WritesAnswer (g.W.Target.written c.args.target.now) new r text) (sym c.answer_of.ensures)
+          (answered (g.W.Target.written c.args.target.now) new (g.W.Target.health wrote.new.target) wrote.result text wrote.ensures.health
+          (subst (λ (old : Option (List ℕ)). WritesText old new wrote.result text) (ap g.W.Target.written lacks.0) wrote.ensures.bytes)),
+    )
