@@ -1,5 +1,5 @@
 -- What is written of an answer whose objects are gone through.
-use Rattle.std.proofs.Common.{◌≡◌, inl, inr, ℕ, ◌≤◌, List, [], ◌++◌, Option, Result, Ok, Err, refl, sym, subst, ◌∙◌, ap, arith}
+use Rattle.std.proofs.Common.{◌≡◌, inl, inr, ℕ, List, [], ◌++◌, Option, Result, Ok, Err, refl, sym, subst, ap, arith}
 use Rattle.std.specs.Io.KnownBytes.{Appends}
 use Rattle.std.proofs.KnownBytes.{Appends-nil}
 use Rattle.hprof_devices.specs.declared.health.Health.{Health}
@@ -61,13 +61,6 @@ loses_nothing Loses (Err (writes.Write fault)) = tt
 loses_nothing Loses (Err writes.OutOfMemory) = tt
 loses_nothing Loses (Err (writes.Refused refusal)) = tt
 
-pub tells_more : (Loses : Loss → Type 0) (r : Result (Unit {0}) DialogueStop) → TellsLoss (λ loss. ⊥) r → TellsLoss Loses r
-tells_more Loses (Ok done) tells = tt
-tells_more Loses (Err (stops.Questions fault)) tells = tt
-tells_more Loses (Err (stops.Write fault)) tells = tt
-tells_more Loses (Err (stops.Lost loss)) tells = absurd tells
-tells_more Loses (Err stops.OutOfMemory) tells = tt
-
 -- a reply that is no report
 pub line_reply : (summaries : List PartSummary) (ids : IdSize) (facts : List FactValue) (question : Question)
     → ((report : Report) → question ≡ questions.Report report → ⊥) → IsReply summaries ids facts question (reply_without_report question)
@@ -124,14 +117,14 @@ leaves_well (passes.Part part stretches.Changed) health well = well
 leaves_well passes.NoObject health well = well
 leaves_well passes.TooMany health well = well
 
-module _ (fault : PassFault) (stop : DialogueStop) (is : stop ≡ stop_of_pass_fault fault) where
-  -- the writer is as it was
-  pub leaves_lost : (health : Health) → health ≡ healths.Well → LeavesWriter {A = Unit {0}} (Err stop) health
-  leaves_lost health well =
-      subst (λ (s : DialogueStop). LeavesWriter {A = Unit {0}} (Err s) health) (sym is) (leaves_well fault health well)
+-- the writer is as it was
+leaves_lost : (fault : PassFault) (stop : DialogueStop) → stop ≡ stop_of_pass_fault fault → (health : Health) → health ≡ healths.Well
+    → LeavesWriter {A = Unit {0}} (Err stop) health
+leaves_lost fault stop is health well =
+    subst (λ (s : DialogueStop). LeavesWriter {A = Unit {0}} (Err s) health) (sym is) (leaves_well fault health well)
 
 -- the reason is told
-pub tells_lost : (Tells : PassFault → Type 0) (fault : PassFault) (stop : DialogueStop) → stop ≡ stop_of_pass_fault fault → Tells fault
+tells_lost : (Tells : PassFault → Type 0) (fault : PassFault) (stop : DialogueStop) → stop ≡ stop_of_pass_fault fault → Tells fault
     → TellsLoss {A = Unit {0}} (IsLostBy Tells) (Err stop)
 tells_lost Tells fault (stops.Questions other) is tells = tt
 tells_lost Tells fault (stops.Write other) is tells = tt

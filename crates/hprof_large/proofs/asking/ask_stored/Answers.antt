@@ -16,7 +16,6 @@ use Rattle.hprof_diff.specs.Comparing.{Counts}
 use Rattle.hprof_diff.proofs.Counting.{all_counts, pass_counts, reading_counts}
 use Rattle.hprof_questions.specs.declared.stop.DialogueStop.{DialogueStop}
 use Rattle.hprof_questions.specs.Dialogue.{AnswersDialogue}
-use Rattle.hprof_large.specs.AskingStored.{AsksStored}
 use Rattle.hprof_large.proofs.AskingStored.{are_stored_of, asks, lines_over, no_loss, over_told, refuses}
 use Rattle.hprof_large.proofs.asking.ask_stored.Given.{Over}
 use Rattle.hprof_large.proofs.asking.ask_stored.Goals as goal
@@ -26,9 +25,11 @@ use Rattle.hprof_large.proofs.asking.ask_stored.Goals.{After-new-objects}
 pub returns-in-Err-clause-asks : goal.returns-in-Err-clause-asks
 returns-in-Err-clause-asks g c =
     let e = c.in-Err.ensures in
-    refuses g.R.Source.left g.R.Source.health g.R.Source.pulls g.Q.Asker.left g.Q.Asker.health g.Q.Asker.pulls g.W.Target.written g.W.Target.health c.args.limits c.args.readers.now c.read_stored.new.readers c.args.questions.now c.args.target.now
+    refuses g.R.Source.left g.R.Source.health g.R.Source.pulls g.Q.Asker.left g.Q.Asker.health g.Q.Asker.pulls g.W.Target.written
+    g.W.Target.health c.args.limits c.args.readers.now c.read_stored.new.readers c.args.questions.now c.args.target.now
     c.from.result
-    (subst (λ (fault : ToolFault). Counts g.R.Source.left g.R.Source.health g.R.Source.pulls HaveObject ⊤ c.args.limits c.args.readers.now c.read_stored.new.readers (Some fault))
+    (subst (λ (fault : ToolFault). Counts g.R.Source.left g.R.Source.health g.R.Source.pulls HaveObject ⊤ c.args.limits c.args.readers.now
+    c.read_stored.new.readers (Some fault))
     (sym c.from.ensures)
     (reading_counts g.R.Source.left g.R.Source.health g.R.Source.pulls c.args.limits c.args.readers.now c.read_stored.new.readers
     (some_readers c.args.readers.now c.if-is_empty.ensures) c.in-Err.fault e.reads e.first.count e.first.so_many e.first.read_out
@@ -80,7 +81,8 @@ counts_of g c =
     let readers = c.args.readers.now in
     let then = c.read_stored.new.readers in
     let e = c.in-Ok-read_stored.ensures in
-    all_counts g.R.Source.left g.R.Source.health g.R.Source.pulls c.args.limits readers then (some_readers readers c.if-is_empty.ensures) e.reads
+    all_counts g.R.Source.left g.R.Source.health g.R.Source.pulls c.args.limits readers then (some_readers readers c.if-is_empty.ensures)
+    e.reads
     (subst (AreReadOut g.R.Source.left g.R.Source.health g.R.Source.pulls c.args.limits readers then) e.first.so_many e.first.read_out)
 
 -- the objects cannot be gone through
@@ -93,10 +95,14 @@ returns-in-Err-count-clause-asks g c =
     let it = c.new-objects.result in
     let fault = c.in-Err-count.fault in
     let from = c.from-in-Err-count in
-    refuses g.R.Source.left g.R.Source.health g.R.Source.pulls g.Q.Asker.left g.Q.Asker.health g.Q.Asker.pulls g.W.Target.written g.W.Target.health c.args.limits readers then c.args.questions.now c.args.target.now from.result
-    (subst (λ (f : ToolFault). Counts g.R.Source.left g.R.Source.health g.R.Source.pulls HaveObject ⊤ c.args.limits readers then (Some f)) (sym from.ensures)
-    (pass_counts g.R.Source.left g.R.Source.health g.R.Source.pulls c.args.limits readers then (some_readers readers c.if-is_empty.ensures) e.reads
-    (subst (AreReadOut g.R.Source.left g.R.Source.health g.R.Source.pulls c.args.limits readers then) e.first.so_many e.first.read_out) fault (λ told tell.
+    refuses g.R.Source.left g.R.Source.health g.R.Source.pulls g.Q.Asker.left g.Q.Asker.health g.Q.Asker.pulls g.W.Target.written
+    g.W.Target.health c.args.limits readers then c.args.questions.now c.args.target.now from.result
+    (subst (λ (f : ToolFault). Counts g.R.Source.left g.R.Source.health g.R.Source.pulls HaveObject ⊤ c.args.limits readers then (Some f))
+    (sym from.ensures)
+    (pass_counts g.R.Source.left g.R.Source.health g.R.Source.pulls c.args.limits readers then (some_readers readers c.if-is_empty.ensures)
+    e.reads
+    (subst (AreReadOut g.R.Source.left g.R.Source.health g.R.Source.pulls c.args.limits readers then) e.first.so_many e.first.read_out)
+    fault (λ told tell.
     of_loss (heap_of stored.heap)
     (MakeUp g.S.Target.written g.S.Target.health g.P.Parts.bytes it (size_of stored.heap) (facts_of stored.heap))
     (HaveUnion g.S.Target.written g.S.Target.health g.P.Parts.bytes it)
@@ -127,15 +133,18 @@ returns-in-Ok-converse-clause-asks g c =
     let agreed = HaveUnion g.S.Target.written g.S.Target.health g.P.Parts.bytes it in
     let Tells = TellsPass g.S.Target.written g.S.Target.health g.P.Parts.bytes g.S.Scratch.unreadable it (size_of heap) (facts_of heap) in
     let summaries = c.read_stored.new.kept.items in
+    let ended : Result (Unit {0}) DialogueStop = Ok c.in-Ok-converse.field-0 in
     let said = c.in-Ok-converse.ensures in
-    asks g.R.Source.left g.R.Source.health g.R.Source.pulls g.Q.Asker.left g.Q.Asker.health g.Q.Asker.pulls g.W.Target.written g.W.Target.health c.args.limits c.args.readers.now c.read_stored.new.readers c.args.questions.now c.args.target.now
-    (counts_of g then) c.converse.new.questions c.converse.new.target (Ok c.in-Ok-converse.field-0)
+    asks g.R.Source.left g.R.Source.health g.R.Source.pulls g.Q.Asker.left g.Q.Asker.health g.Q.Asker.pulls g.W.Target.written
+    g.W.Target.health c.args.limits c.args.readers.now c.read_stored.new.readers c.args.questions.now c.args.target.now
+    (counts_of g then) c.converse.new.questions c.converse.new.target ended
     (λ told tell. over_told heap Made agreed Tells told (parts_of g then told tell) summaries (summaries_of g then told tell)
     c.in_default-count.ensures.agree
-    (λ IsAnswer. AnswersDialogue IsAnswer g.Q.Asker.left g.Q.Asker.health g.Q.Asker.pulls g.W.Target.written g.W.Target.health c.args.questions.now c.converse.new.questions c.args.target.now c.converse.new.target (Ok c.in-Ok-converse.field-0))
+    (λ IsAnswer. AnswersDialogue IsAnswer g.Q.Asker.left g.Q.Asker.health g.Q.Asker.pulls g.W.Target.written g.W.Target.health
+    c.args.questions.now c.converse.new.questions c.args.target.now c.converse.new.target ended)
     said.dialogue)
     said.ends
-    (λ told tell. no_loss heap Made agreed Tells told (parts_of g then told tell) c.in_default-count.ensures.agree (Ok c.in-Ok-converse.field-0) said.lost)
+    (λ told tell. no_loss heap Made agreed Tells told (parts_of g then told tell) c.in_default-count.ensures.agree ended said.lost)
 
 -- it stopped
 pub returns-clause-asks : goal.returns-clause-asks
@@ -150,11 +159,13 @@ returns-clause-asks g c =
     let summaries = c.read_stored.new.kept.items in
     let ended : Result (Unit {0}) DialogueStop = Err c.in-Err-converse.stop in
     let said = c.in-Err-converse.ensures in
-    asks g.R.Source.left g.R.Source.health g.R.Source.pulls g.Q.Asker.left g.Q.Asker.health g.Q.Asker.pulls g.W.Target.written g.W.Target.health c.args.limits c.args.readers.now c.read_stored.new.readers c.args.questions.now c.args.target.now
+    asks g.R.Source.left g.R.Source.health g.R.Source.pulls g.Q.Asker.left g.Q.Asker.health g.Q.Asker.pulls g.W.Target.written
+    g.W.Target.health c.args.limits c.args.readers.now c.read_stored.new.readers c.args.questions.now c.args.target.now
     (counts_of g then) c.converse.new.questions c.converse.new.target ended
     (λ told tell. over_told heap Made agreed Tells told (parts_of g then told tell) summaries (summaries_of g then told tell)
     c.in_default-count.ensures.agree
-    (λ IsAnswer. AnswersDialogue IsAnswer g.Q.Asker.left g.Q.Asker.health g.Q.Asker.pulls g.W.Target.written g.W.Target.health c.args.questions.now c.converse.new.questions c.args.target.now c.converse.new.target ended)
+    (λ IsAnswer. AnswersDialogue IsAnswer g.Q.Asker.left g.Q.Asker.health g.Q.Asker.pulls g.W.Target.written g.W.Target.health
+    c.args.questions.now c.converse.new.questions c.args.target.now c.converse.new.target ended)
     said.dialogue)
     said.ends
     (λ told tell. no_loss heap Made agreed Tells told (parts_of g then told tell) c.in_default-count.ensures.agree ended said.lost)

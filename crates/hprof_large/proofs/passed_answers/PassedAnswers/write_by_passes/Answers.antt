@@ -3,7 +3,6 @@ use Rattle.std.specs.declared.alloc.Global.{Global}
 use Rattle.std.specs.Prelude.{Vec}
 use Rattle.std.proofs.Common.{refl}
 use Rattle.hprof_stream.specs.declared.summary.PartSummary.{PartSummary}
-use Rattle.hprof_heap.specs.Heap.{heap_of}
 use Rattle.hprof_heap.specs.HeapFacts.{facts_of, size_of}
 use Rattle.hprof_histogram.specs.Known.{MadeUpWith}
 use Rattle.hprof_stored.specs.InParts.{HaveUnion, MakeUp, TellsPass}

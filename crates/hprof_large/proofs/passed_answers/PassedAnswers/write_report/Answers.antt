@@ -1,11 +1,8 @@
 use Rattle.std.proofs.Common.{◌∙◌, ap, codes, inr, ℕ, List, Option, refl, Result, subst, sym}
-use Rattle.hprof_devices.specs.declared.health.Health.TheVariants as healths
 use Rattle.hprof_heap.specs.HeapFacts.{facts_of, size_of}
-use Rattle.hprof_passes.specs.declared.pass_stop.PassStop.{PassStop}
 use Rattle.hprof_passes.specs.declared.pass_stop.PassStop.TheVariants.{Sink}
 use Rattle.hprof_engine.specs.declared.product.WriteStop.{WriteStop}
 use Rattle.hprof_engine.specs.declared.product.WriteStop.TheVariants as writes
-use Rattle.hprof_stored.specs.declared.pass_fault.PassFault.{PassFault}
 use Rattle.hprof_stored.specs.InParts.{HaveUnion, MakeUp, TellsPass}
 use Rattle.hprof_lines.specs.Stopping.{WritesText}
 use Rattle.hprof_questions.specs.declared.stop.DialogueStop.{DialogueStop}
