@@ -1,5 +1,5 @@
 -- What is written of an answer whose objects are gone through.
-use Rattle.std.proofs.Common.{◌≡◌, inl, inr, ℕ, ◌≤◌, List, [], ◌++◌, Option, Result, Ok, Err, refl, sym, subst, ◌∙◌, ap, arith}
+use Rattle.std.proofs.Common.{◌≡◌, inl, inr, ℕ, List, [], ◌++◌, Option, Result, Ok, Err, refl, sym, subst, ap, arith}
 use Rattle.std.specs.Io.KnownBytes.{Appends}
 use Rattle.std.proofs.KnownBytes.{Appends-nil}
 use Rattle.hprof_devices.specs.declared.health.Health.{Health}
@@ -27,13 +27,15 @@ use Rattle.hprof_lines.specs.Stopping.{LeavesTarget, WritesText}
 use Rattle.hprof_making.specs.Over.{EndsOver}
 use Rattle.hprof_questions.specs.declared.question.Question.{Question}
 use Rattle.hprof_questions.specs.declared.question.Question.TheVariants as questions
+use Rattle.hprof_questions.specs.declared.report.HeapReport.{HeapReport}
 use Rattle.hprof_questions.specs.declared.report.Report.{Report}
 use Rattle.hprof_questions.specs.declared.stop.DialogueStop.{DialogueStop}
 use Rattle.hprof_questions.specs.declared.stop.DialogueStop.TheVariants as stops
 use Rattle.hprof_questions.specs.Answering.{LeavesWriter, TellsLoss, WritesAnswer}
-use Rattle.hprof_ask.specs.HeapAnswers.{IsReply, IsReportReply}
-use Rattle.hprof_ask.specs.Report.{IsReport, LacksClass, RefusesReport}
-use Rattle.hprof_large.specs.SomeAnswer.{some_answer_of_whole}
+use Rattle.hprof_ask.specs.HeapAnswers.{IsReply, IsReportReply, reply_without_report}
+use Rattle.hprof_ask.specs.Report.{IsHeapReport, IsReport, LacksClass, RefusesReport}
+use Rattle.hprof_ask.specs.SomeReport.{some_heap_report}
+use Rattle.hprof_large.specs.SomeAnswer.{some_answer_of_whole, whole_agrees}
 use Rattle.hprof_large.specs.Stops.{IsLostBy, answer_of, stop_of_pass_fault, stop_of_writing}
 use Rattle.hprof_large.specs.Whole.{IsWholeHeap}
 
@@ -59,6 +61,16 @@ loses_nothing Loses (Err (writes.Write fault)) = tt
 loses_nothing Loses (Err writes.OutOfMemory) = tt
 loses_nothing Loses (Err (writes.Refused refusal)) = tt
 
+-- a reply that is no report
+pub line_reply : (summaries : List PartSummary) (ids : IdSize) (facts : List FactValue) (question : Question)
+    → ((report : Report) → question ≡ questions.Report report → ⊥) → IsReply summaries ids facts question (reply_without_report question)
+line_reply summaries ids facts questions.Nothing other = refl
+line_reply summaries ids facts questions.Help other = refl
+line_reply summaries ids facts questions.Quit other = refl
+line_reply summaries ids facts (questions.Report report) other = absurd (other report refl)
+line_reply summaries ids facts (questions.Misnamed fault) other = refl
+line_reply summaries ids facts questions.NotUnderstood other = refl
+
 -- a front of a reply is one of the answer
 pub answer_stops : (old new : Option (List ℕ)) (stop : DialogueStop) (reply behind : List ℕ)
     → WritesAnswer {A = Unit {0}} old new (Err stop) reply → WritesAnswer {A = Unit {0}} old new (Err stop) (reply ++ behind)
@@ -70,13 +82,25 @@ answer_stops old new stops.OutOfMemory reply behind front = WritesFront-more old
 -- nothing was written
 unwritten : (old new : Option (List ℕ)) (stop : DialogueStop) (text : List ℕ) → new ≡ old
     → WritesAnswer {A = Unit {0}} old new (Err stop) text
-unwritten old new (stops.Questions fault) text same = (0, omega arith, subst (λ (w : Option (List ℕ)). Appends old w []) (sym same)
-    (Appends-nil old))
-unwritten old new (stops.Write fault) text same = (0, omega arith, subst (λ (w : Option (List ℕ)). Appends old w []) (sym same)
-    (Appends-nil old))
+unwritten old new (stops.Questions fault) text same = (
+  0,
+  omega arith,
+  subst (λ (w : Option (List ℕ)). Appends old w []) (sym same)
+      (Appends-nil old),
+)
+unwritten old new (stops.Write fault) text same = (
+  0,
+  omega arith,
+  subst (λ (w : Option (List ℕ)). Appends old w []) (sym same)
+      (Appends-nil old),
+)
 unwritten old new (stops.Lost loss) text same = same
-unwritten old new stops.OutOfMemory text same = (0, omega arith, subst (λ (w : Option (List ℕ)). Appends old w []) (sym same)
-    (Appends-nil old))
+unwritten old new stops.OutOfMemory text same = (
+  0,
+  omega arith,
+  subst (λ (w : Option (List ℕ)). Appends old w []) (sym same)
+      (Appends-nil old),
+)
 
 -- ---- objects that cannot be gone through
 
@@ -93,14 +117,14 @@ leaves_well (passes.Part part stretches.Changed) health well = well
 leaves_well passes.NoObject health well = well
 leaves_well passes.TooMany health well = well
 
-module _ (fault : PassFault) (stop : DialogueStop) (is : stop ≡ stop_of_pass_fault fault) where
-  -- the writer is as it was
-  pub leaves_lost : (health : Health) → health ≡ healths.Well → LeavesWriter {A = Unit {0}} (Err stop) health
-  leaves_lost health well =
-      subst (λ (s : DialogueStop). LeavesWriter {A = Unit {0}} (Err s) health) (sym is) (leaves_well fault health well)
+-- the writer is as it was
+leaves_lost : (fault : PassFault) (stop : DialogueStop) → stop ≡ stop_of_pass_fault fault → (health : Health) → health ≡ healths.Well
+    → LeavesWriter {A = Unit {0}} (Err stop) health
+leaves_lost fault stop is health well =
+    subst (λ (s : DialogueStop). LeavesWriter {A = Unit {0}} (Err s) health) (sym is) (leaves_well fault health well)
 
 -- the reason is told
-pub tells_lost : (Tells : PassFault → Type 0) (fault : PassFault) (stop : DialogueStop) → stop ≡ stop_of_pass_fault fault → Tells fault
+tells_lost : (Tells : PassFault → Type 0) (fault : PassFault) (stop : DialogueStop) → stop ≡ stop_of_pass_fault fault → Tells fault
     → TellsLoss {A = Unit {0}} (IsLostBy Tells) (Err stop)
 tells_lost Tells fault (stops.Questions other) is tells = tt
 tells_lost Tells fault (stops.Write other) is tells = tt
@@ -119,6 +143,14 @@ module _ (heap : Heap) (MakeUp : IdSize → List FactValue → List FactValue �
   no_reply question old new stop same whole is =
       let some = some_answer_of_whole summaries heap MakeUp are_whole whole is question in
       (some.1.reply, some.1.is_reply, unwritten old new stop some.1.reply same)
+
+  -- nothing was written of a report on the whole heap
+  pub no_heap_report : (report : HeapReport) (old new : Option (List ℕ)) (stop : DialogueStop) → new ≡ old → (whole : HeapValue)
+      → IsWholeHeap heap MakeUp whole → (text : List ℕ) × IsHeapReport summaries whole.ids whole.facts report text
+      × WritesAnswer {A = Unit {0}} old new (Err stop) text
+  no_heap_report report old new stop same whole is =
+      let some = some_heap_report whole.ids whole.facts (whole_agrees heap MakeUp are_whole whole is) summaries report in
+      (some.0, some.1, unwritten old new stop some.0 same)
 
   module _ {W : Type 0} (written : W → Option (List ℕ)) (well : W → Health) (before after : W) (agreed : Type 0)
       (Tells : PassFault → Type 0) (report : Report) (was_well : well before ≡ healths.Well) where
@@ -182,7 +214,7 @@ module _ (heap : Heap) (MakeUp : IdSize → List FactValue → List FactValue �
         let it : EndsReport (Err (Sink (writes.Refused refusal))) =
         subst (λ (s : PassStop WriteStop PassFault). EndsReport (Err s)) is ends in
         (it.2, λ whole is_whole. lacks whole.facts refusal (it.1 whole.facts is_whole.made_up))
-          where
-            lacks : (facts : List FactValue) (why : ProductRefusal) → RefusesReport facts report why → LacksClass facts report
-            lacks facts refusals.DumpTooLong refuses = absurd refuses
-            lacks facts refusals.NoClass refuses = refuses
+      where
+        lacks : (facts : List FactValue) (why : ProductRefusal) → RefusesReport facts report why → LacksClass facts report
+        lacks facts refusals.DumpTooLong refuses = absurd refuses
+        lacks facts refusals.NoClass refuses = refuses

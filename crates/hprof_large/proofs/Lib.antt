@@ -2,3 +2,4 @@ mod FewerMade
 mod NamedKind
 mod NamedDumps
 mod Answering
+mod AskingStored

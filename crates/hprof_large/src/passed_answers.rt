@@ -2,7 +2,6 @@
 
 ghost use Rattle.std.specs.Prelude.{◌≡◌, ℕ, List, IfErr, IfOk};
 ghost use Rattle.hprof_devices.specs.declared.health.Health.TheVariants.{Well};
-ghost use Rattle.hprof_engine.specs.declared.loss.Loss.{Loss};
 ghost use Rattle.hprof_rows.specs.HeapValue.{HeapValue};
 ghost use Rattle.hprof_heap.specs.HeapFacts.{facts_of, size_of};
 ghost use Rattle.hprof_stored.specs.InParts.{HaveUnion, MakeUp, TellsPass};
@@ -48,7 +47,7 @@ fn write_bytes<W: Target>(bytes: &[u8], target: &mut W) -> Result<(), DialogueSt
     requires { W.health target.old ≡ Well }
     ensures bytes { WritesAnswer (W.written target.old) (W.written target.new) result bytes.now }
     ensures health { LeavesWriter result (W.health target.new) }
-    ensures lost { (Loses : Loss → Type 0) → TellsLoss Loses result }
+    ensures lost { TellsLoss (λ loss. ⊥) result }
 {
     match push_all(bytes, target) {
         Ok(()) => Ok(()),

@@ -53,7 +53,7 @@ impl KeptTexts {
     /// Keeps the text of a report. If memory runs out, it is not kept.
     pub(crate) fn keep(&mut self, report: HeapReport, bytes: Vec<u8>)
         ensures { (summaries : List PartSummary) (ids : IdSize) (facts : List FactValue) → AreReports summaries ids facts self.old
-            → IsHeapReport summaries ids facts report bytes.entry.items → AreReports summaries ids facts self.new }
+            → IsHeapReport summaries ids facts report bytes.items → AreReports summaries ids facts self.new }
     {
         match self.texts.push(KeptText { report, bytes }) {
             Ok(()) | Err(_) => {}
