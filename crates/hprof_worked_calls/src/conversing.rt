@@ -4,7 +4,7 @@ ghost use Rattle.std.specs.Prelude.{◌≡◌, All};
 ghost use Rattle.hprof_devices.specs.declared.health.Health.TheVariants.{Well};
 ghost use Rattle.hprof_devices.specs.Device.{health_of};
 
-use crate::engine::{Answer, Call, Given, Ways, made, plain, text_of_fault};
+use crate::engine::{Answer, Call, Given, Ways, made_of_heap, plain, text_of_fault};
 use crate::outcome::Outcome;
 use crate::streams::{Reader, Writer};
 use crate::trouble::Trouble;
@@ -101,7 +101,7 @@ pub fn check_asked(
         parts,
         input: &input,
     };
-    let asked = made(alloc, Call::Ask, given, ways)?;
+    let asked = made_of_heap(alloc, Call::Ask, given, ways)?;
     let answer = whole.answer_asked();
     let answers = if answer == "done" {
         let reply = whole.reply_asked();
