@@ -1,9 +1,9 @@
 #!/usr/bin/env python3
 """Times the commands that read objects again, with little memory and with all objects in memory:
-large.py [--turns N] [--memory SIZE] DUMP..
+large.py [--turns N] [--memory SIZE] [--id ID] [--only WORD..] DUMP..
 
 Each command runs on each dump with `--memory SIZE`, 256M unless it is given, and with `--memory 1T`, in turn. Both must print and write the
-same. A line has the medians of the times, their ratio, and the greatest peaks of memory. It needs the built program (`rt run` in
+same. The reports on an object run if there is an ID, and of all commands only those that are named, if some are. A line has the medians of the times, their ratio, and the greatest peaks of memory. It needs the built program (`rt run` in
 crates/hprof leaves it as crates/hprof/out/hprof) and room for two joined dumps. It is no part of the gate.
 """
 
@@ -20,10 +20,15 @@ PROGRAM = Path(__file__).resolve().parent.parent.parent / "crates" / "hprof" / "
 MUCH = "1T"
 
 
-def commands(dump):
+NODE_REPORTS = ("object", "text", "show", "refs", "who", "path", "why", "keeps")
+
+
+def commands(dump, identifier):
     """The words before the option, and those behind it; OUT stands for a new file."""
-    reports = [(["check"], [dump]), (["histo"], [dump]), (["classes"], [dump]), (["objects"], ["byte[]", dump])]
-    return reports + [(["diff"], [dump, dump]), (["join"], ["OUT", dump]), (["join101"], ["OUT", dump])]
+    reports = [([word], [dump]) for word in ("check", "histo", "classes", "threads", "retained", "suspects")]
+    kinds = [([word], ["byte[]", dump]) for word in ("objects", "biggest")]
+    nodes = [([word], [identifier, dump]) for word in NODE_REPORTS] if identifier else []
+    return reports + kinds + nodes + [(["diff"], [dump, dump]), (["join"], ["OUT", dump]), (["join101"], ["OUT", dump])]
 
 
 def run(before, memory, behind, folder, program):
@@ -46,11 +51,15 @@ def main():
     words.add_argument("--turns", type=int, default=5)
     words.add_argument("--memory", default="256M")
     words.add_argument("--program", type=Path, default=PROGRAM)
+    words.add_argument("--id")
+    words.add_argument("--only", nargs="*", default=[])
     words.add_argument("dumps", nargs="+", type=Path)
     words = words.parse_args()
     print(f"{'dump':24} {'command':8} {words.memory:>8} {MUCH:>8}  ratio  peaks in MB")
     for dump in words.dumps:
-        for before, behind in commands(dump.resolve()):
+        for before, behind in commands(dump.resolve(), words.id):
+            if words.only and before[0] not in words.only:
+                continue
             with tempfile.TemporaryDirectory(dir=dump.parent) as place:
                 folder, times, peaks = Path(place), ([], []), [0, 0]
                 for turn in range(words.turns):

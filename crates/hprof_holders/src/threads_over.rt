@@ -40,9 +40,9 @@ fn threads_heap<O: Objects>(
     }
 }
 
-/// Writes the report `threads`, as [`write_threads`] does. The heap has all facts but the objects, which are gone through one to three
-/// times. Of the objects, memory holds only those of threads, those that threads hold, and those that the texts of strings and the names of
-/// threads among them are read from.
+/// Writes the report `threads`, as [`write_threads`] does. The heap has all facts but the objects, of which some are picked, one to
+/// three times. Memory holds only those of threads, those that threads hold, and those that the texts of strings and the names of threads
+/// among them are read from.
 ///
 /// # Errors
 ///

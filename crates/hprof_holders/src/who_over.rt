@@ -65,8 +65,8 @@ fn write_in_memory<W: Target>(
     write_who(alloc, tables.view(heap), id, &edges, target)
 }
 
-/// Writes the report `who` on an identifier, as [`write_who`] does. The heap has all facts but the objects, which are gone through two to
-/// four times. Of the objects, memory holds only these:
+/// Writes the report `who` on an identifier, as [`write_who`] does. The heap has all facts but the objects, which are gone through once;
+/// then some are picked, one to three times. Memory holds only these:
 ///
 /// - the object itself, and each that refers to the identifier;
 /// - those of the threads of the identifier's roots;

@@ -87,8 +87,8 @@ fn write_in_memory<W: Target>(
 }
 
 /// Writes the report `biggest` on a choice of classes and objects, as [`write_biggest`](crate::write_biggest) does. The heap has all facts
-/// but the objects, which are gone through five to nine times. Memory holds the tree of dominators, and of the objects first those of all
-/// classes if the choice has class dumps, and then only these:
+/// but the objects, which are gone through four or five times; then some are picked, one to four times. Memory holds the tree of
+/// dominators, and of the objects first those of all classes if the choice has class dumps, and then only these:
 ///
 /// - those of the choice that strong references reach;
 /// - those that the texts of strings and the names of threads among them are read from.

@@ -38,7 +38,7 @@ fn class_ids(alloc: Global, heap: &Heap) -> Result<Vec<u64>, AllocError>
     Ok(ids)
 }
 
-/// Adds the places of the class dumps without an object dump to those of the objects of a choice. Goes through the objects once.
+/// Adds the places of the class dumps without an object dump to those of the objects of a choice. Picks the objects of all classes.
 ///
 /// # Errors
 ///

@@ -62,8 +62,8 @@ fn write_in_memory<W: Target>(
 }
 
 /// Writes the report `keeps` on an identifier, as [`write_keeps`](crate::write_keeps) does. The heap has all facts but the objects, which
-/// are gone through four to ten times. Memory holds the tree of dominators, and a search if strong references do not reach the identifier
-/// or it is 0. Of the objects it then holds only these:
+/// are gone through three to seven times, and of which some are picked, one to four times. Memory holds the tree of dominators, and a
+/// search if strong references do not reach the identifier or it is 0. Of the objects it then holds only these:
 ///
 /// - the dominators of the identifier, and those right below it;
 /// - those that the texts of strings and the names of threads among them are read from.

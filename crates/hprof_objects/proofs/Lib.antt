@@ -1,6 +1,8 @@
 mod Enough
 mod Rows
 mod Stretches
+mod StretchesMoved
+mod CutMoves
 pub mod Whole
 pub mod WholeHeap
 mod InOrder
@@ -20,3 +22,9 @@ pub mod Stops
 pub mod MergedObjects
 pub mod OpeningFaults
 pub mod OneStretch
+mod WantedRows
+mod TwoPieces
+mod PickedRows
+mod PickedCuts
+mod PickedFront
+mod PickedMerge

@@ -1,5 +1,5 @@
 -- What a log keeps, as facts and bytes come, and as rows move.
-use Rattle.std.proofs.Common.{◌≡◌, ◌⊎◌, ◌<◌, ℕ, zero, suc, List, [], ◌∷◌, ◌++◌, length, Option, Some, None, slice_get}
+use Rattle.std.proofs.Common.{◌≡◌, ◌⊎◌, ◌<◌, ℕ, List, [], ◌∷◌, ◌++◌, length, Option, Some, None, slice_get}
 use Rattle.std.proofs.Common.{refl, sym, subst, ap, ◌∙◌, append-nil, inl, inr}
 use Rattle.hprof_devices.specs.declared.health.Health.{Health}
 use Rattle.hprof_items.specs.FactValue.{FactValue}
@@ -11,116 +11,28 @@ use Rattle.hprof_merge.proofs.Lists.{Has-append, append-has, append-last}
 use Rattle.hprof_merge.proofs.Unions.{back_has, either_has, front_has}
 use Rattle.hprof_runs.specs.declared.runs.Runs.{Runs}
 use Rattle.hprof_runs.specs.Runs.{KeepsRuns}
+use Rattle.hprof_objects.specs.declared.cut.Cut.{Cut}
 use Rattle.hprof_objects.specs.declared.growing.Growing.{Growing}
+use Rattle.hprof_objects.specs.declared.growing.Piece.{Piece}
 use Rattle.hprof_objects.specs.declared.growing.Stands.{Stands}
 use Rattle.hprof_objects.specs.declared.growing.Stands.TheVariants.{InMemory, InPart}
+use Rattle.hprof_objects.specs.declared.open_cut.OpenCut.{OpenCut}
 use Rattle.hprof_objects.specs.declared.stretch.Stretch.{Stretch}
+use Rattle.hprof_objects.specs.Cuts.{AreCutStanding, CutInto, all_rows, cut_behind, cut_of, cut_staying, last_cut, whole_cut}
 use Rattle.hprof_objects.specs.Enough.{HasTwo, IsEnough}
 use Rattle.hprof_objects.specs.Log.{IsKept, Keeps}
 use Rattle.hprof_objects.specs.ObjectRows.{object_row}
-use Rattle.hprof_objects.specs.Growing.{extended, longer, staying, staying_at}
+use Rattle.hprof_objects.specs.Growing.{extended, grown_in_part, longer, staying, staying_at}
 use Rattle.hprof_objects.specs.Store.{Spills}
 use Rattle.hprof_objects.specs.PartsRead.{PartRead, rows_of_parts, with_bytes, with_fact}
-use Rattle.hprof_objects.specs.Stretches.{AreStretches, EndsAt, IsGrowingIn, IsGrowingStretch, IsStretch, StandAt, StandsIn}
+use Rattle.hprof_objects.specs.Stretches.{IsGrowingIn, IsGrowingStretch, IsPiece, StandAt, StandsIn}
 use Rattle.hprof_objects.proofs.Enough.{enough_moved, enough_of, enough_with}
 use Rattle.hprof_objects.proofs.Rows.{rows_of_parts-append, rows_of_parts-with}
 use Rattle.hprof_objects.proofs.Spilled.{alone_has, has_alone}
+use Rattle.hprof_objects.proofs.CutMoves.{all_rows-with, cut_closed, cut_extended, cut_first, cut_more, cut_with_bytes, cut_with_other}
+use Rattle.hprof_objects.proofs.CutMoves.{into_with_fact}
 use Rattle.hprof_objects.proofs.Stretches.{all_below, stands_longer, stands_with_bytes, stands_with_fact}
-
--- ---- the part of a stretch
-
--- a place of a list is before its last, or the last
-at_last : {X : Type 0} (xs : List X) (last : X) (n : ℕ) (x : X) → slice_get (xs ++ last ∷ []) n ≡ Some x
-    → (slice_get xs n ≡ Some x) ⊎ ((n ≡ length xs) × (x ≡ last))
-at_last [] last zero x e = inr (refl, cc)
-at_last [] last (suc n) x e = absurd cc
-at_last (first ∷ xs) last zero x e = inl e
-at_last (first ∷ xs) last (suc n) x e = elim (at_last xs last n x e) [
-  | inl h ↦ inl h
-  | inr h ↦ inr (ap suc h.0, h.1)
-]
-
-before_last : {X : Type 0} (xs : List X) (last : X) (n : ℕ) (x : X) → slice_get xs n ≡ Some x → slice_get (xs ++ last ∷ []) n ≡ Some x
-before_last [] last n x e = absurd cc
-before_last (first ∷ xs) last zero x e = e
-before_last (first ∷ xs) last (suc n) x e = before_last xs last n x e
-
-at_end : {X : Type 0} (xs : List X) (last : X) → slice_get (xs ++ last ∷ []) (length xs) ≡ Some last
-at_end [] last = refl
-at_end (first ∷ xs) last = at_end xs last
-
-module _ (limits : Limits) where
-  -- what stands in each part after the last of them changed
-  stretch_moves : (parts : List PartRead) (part next : PartRead) → ((stretch : Stretch) (rows more : List ByteRow)
-      → StandsIn limits part stretch rows more → (after : List ByteRow) × StandsIn limits next stretch rows after)
-      → (stretch : Stretch) (rows : List ByteRow) → IsStretch limits (parts ++ part ∷ []) stretch rows
-      → IsStretch limits (parts ++ next ∷ []) stretch rows
-  stretch_moves parts part next moves stretch rows it = elim (at_last parts part stretch.part it.part it.is) [
-    | inl earlier ↦ record {
-      part = it.part;
-      is = before_last parts next stretch.part it.part earlier;
-      more = it.more;
-      stands = it.stands;
-    }
-    | inr last ↦
-        let moved = moves stretch rows it.more (subst (λ (p : PartRead). StandsIn limits p stretch rows it.more) last.1 it.stands) in
-        record {
-          part = next;
-          is = subst (λ (n : ℕ). slice_get (parts ++ next ∷ []) n ≡ Some next) (sym last.0) (at_end parts next);
-          more = moved.0;
-          stands = moved.1;
-        }
-  ]
-
-  -- each of several stretches
-  each_stretch : (old new : List PartRead) → ((stretch : Stretch) (rows : List ByteRow) → IsStretch limits old stretch rows
-      → IsStretch limits new stretch rows) → (stretches : List Stretch) (lists : List (List ByteRow))
-      → AreStretches limits old stretches lists
-      → AreStretches limits new stretches lists
-  each_stretch old new moves [] [] are = tt
-  each_stretch old new moves [] (rows ∷ lists) are = absurd are
-  each_stretch old new moves (stretch ∷ stretches) [] are = absurd are
-  each_stretch old new moves (stretch ∷ stretches) (rows ∷ lists) are =
-      (moves stretch rows are.0, each_stretch old new moves stretches lists are.1)
-
-  -- one stretch more
-  stretches_with : (parts : List PartRead) (stretches : List Stretch) (lists : List (List ByteRow)) (last : Stretch) (rows : List ByteRow)
-      → AreStretches limits parts stretches lists → IsStretch limits parts last rows
-      → AreStretches limits parts (stretches ++ last ∷ []) (lists ++ rows ∷ [])
-  stretches_with parts [] [] last rows are it = (it, tt)
-  stretches_with parts [] (first ∷ lists) last rows are it = absurd are
-  stretches_with parts (stretch ∷ stretches) [] last rows are it = absurd are
-  stretches_with parts (stretch ∷ stretches) (first ∷ lists) last rows are it =
-      (are.0, stretches_with parts stretches lists last rows are.1 it)
-
-  -- a part more, of which nothing came
-  pub stretches_begun : (parts : List PartRead) (part : PartRead) (stretches : List Stretch) (lists : List (List ByteRow))
-      → AreStretches limits parts stretches lists → AreStretches limits (parts ++ part ∷ []) stretches lists
-  stretches_begun parts part stretches lists are =
-      each_stretch parts (parts ++ part ∷ []) (λ stretch rows it. record {
-        part = it.part;
-        is = before_last parts part stretch.part it.part it.is;
-        more = it.more;
-        stands = it.stands;
-      }) stretches lists are
-
-  -- a fact more
-  stretches_with_fact : (parts : List PartRead) (part : PartRead) (fact : FactValue) (stretches : List Stretch)
-      (lists : List (List ByteRow)) → AreStretches limits (parts ++ part ∷ []) stretches lists
-      → AreStretches limits (parts ++ with_fact part fact ∷ []) stretches lists
-  stretches_with_fact parts part fact stretches lists are =
-      each_stretch (parts ++ part ∷ []) (parts ++ with_fact part fact ∷ []) (stretch_moves parts part (with_fact part fact)
-      (λ stretch rows more stands. (
-        more ++ only (object_row part.ids fact),
-        stands_with_fact limits part fact stretch rows more stands,
-      ))) stretches lists are
-
-  stretches_with_bytes : (parts : List PartRead) (part : PartRead) (extra : List ℕ) (stretches : List Stretch)
-      (lists : List (List ByteRow)) → AreStretches limits (parts ++ part ∷ []) stretches lists
-      → AreStretches limits (parts ++ with_bytes part extra ∷ []) stretches lists
-  stretches_with_bytes parts part extra stretches lists are =
-      each_stretch (parts ++ part ∷ []) (parts ++ with_bytes part extra ∷ []) (stretch_moves parts part (with_bytes part extra)
-      (λ stretch rows more stands. (more, stands_with_bytes limits part extra stretch rows more stands))) stretches lists are
+use Rattle.hprof_objects.proofs.StretchesMoved.{at_end, stretches_with, stretches_with_bytes, stretches_with_fact}
 
 -- ---- rows that move
 
@@ -150,10 +62,11 @@ kept memory runs lists grown row (inr (inr (inr h))) a b c d = d h
 module _ {S : Type 0} (written : S → Option (List ℕ)) (health : S → Health) (limits : Limits) (parts : List PartRead) (part : PartRead)
     (number : ℕ) where
   -- what is kept of a part, of which a fact came that is no object
-  pub keeps_other : (fact : FactValue) (memory : List ByteRow) (scratch : Runs S) (stays : List Stretch) (growing : Option Growing)
-      → object_row part.ids fact ≡ None → Keeps written health limits parts part number memory scratch stays growing
-      → Keeps written health limits parts (with_fact part fact) number memory scratch stays growing
-  keeps_other fact memory scratch stays growing none it = record {
+  pub keeps_other : (fact : FactValue) (memory : List ByteRow) (scratch : Runs S) (stays : List Stretch) (cuts : List Cut)
+      (cut : Option OpenCut) (growing : Option Growing)
+      → object_row part.ids fact ≡ None → Keeps written health limits parts part number memory scratch stays cuts cut growing
+      → Keeps written health limits parts (with_fact part fact) number memory scratch stays cuts cut growing
+  keeps_other fact memory scratch stays cuts cut growing none it = record {
     numbered = it.numbered;
     runs = it.runs;
     are_runs = it.are_runs;
@@ -162,6 +75,7 @@ module _ {S : Type 0} (written : S → Option (List ℕ)) (health : S → Health
     grown = it.grown;
     grows = grows growing it.grown it.grows;
     enough = subst (λ (rows : List ByteRow). IsEnough rows (IsKept memory it.runs it.lists it.grown)) (sym same) it.enough;
+    cut = cut_with_other limits parts part fact cuts (all_rows it.lists) cut growing it.grown none it.cut;
   }
     where
       grows : (g : Option Growing) (rows : List ByteRow) → IsGrowingIn limits number part g memory rows
@@ -171,6 +85,7 @@ module _ {S : Type 0} (written : S → Option (List ℕ)) (health : S → Health
         of_part = is.of_part;
         stands = subst (λ (more : List ByteRow). StandsIn limits (with_fact part fact) g.stretch rows more) (ap only none)
             (stands_with_fact limits part fact g.stretch rows [] is.stands);
+        first = is.first;
         last = is.last;
         at = is.at;
       }
@@ -182,10 +97,11 @@ module _ {S : Type 0} (written : S → Option (List ℕ)) (health : S → Health
           ∙ append-nil (rows_of_parts (parts ++ part ∷ [])))
 
   -- and of which bytes came
-  pub keeps_bytes : (extra : List ℕ) (memory : List ByteRow) (scratch : Runs S) (stays : List Stretch) (growing : Option Growing)
-      → Keeps written health limits parts part number memory scratch stays growing
-      → Keeps written health limits parts (with_bytes part extra) number memory scratch stays growing
-  keeps_bytes extra memory scratch stays growing it = record {
+  pub keeps_bytes : (extra : List ℕ) (memory : List ByteRow) (scratch : Runs S) (stays : List Stretch) (cuts : List Cut)
+      (cut : Option OpenCut) (growing : Option Growing)
+      → Keeps written health limits parts part number memory scratch stays cuts cut growing
+      → Keeps written health limits parts (with_bytes part extra) number memory scratch stays cuts cut growing
+  keeps_bytes extra memory scratch stays cuts cut growing it = record {
     numbered = it.numbered;
     runs = it.runs;
     are_runs = it.are_runs;
@@ -194,6 +110,7 @@ module _ {S : Type 0} (written : S → Option (List ℕ)) (health : S → Health
     grown = it.grown;
     grows = grows growing it.grown it.grows;
     enough = subst (λ (rows : List ByteRow). IsEnough rows (IsKept memory it.runs it.lists it.grown)) (sym same) it.enough;
+    cut = cut_with_bytes limits parts part extra cuts (all_rows it.lists) cut growing it.grown it.cut;
   }
     where
       grows : (g : Option Growing) (rows : List ByteRow) → IsGrowingIn limits number part g memory rows
@@ -202,6 +119,7 @@ module _ {S : Type 0} (written : S → Option (List ℕ)) (health : S → Health
       grows (Some g) rows is = record {
         of_part = is.of_part;
         stands = stands_with_bytes limits part extra g.stretch rows [] is.stands;
+        first = is.first;
         last = is.last;
         at = is.at;
       }
@@ -212,10 +130,11 @@ module _ {S : Type 0} (written : S → Option (List ℕ)) (health : S → Health
   -- ---- the growing stretch ends
 
   -- its rows are in memory
-  pub keeps_forgotten : (memory : List ByteRow) (scratch : Runs S) (stays : List Stretch) (growing : Growing) (from : ℕ)
-      → growing.stands ≡ InMemory from → Keeps written health limits parts part number memory scratch stays (Some growing)
-      → Keeps written health limits parts part number memory scratch stays None
-  keeps_forgotten memory scratch stays growing from stands it = record {
+  pub keeps_forgotten : (memory : List ByteRow) (scratch : Runs S) (stays : List Stretch) (cuts : List Cut) (cut : Option OpenCut)
+      (growing : Growing) (from : ℕ)
+      → growing.stands ≡ InMemory from → Keeps written health limits parts part number memory scratch stays cuts cut (Some growing)
+      → Keeps written health limits parts part number memory scratch stays cuts cut None
+  keeps_forgotten memory scratch stays cuts cut growing from stands it = record {
     numbered = it.numbered;
     runs = it.runs;
     are_runs = it.are_runs;
@@ -227,6 +146,8 @@ module _ {S : Type 0} (written : S → Option (List ℕ)) (health : S → Health
         it.enough (λ row h. kept memory it.runs it.lists it.grown row h inl (λ b. inr (inl b)) (λ c. inr (inr (inl c))) (λ d. inl
         (inside row d)))
         (λ row h. kept memory it.runs it.lists [] row h inl (λ b. inr (inl b)) (λ c. inr (inr (inl c))) (λ d. absurd d));
+    cut = subst (λ (s : Stands). AreCutStanding limits (parts ++ part ∷ []) part cuts (all_rows it.lists) s cut growing it.grown) stands
+        it.cut;
   }
     where
       inside : (row : ByteRow) → Has it.grown row → Has memory row
@@ -235,10 +156,12 @@ module _ {S : Type 0} (written : S → Option (List ℕ)) (health : S → Health
           subst (λ (l : List ByteRow). Has l row) (sym at.1) (has_back at.0 it.grown row h)
 
   -- it stays in the part
-  pub keeps_closed : (memory : List ByteRow) (scratch : Runs S) (stays : List Stretch) (growing : Growing)
-      → Keeps written health limits parts part number memory scratch stays (Some growing)
-      → Keeps written health limits parts part number memory scratch (stays ++ growing.stretch ∷ []) None
-  keeps_closed memory scratch stays growing it = record {
+  keeps_closed : (memory : List ByteRow) (scratch : Runs S) (stays : List Stretch) (cuts : List Cut) (cut after : Option OpenCut)
+      (growing : Growing) → growing.stands ≡ InPart
+      → Keeps written health limits parts part number memory scratch stays cuts cut (Some growing)
+      → Keeps written health limits parts part number memory scratch (stays ++ growing.stretch ∷ [])
+      (cuts ++ cut_staying InPart cut growing) after None
+  keeps_closed memory scratch stays cuts cut after growing stands it = record {
     numbered = it.numbered;
     runs = it.runs;
     are_runs = it.are_runs;
@@ -261,23 +184,49 @@ module _ {S : Type 0} (written : S → Option (List ℕ)) (health : S → Health
           | inl front ↦ inr (inr (inl front))
           | inr back ↦ inr (inr (inr (alone_has it.grown row back)))
         ]) (λ d. absurd d));
+    cut = subst (λ (rows : List ByteRow). CutInto limits (parts ++ part ∷ []) (cuts ++ cut_staying InPart cut growing) rows)
+        (sym (all_rows-with it.lists it.grown))
+        (cut_closed limits parts part number cuts (all_rows it.lists) growing memory it.grown it.numbered it.grows cut
+        (subst (λ (s : Stands). AreCutStanding limits (parts ++ part ∷ []) part cuts (all_rows it.lists) s cut growing it.grown) stands
+        it.cut));
   }
 
-  -- in either case
-  ended_by : (memory : List ByteRow) (scratch : Runs S) (stays : List Stretch) (growing : Growing) (stands : Stands)
-      → growing.stands ≡ stands → Keeps written health limits parts part number memory scratch stays (Some growing)
-      → Keeps written health limits parts part number memory scratch (stays ++ staying_at stands growing.stretch) None
-  ended_by memory scratch stays growing (InMemory from) is it =
-      subst (λ (l : List Stretch). Keeps written health limits parts part number memory scratch l None) (sym (append-nil stays))
-      (keeps_forgotten memory scratch stays growing from is it)
-  ended_by memory scratch stays growing InPart is it = keeps_closed memory scratch stays growing it
+  -- nothing is added
+  nothing_added : (memory : List ByteRow) (scratch : Runs S) (stays : List Stretch) (cuts : List Cut) (cut after : Option OpenCut)
+      → Keeps written health limits parts part number memory scratch stays cuts cut None
+      → Keeps written health limits parts part number memory scratch (stays ++ []) (cuts ++ []) after None
+  nothing_added memory scratch stays cuts cut after it =
+      subst (λ (l : List Stretch). Keeps written health limits parts part number memory scratch l (cuts ++ []) after None)
+      (sym (append-nil stays))
+      (subst (λ (l : List Cut). Keeps written health limits parts part number memory scratch stays l after None) (sym (append-nil cuts))
+      (record {
+        numbered = it.numbered;
+        runs = it.runs;
+        are_runs = it.are_runs;
+        lists = it.lists;
+        are_stretches = it.are_stretches;
+        grown = it.grown;
+        grows = it.grows;
+        enough = it.enough;
+        cut = it.cut;
+      }))
 
-  pub keeps_ended : (memory : List ByteRow) (scratch : Runs S) (stays : List Stretch) (growing : Option Growing)
-      → Keeps written health limits parts part number memory scratch stays growing
-      → Keeps written health limits parts part number memory scratch (stays ++ staying growing) None
-  keeps_ended memory scratch stays None it =
-      subst (λ (l : List Stretch). Keeps written health limits parts part number memory scratch l None) (sym (append-nil stays)) it
-  keeps_ended memory scratch stays (Some growing) it = ended_by memory scratch stays growing growing.stands refl it
+  -- in either case
+  ended_by : (memory : List ByteRow) (scratch : Runs S) (stays : List Stretch) (cuts : List Cut) (cut after : Option OpenCut)
+      (growing : Growing) (stands : Stands) → growing.stands ≡ stands
+      → Keeps written health limits parts part number memory scratch stays cuts cut (Some growing)
+      → Keeps written health limits parts part number memory scratch (stays ++ staying_at stands growing.stretch)
+      (cuts ++ cut_staying stands cut growing) after None
+  ended_by memory scratch stays cuts cut after growing (InMemory from) is it =
+      nothing_added memory scratch stays cuts cut after (keeps_forgotten memory scratch stays cuts cut growing from is it)
+  ended_by memory scratch stays cuts cut after growing InPart is it = keeps_closed memory scratch stays cuts cut after growing is it
+
+  pub keeps_ended : (memory : List ByteRow) (scratch : Runs S) (stays : List Stretch) (cuts : List Cut) (cut after : Option OpenCut)
+      (growing : Option Growing) → Keeps written health limits parts part number memory scratch stays cuts cut growing
+      → Keeps written health limits parts part number memory scratch (stays ++ staying growing) (cuts ++ last_cut growing cut) after None
+  keeps_ended memory scratch stays cuts cut after None it = nothing_added memory scratch stays cuts cut after it
+  keeps_ended memory scratch stays cuts cut after (Some growing) it =
+      ended_by memory scratch stays cuts cut after growing growing.stands refl it
 
   -- ---- an object comes
 
@@ -289,10 +238,11 @@ module _ {S : Type 0} (written : S → Option (List ℕ)) (health : S → Health
 
   -- it stands behind the others in memory
   pub keeps_pushed : (fact : FactValue) (row : ByteRow) (memory after : List ByteRow) (scratch next : Runs S) (stays : List Stretch)
+      (cuts : List Cut) (cut : Option OpenCut)
       → object_row part.ids fact ≡ Some row → after ≡ memory ++ row ∷ [] → KeepsRuns written health scratch next
-      → Keeps written health limits parts part number memory scratch stays None
-      → Keeps written health limits parts (with_fact part fact) number after next stays None
-  keeps_pushed fact row memory after scratch next stays object pushed stay it = record {
+      → Keeps written health limits parts part number memory scratch stays cuts cut None
+      → Keeps written health limits parts (with_fact part fact) number after next stays cuts cut None
+  keeps_pushed fact row memory after scratch next stays cuts cut object pushed stay it = record {
     numbered = it.numbered;
     runs = it.runs;
     are_runs = stay it.runs it.are_runs;
@@ -310,6 +260,7 @@ module _ {S : Type 0} (written : S → Option (List ℕ)) (health : S → Health
           | inl old ↦ inl (inl old)
           | inr is ↦ inr is
         ]) (λ b. inl (inr (inl b))) (λ c. inl (inr (inr (inl c)))) (λ d. absurd d)));
+    cut = into_with_fact limits parts part fact cuts (all_rows it.lists) it.cut;
   }
     where
       none : (r : ByteRow) → Has it.grown r → ⊥
@@ -317,10 +268,11 @@ module _ {S : Type 0} (written : S → Option (List ℕ)) (health : S → Health
 
   -- it is alone in memory, since the others went to scratch
   pub keeps_spilled : (fact : FactValue) (row : ByteRow) (memory after : List ByteRow) (scratch next : Runs S) (stays : List Stretch)
+      (cuts : List Cut) (cut : Option OpenCut)
       → object_row part.ids fact ≡ Some row → after ≡ row ∷ [] → Spills written health memory scratch next
-      → Keeps written health limits parts part number memory scratch stays None
-      → Keeps written health limits parts (with_fact part fact) number after next stays None
-  keeps_spilled fact row memory after scratch next stays object alone spill it = record {
+      → Keeps written health limits parts part number memory scratch stays cuts cut None
+      → Keeps written health limits parts (with_fact part fact) number after next stays cuts cut None
+  keeps_spilled fact row memory after scratch next stays cuts cut object alone spill it = record {
     numbered = it.numbered;
     runs = it.runs ++ spill.lists;
     are_runs = spill.adds it.runs it.are_runs;
@@ -339,6 +291,7 @@ module _ {S : Type 0} (written : S → Option (List ℕ)) (health : S → Health
           | inl is ↦ inr is
           | inr never ↦ absurd never
         ]) (λ b. inl (inr (inl b))) (λ c. inl (inr (inr (inl c)))) (λ d. absurd d)));
+    cut = into_with_fact limits parts part fact cuts (all_rows it.lists) it.cut;
   }
     where
       none : (r : ByteRow) → Has it.grown r → ⊥
@@ -371,11 +324,12 @@ module _ {S : Type 0} (written : S → Option (List ℕ)) (health : S → Health
   -- ---- a stretch grows
 
   -- its rows are the last ones in memory
-  pub keeps_growing : (memory : List ByteRow) (scratch : Runs S) (stays : List Stretch) (growing : Growing) (from : ℕ)
+  pub keeps_growing : (memory : List ByteRow) (scratch : Runs S) (stays : List Stretch) (cuts : List Cut) (cut after : Option OpenCut)
+      (growing : Growing) (from : ℕ)
       (grown : List ByteRow) → growing.stands ≡ InMemory from → IsGrowingStretch limits number part growing memory grown
-      → Keeps written health limits parts part number memory scratch stays None
-      → Keeps written health limits parts part number memory scratch stays (Some growing)
-  keeps_growing memory scratch stays growing from grown stands grows it = record {
+      → Keeps written health limits parts part number memory scratch stays cuts cut None
+      → Keeps written health limits parts part number memory scratch stays cuts after (Some growing)
+  keeps_growing memory scratch stays cuts cut after growing from grown stands grows it = record {
     numbered = it.numbered;
     runs = it.runs;
     are_runs = it.are_runs;
@@ -387,6 +341,8 @@ module _ {S : Type 0} (written : S → Option (List ℕ)) (health : S → Health
         (IsKept memory it.runs it.lists grown) it.enough
         (λ r h. kept memory it.runs it.lists it.grown r h inl (λ b. inr (inl b)) (λ c. inr (inr (inl c))) (λ d. absurd (none r d)))
         (λ r h. kept memory it.runs it.lists grown r h inl (λ b. inr (inl b)) (λ c. inr (inr (inl c))) (λ d. inl (inside r d)));
+    cut = subst (λ (s : Stands). AreCutStanding limits (parts ++ part ∷ []) part cuts (all_rows it.lists) s after growing grown)
+        (sym stands) it.cut;
   }
     where
       none : (r : ByteRow) → Has it.grown r → ⊥
@@ -398,12 +354,12 @@ module _ {S : Type 0} (written : S → Option (List ℕ)) (health : S → Health
           subst (λ (l : List ByteRow). Has l r) (sym at.1) (has_back at.0 grown r h)
 
   -- its rows leave the memory, since it stays in the part
-  pub keeps_staying : (memory front : List ByteRow) (scratch : Runs S) (stays : List Stretch) (growing next : Growing) (from : ℕ)
-      (grown : List ByteRow) → growing.stands ≡ InMemory from → next.stands ≡ InPart → next.stretch ≡ growing.stretch
-      → next.last ≡ growing.last → memory ≡ front ++ grown → IsGrowingStretch limits number part growing memory grown
-      → Keeps written health limits parts part number memory scratch stays None
-      → Keeps written health limits parts part number front scratch stays (Some next)
-  keeps_staying memory front scratch stays growing next from grown stands in_part same_stretch same_last cut grows it = record {
+  pub keeps_staying : (memory front : List ByteRow) (scratch : Runs S) (stays : List Stretch) (cuts : List Cut) (cut : Option OpenCut)
+      (growing : Growing) (from : ℕ) (grown : List ByteRow) → growing.stands ≡ InMemory from → memory ≡ front ++ grown
+      → IsGrowingStretch limits number part growing memory grown
+      → Keeps written health limits parts part number memory scratch stays cuts cut None
+      → Keeps written health limits parts part number front scratch stays cuts (Some (whole_cut growing)) (Some (grown_in_part growing))
+  keeps_staying memory front scratch stays cuts cut growing from grown stands parted grows it = record {
     numbered = it.numbered;
     runs = it.runs;
     are_runs = it.are_runs;
@@ -411,33 +367,39 @@ module _ {S : Type 0} (written : S → Option (List ℕ)) (health : S → Health
     are_stretches = it.are_stretches;
     grown = grown;
     grows = record {
-      of_part = ap (λ (s : Stretch). s.part) same_stretch ∙ grows.of_part;
-      stands = subst (λ (s : Stretch). StandsIn limits part s grown []) (sym same_stretch) grows.stands;
-      last = subst (λ (n : ℕ). EndsAt grown n) (sym same_last) grows.last;
-      at = subst (λ (s : Stands). StandAt s grown front) (sym in_part) tt;
+      of_part = grows.of_part;
+      stands = grows.stands;
+      first = grows.first;
+      last = grows.last;
+      at = tt;
     };
     enough = enough_moved (rows_of_parts (parts ++ part ∷ [])) (IsKept memory it.runs it.lists it.grown)
         (IsKept front it.runs it.lists grown) it.enough
         (λ r h. kept memory it.runs it.lists it.grown r h
-        (λ a. elim (has_parts front grown r (subst (λ (l : List ByteRow). Has l r) cut a)) [
+        (λ a. elim (has_parts front grown r (subst (λ (l : List ByteRow). Has l r) parted a)) [
           | inl first ↦ inl first
           | inr rest ↦ inr (inr (inr rest))
         ]) (λ b. inr (inl b)) (λ c. inr (inr (inl c))) (λ d. absurd (none r d)))
         (λ r h. kept front it.runs it.lists grown r h
-        (λ a. inl (subst (λ (l : List ByteRow). Has l r) (sym cut) (has_front front grown r a))) (λ b. inr (inl b)) (λ c. inr (inr (inl c)))
-        (λ d. inl (subst (λ (l : List ByteRow). Has l r) (sym cut) (has_back front grown r d))));
+        (λ a. inl (subst (λ (l : List ByteRow). Has l r) (sym parted) (has_front front grown r a))) (λ b. inr (inl b))
+        (λ c. inr (inr (inl c))) (λ d. inl (subst (λ (l : List ByteRow). Has l r) (sym parted) (has_back front grown r d))));
+    cut = cut_first limits parts part number cuts (all_rows it.lists) growing memory grown it.numbered grows it.cut;
   }
     where
       none : (r : ByteRow) → Has it.grown r → ⊥
       none r h = subst (λ (l : List ByteRow). Has l r) it.grows h
 
-  -- an object behind those that stay in the part
-  pub keeps_extended : (fact : FactValue) (row : ByteRow) (memory : List ByteRow) (scratch : Runs S) (stays : List Stretch)
-      (growing : Growing)
-      (len : ℕ) → object_row part.ids fact ≡ Some row → growing.last < row.0 → growing.stands ≡ InPart
-      → Keeps written health limits parts part number memory scratch stays (Some growing)
-      → Keeps written health limits parts (with_fact part fact) number memory scratch stays (Some (extended growing row.0 len))
-  keeps_extended fact row memory scratch stays growing len object above in_part it = record {
+  -- an object behind those that stay in the part; its cuts are told by the caller
+  grown_by : (fact : FactValue) (row : ByteRow) (memory : List ByteRow) (scratch : Runs S) (stays : List Stretch) (cuts more : List Cut)
+      (cut after : Option OpenCut) (growing : Growing) (len : ℕ) → object_row part.ids fact ≡ Some row → growing.last < row.0
+      → growing.stands ≡ InPart
+      → ((rows grown : List ByteRow) → number ≡ length parts → IsGrowingStretch limits number part growing memory grown
+      → AreCutStanding limits (parts ++ part ∷ []) part cuts rows InPart cut growing grown
+      → AreCutStanding limits (parts ++ with_fact part fact ∷ []) (with_fact part fact) more rows InPart after
+      (extended growing row.0 len) (grown ++ row ∷ []))
+      → Keeps written health limits parts part number memory scratch stays cuts cut (Some growing)
+      → Keeps written health limits parts (with_fact part fact) number memory scratch stays more after (Some (extended growing row.0 len))
+  grown_by fact row memory scratch stays cuts more cut after growing len object above in_part are_cut it = record {
     numbered = it.numbered;
     runs = it.runs;
     are_runs = it.are_runs;
@@ -447,6 +409,7 @@ module _ {S : Type 0} (written : S → Option (List ℕ)) (health : S → Health
     grows = record {
       of_part = it.grows.of_part;
       stands = grown_stands;
+      first = (it.grows.first.0, it.grows.first.1 ++ row ∷ [], ap (λ (l : List ByteRow). l ++ row ∷ []) it.grows.first.2);
       last = (it.grown, row.1, refl);
       at = subst (λ (s : Stands). StandAt s (it.grown ++ row ∷ []) memory) (sym in_part) tt;
     };
@@ -462,6 +425,11 @@ module _ {S : Type 0} (written : S → Option (List ℕ)) (health : S → Health
           | inl old ↦ inl (inr (inr (inr old)))
           | inr is ↦ inr is
         ])));
+    cut = subst (λ (s : Stands). AreCutStanding limits (parts ++ with_fact part fact ∷ []) (with_fact part fact) more (all_rows it.lists) s
+        after (extended growing row.0 len) (it.grown ++ row ∷ [])) (sym in_part)
+        (are_cut (all_rows it.lists) it.grown it.numbered it.grows
+        (subst (λ (s : Stands). AreCutStanding limits (parts ++ part ∷ []) part cuts (all_rows it.lists) s cut growing it.grown) in_part
+        it.cut));
   }
     where
       grown_stands : StandsIn limits (with_fact part fact) (longer growing.stretch) (it.grown ++ row ∷ []) []
@@ -470,3 +438,25 @@ module _ {S : Type 0} (written : S → Option (List ℕ)) (health : S → Health
           (subst (λ (more : List ByteRow). StandsIn limits (with_fact part fact) growing.stretch it.grown more) (ap only object)
           (stands_with_fact limits part fact growing.stretch it.grown [] it.grows.stands))
           (all_below growing.last it.grown row.0 it.grows.stands.ascend it.grows.last above)
+
+  -- the object is one more of the last cut
+  pub keeps_extended : (fact : FactValue) (row : ByteRow) (memory : List ByteRow) (scratch : Runs S) (stays : List Stretch)
+      (cuts : List Cut) (cut : Option OpenCut) (growing : Growing) (len : ℕ) → object_row part.ids fact ≡ Some row
+      → growing.last < row.0 → growing.stands ≡ InPart
+      → Keeps written health limits parts part number memory scratch stays cuts cut (Some growing)
+      → Keeps written health limits parts (with_fact part fact) number memory scratch stays cuts cut (Some (extended growing row.0 len))
+  keeps_extended fact row memory scratch stays cuts cut growing len object above in_part it =
+      grown_by fact row memory scratch stays cuts cuts cut cut growing len object above in_part (λ rows grown numbered grows cut_so_far.
+      cut_extended limits parts part number cuts rows growing memory grown numbered grows fact row len object above cut cut_so_far) it
+
+  -- it begins another cut
+  pub keeps_cut : (fact : FactValue) (row : ByteRow) (memory : List ByteRow) (scratch : Runs S) (stays : List Stretch) (cuts : List Cut)
+      (cut : OpenCut) (growing : Growing) (piece : Piece) (len : ℕ) → object_row part.ids fact ≡ Some row → growing.last < row.0
+      → growing.stands ≡ InPart → IsPiece limits part piece
+      → Keeps written health limits parts part number memory scratch stays cuts (Some cut) (Some growing)
+      → Keeps written health limits parts (with_fact part fact) number memory scratch stays (cuts ++ cut_of cut growing ∷ [])
+      (Some (cut_behind growing piece row.0)) (Some (extended growing row.0 len))
+  keeps_cut fact row memory scratch stays cuts cut growing piece len object above in_part is it =
+      grown_by fact row memory scratch stays cuts (cuts ++ cut_of cut growing ∷ []) (Some cut) (Some (cut_behind growing piece row.0))
+      growing len object above in_part (λ rows grown numbered grows cut_so_far.
+      cut_more limits parts part number cuts rows growing memory grown numbered grows cut cut_so_far fact row len object above piece is) it

@@ -1,6 +1,6 @@
 -- Objects that are stored as one stretch.
 use Rattle.std.proofs.Common.{◌≡◌, ◌≤◌, ◌++◌, ℕ, zero, suc, List, [], ◌∷◌, length, Option, Some, None, refl, sym, ap, subst}
-use Rattle.std.proofs.Common.{◌∙◌, arith}
+use Rattle.std.proofs.Common.{◌∙◌, append-nil, arith}
 use Rattle.std.specs.Prelude.{slice_get}
 use Rattle.hprof_devices.specs.declared.health.Health.{Health}
 use Rattle.hprof_stream.specs.declared.limits.Limits.{Limits}
@@ -12,6 +12,7 @@ use Rattle.hprof_runs.specs.RowsIn.{sorted_in}
 use Rattle.hprof_runs.proofs.Added.{runs_count}
 use Rattle.hprof_objects.specs.declared.stored_objects.StoredObjects.{StoredObjects}
 use Rattle.hprof_objects.specs.declared.stretch.Stretch.{Stretch}
+use Rattle.hprof_objects.specs.Cuts.{all_rows}
 use Rattle.hprof_objects.specs.PartsRead.{PartRead}
 use Rattle.hprof_objects.specs.StoredObjects.{HoldsObjects, IsOneStretch, objects_of}
 use Rattle.hprof_objects.specs.Stretches.{AreStretches}
@@ -46,18 +47,19 @@ no_list : (lists : List (List ByteRow)) → length lists ≡ 0 → lists ≡ []
 no_list [] none = refl
 no_list (rows ∷ lists) none = absurd (omega (arith, none))
 
+-- they are those of all lists
 one_union : (limits : Limits) (reads : List PartRead) (list : List Stretch) (lists : List (List ByteRow))
     → AreStretches limits reads list lists → length list ≤ 1
-    → (rows : List ByteRow) × IsUnion ([] ∷ lists) rows × (first_count list ≡ length rows)
+    → IsUnion ([] ∷ lists) (all_rows lists) × (first_count list ≡ length (all_rows lists))
 one_union limits reads [] [] are few =
-    ([], record { ascends = tt; same = λ row. ((λ has. absurd has), (λ any. in_none row any.0 any.1)) }, refl)
+    (record { ascends = tt; same = λ row. ((λ has. absurd has), (λ any. in_none row any.0 any.1)) }, refl)
 one_union limits reads [] (rows ∷ lists) are few = absurd are
 one_union limits reads (one ∷ list) [] are few = absurd are
-one_union limits reads (one ∷ []) (rows ∷ []) are few = (
-  rows,
-  record { ascends = are.0.stands.ascend; same = λ row. ((λ has. (1, has)), (λ any. in_it rows row any.0 any.1)) },
-  are.0.stands.count,
-)
+one_union limits reads (one ∷ []) (rows ∷ []) are few =
+    subst (λ (l : List ByteRow). IsUnion ([] ∷ rows ∷ []) l × (one.count ≡ length l)) (sym (append-nil rows)) (
+      record { ascends = are.0.stands.ascend; same = λ row. ((λ has. (1, has)), (λ any. in_it rows row any.0 any.1)) },
+      are.0.stands.count,
+    )
 one_union limits reads (one ∷ []) (rows ∷ other ∷ lists) are few = absurd are.1
 one_union limits reads (one ∷ other ∷ list) lists are few = absurd (omega (arith, few))
 
@@ -65,7 +67,7 @@ one_union limits reads (one ∷ other ∷ list) lists are few = absurd (omega (a
 
 module _ {S : Type 0} (written : S → Option (List ℕ)) (health : S → Health) (limits : Limits) (reads : List PartRead)
     (objects : StoredObjects S) (is : IsOneStretch objects) (holds : HoldsObjects written health limits reads objects) where
-  counted_union : (rows : List ByteRow) × IsUnion (objects_of reads) rows × (first_count objects.stretches.items ≡ length rows)
+  counted_union : IsUnion (objects_of reads) (all_rows holds.lists) × (first_count objects.stretches.items ≡ length (all_rows holds.lists))
   counted_union =
       let runs : holds.runs ≡ [] =
       no_list holds.runs (sym (runs_count holds.are_runs.all objects.runs.runs.items holds.runs holds.are_runs.each) ∙ is.no_runs) in
@@ -73,19 +75,22 @@ module _ {S : Type 0} (written : S → Option (List ℕ)) (health : S → Health
       ap (λ (l : List ByteRow). l ∷ (holds.runs ++ holds.lists)) is.no_rows
       ∙ ap (λ (l : List (List ByteRow)). [] ∷ (l ++ holds.lists)) runs in
       let it = one_union limits reads objects.stretches.items holds.lists holds.are_stretches is.one in (
-        it.0,
-        (enough_union (objects_of reads) (sorted_in objects.rows ∷ (holds.runs ++ holds.lists)) holds.enough it.0).1
-            (subst (λ (l : List (List ByteRow)). IsUnion l it.0) (sym lists) it.1),
-        it.2,
+        (enough_union (objects_of reads) (sorted_in objects.rows ∷ (holds.runs ++ holds.lists)) holds.enough (all_rows holds.lists)).1
+            (subst (λ (l : List (List ByteRow)). IsUnion l (all_rows holds.lists)) (sym lists) it.0),
+        it.1,
       )
 
+  -- the rows of the stretch
+  pub rows_union : IsUnion (objects_of reads) (all_rows holds.lists)
+  rows_union = counted_union.0
+
   pub stretch_union : (rows : List ByteRow) × IsUnion (objects_of reads) rows
-  stretch_union = (counted_union.0, counted_union.1)
+  stretch_union = (all_rows holds.lists, rows_union)
 
   pub stretch_count : (rows : List ByteRow) → IsUnion (objects_of reads) rows → first_count objects.stretches.items ≡ length rows
   stretch_count rows union =
-      let it = counted_union in it.2 ∙ ap length (union_unique (objects_of reads) it.0 rows it.1 union)
+      counted_union.1 ∙ ap length (union_unique (objects_of reads) (all_rows holds.lists) rows rows_union union)
 
   -- no identifier has two contents
   pub one_stretch_apart : (key : ℕ) → HasTwoContents (objects_of reads) key → ⊥
-  one_stretch_apart key two = union_apart (objects_of reads) counted_union.0 key counted_union.1 two
+  one_stretch_apart key two = union_apart (objects_of reads) (all_rows holds.lists) key rows_union two

@@ -16,7 +16,7 @@ use Rattle.hprof_objects.specs.Stretches.{EndsAt, IsPiece, IsPlaceIn, StandsIn}
 use Rattle.hprof_objects.proofs.Rows.{object_rows-append}
 
 -- the last of ascending rows is the highest
-at_most_last : (before : List ByteRow) (last : ByteRow) → IsAscending (before ++ last ∷ []) → (row : ByteRow)
+pub at_most_last : (before : List ByteRow) (last : ByteRow) → IsAscending (before ++ last ∷ []) → (row : ByteRow)
     → Has (before ++ last ∷ []) row
     → row.0 ≤ last.0
 at_most_last [] last up row (inl is) = subst (λ (r : ByteRow). r.0 ≤ last.0) (sym is) (omega arith)

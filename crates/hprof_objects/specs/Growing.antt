@@ -15,6 +15,7 @@ longer stretch = record { part = stretch.part; place = stretch.place; passed = s
 abbrev pub extended : Growing → ℕ → ℕ → Growing
 extended growing id len = record {
   stretch = longer growing.stretch;
+  first = growing.first;
   last = id;
   size = min (growing.size + len) (2 ^ 64 - 1);
   stands = growing.stands;
@@ -24,6 +25,7 @@ extended growing id len = record {
 abbrev pub grown_first : (part : ℕ) (piece : Piece) (id len from : ℕ) → Growing
 grown_first part piece id len from = record {
   stretch = record { part = part; place = piece.place; passed = piece.passed; count = 1 };
+  first = id;
   last = id;
   size = len;
   stands = InMemory from;
@@ -31,7 +33,13 @@ grown_first part piece id len from = record {
 
 -- a stretch as one that stays in its part
 abbrev pub grown_in_part : Growing → Growing
-grown_in_part growing = record { stretch = growing.stretch; last = growing.last; size = growing.size; stands = InPart }
+grown_in_part growing = record {
+  stretch = growing.stretch;
+  first = growing.first;
+  last = growing.last;
+  size = growing.size;
+  stands = InPart;
+}
 
 -- the stretch alone, if it stays in its part
 abbrev pub staying_at : Stands → Stretch → List Stretch

@@ -3,6 +3,7 @@ pub mod PartsRead
 pub mod Enough
 pub mod Growing
 pub mod Stretches
+pub mod Cuts
 pub mod Whole
 pub mod Store
 pub mod Reserved
@@ -14,3 +15,7 @@ pub mod StretchKnown
 pub mod StoredObjects
 pub mod MergedObjects
 pub mod ObjectCursors
+pub mod Wanted
+pub mod PickingSink
+pub mod Picks
+pub mod PickedCuts

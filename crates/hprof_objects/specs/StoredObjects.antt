@@ -7,6 +7,7 @@ use Rattle.hprof_merge.specs.TwoContents.{HasEnoughOf}
 use Rattle.hprof_runs.specs.Runs.{HoldsRuns, run_count, scratch_of}
 use Rattle.hprof_runs.specs.RowsIn.{sorted_in}
 use Rattle.hprof_objects.specs.declared.stored_objects.StoredObjects.{StoredObjects}
+use Rattle.hprof_objects.specs.Cuts.{CutInto, all_rows}
 use Rattle.hprof_objects.specs.PartsRead.{PartRead, rows_of_part}
 use Rattle.hprof_objects.specs.ReadAgain.{IsSameAt}
 use Rattle.hprof_objects.specs.Stretches.{AreStretches}
@@ -26,13 +27,14 @@ pub record IsOneStretch {S : Type 0} (objects : StoredObjects S) : Type 0 where
   pub one : length objects.stretches.items ≤ 1
 
 module _ {S : Type 0} (written : S → Option (List ℕ)) (health : S → Health) (limits : Limits) where
-  -- the rows in memory, the runs and the stretches are enough of the objects of these parts
+  -- the rows in memory, the runs and the stretches are enough of the objects of these parts, and the cuts are those of the stretches
   pub record HoldsObjects (parts : List PartRead) (objects : StoredObjects S) : Type 0 where
     pub runs : List (List ByteRow)
     pub are_runs : HoldsRuns written health objects.runs runs
     pub lists : List (List ByteRow)
     pub are_stretches : AreStretches limits parts objects.stretches.items lists
     pub enough : HasEnoughOf (objects_of parts) (sorted_in objects.rows ∷ (runs ++ lists))
+    pub cut : CutInto limits parts objects.cuts.items (all_rows lists)
 
   -- the same, and each part is the same as when it was read
   --   told: the bytes of each part now, where they are told

@@ -56,6 +56,10 @@ abbrev pub IsPieceOf : Limits → PartRead → Option Piece → Type 0
 IsPieceOf limits part None = ⊤
 IsPieceOf limits part (Some piece) = IsPiece limits part piece
 
+-- the first of the rows has this key
+abbrev pub BeginsAt : List ByteRow → ℕ → Type 0
+BeginsAt rows key = (bytes : List ℕ) × (behind : List ByteRow) × (rows ≡ (key, bytes) ∷ behind)
+
 -- the last of the rows has this key
 abbrev pub EndsAt : List ByteRow → ℕ → Type 0
 EndsAt rows key = (before : List ByteRow) × (bytes : List ℕ) × (rows ≡ before ++ (key, bytes) ∷ [])
@@ -70,6 +74,7 @@ StandAt InPart rows memory = ⊤
 pub record IsGrowingStretch (limits : Limits) (number : ℕ) (part : PartRead) (growing : Growing) (memory rows : List ByteRow) : Type 0 where
   pub of_part : growing.stretch.part ≡ number
   pub stands : StandsIn limits part growing.stretch rows []
+  pub first : BeginsAt rows growing.first
   pub last : EndsAt rows growing.last
   pub at : StandAt growing.stands rows memory
 

@@ -1,6 +1,11 @@
 //! The stretch that goes on.
 
 ghost use Rattle.std.specs.Prelude.{◌≡◌, ◌<◌, ◌-◌, ◌^◌};
+ghost use Rattle.hprof_items.specs.FactValue.{FactValue};
+ghost use Rattle.hprof_stream.specs.declared.limits.Limits.{Limits};
+ghost use Rattle.hprof_objects.specs.Growing.{piece_begun};
+ghost use Rattle.hprof_objects.specs.PartsRead.{PartRead, with_fact};
+ghost use Rattle.hprof_objects.specs.Stretches.{IsPieceOf};
 
 use crate::stretch::Stretch;
 use hprof_stream::PartPlace;
@@ -10,6 +15,31 @@ use hprof_stream::PartPlace;
 pub(crate) struct Piece {
     pub(crate) place: PartPlace,
     pub(crate) passed: u64,
+}
+
+/// Returns the piece that begins at a place, of which no fact was taken.
+pub(crate) fn piece_at(place: Option<PartPlace>) -> Option<Piece>
+    ensures { result ≡ piece_begun place }
+{
+    match place {
+        Some(place) => Some(Piece { place, passed: 0 }),
+        None => None,
+    }
+}
+
+/// Counts one fact more that was taken of the piece. Where they cannot be counted, no stretch may begin behind them.
+#[inline(always)]
+pub(crate) fn pass_one(piece: &mut Option<Piece>)
+    ensures { (limits : Limits) (part : PartRead) (fact : FactValue) → IsPieceOf limits part piece.old
+        → IsPieceOf limits (with_fact part fact) piece.new }
+{
+    if let Some(begun) = piece {
+        if begun.passed < u64::MAX {
+            begun.passed += 1;
+            return;
+        }
+    }
+    *piece = None;
 }
 
 /// Where the objects of a stretch are.
@@ -25,6 +55,8 @@ pub(crate) enum Stands {
 #[derive(Clone, Copy)]
 pub(crate) struct Growing {
     pub(crate) stretch: Stretch,
+    /// The identifier of its first object.
+    pub(crate) first: u64,
     /// The identifier of its last object.
     pub(crate) last: u64,
     /// The number of bytes of its objects. It saturates.
@@ -57,6 +89,7 @@ impl Growing {
                 count: self.stretch.count + 1,
                 ..self.stretch
             },
+            first: self.first,
             last: id,
             size: self.size.saturating_add(len as u64),
             stands: self.stands,
@@ -74,6 +107,7 @@ impl Growing {
                 passed: piece.passed,
                 count: 1,
             },
+            first: id,
             last: id,
             size: len as u64,
             stands: Stands::InMemory(from),

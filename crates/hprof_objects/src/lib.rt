@@ -2,8 +2,13 @@
 //! or in scratch, in sorted runs.
 //!
 //! Begin with [`ObjectLog`], which takes objects, and [`StoredObjects::merge`].
+//!
+//! [`StoredObjects::pick`] gives a few objects by their identifiers. While a stretch that stays in its part is read, it is divided into
+//! cuts: a [`Cut`] begins in some piece of the part, and its first and last identifier are kept. If one stretch has all objects, `pick`
+//! reads only cuts in whose range a wanted identifier is. Otherwise it reads all objects.
 #![tactic(auto)]
 
+mod cut;
 mod growing;
 mod identifying;
 mod keeping;
@@ -12,14 +17,19 @@ mod merging;
 mod next_object;
 mod object_log;
 mod object_stop;
+mod open_cut;
 mod opening;
+mod picking;
+mod picking_sink;
 mod row_store;
 mod stored_objects;
 mod stretch;
 mod stretch_cursor;
 mod stretch_fault;
 pub mod stretch_laws;
+mod wanted;
 
+pub use cut::Cut;
 pub use identifying::object_id;
 pub use keeping::Keeping;
 pub use object_log::ObjectLog;

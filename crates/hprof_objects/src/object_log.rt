@@ -10,12 +10,15 @@ ghost use Rattle.hprof_stream.specs.declared.limits.Limits.{Limits};
 ghost use Rattle.hprof_values.specs.declared.ids.IdSize.{IdSize};
 ghost use Rattle.hprof_objects.specs.ObjectRows.{object_row};
 ghost use Rattle.hprof_objects.specs.PartsRead.{PartRead, part_begun, with_bytes, with_fact};
-ghost use Rattle.hprof_objects.specs.Growing.{piece_begun, staying};
+ghost use Rattle.hprof_objects.specs.Cuts.{last_cut};
+ghost use Rattle.hprof_objects.specs.Growing.{staying};
 ghost use Rattle.hprof_objects.specs.Reserved.{IsReserved, IsReserved-prop};
 ghost use Rattle.hprof_objects.specs.Stretches.{IsPieceOf};
 
-use crate::growing::{Growing, Piece, Stands};
+use crate::cut::Cut;
+use crate::growing::{Growing, Piece, Stands, pass_one, piece_at};
 use crate::keeping::Keeping;
+use crate::open_cut::{OpenCut, is_due, keep_cut};
 use crate::row_store::RowStore;
 use crate::stored_objects::StoredObjects;
 use crate::stretch::Stretch;
@@ -29,6 +32,12 @@ pub struct ObjectLog<S> {
     keeping: Keeping,
     pub(crate) store: RowStore<S>,
     pub(crate) stretches: Vec<Stretch>,
+    /// The cuts of the stretches that stay, but the last one of the growing stretch.
+    pub(crate) cuts: Vec<Cut>,
+    /// The last cut of the growing stretch, if that stays.
+    pub(crate) cut: Option<OpenCut>,
+    /// Whether the next object of the growing stretch begins another cut.
+    due: bool,
     /// The number of the part that is being read.
     pub(crate) part: usize,
     /// The number of stretches that stay in it.
@@ -39,6 +48,9 @@ pub struct ObjectLog<S> {
     // There is room for a growing stretch that stays.
     ghost reserved: { IsReserved growing (vec_len stretches) (vec_capacity stretches) } by { IsReserved-prop growing (vec_len stretches)
         (vec_capacity stretches) },
+    // There is room for its last cut.
+    ghost reserved_cut: { IsReserved growing (vec_len cuts) (vec_capacity cuts) } by { IsReserved-prop growing (vec_len cuts)
+        (vec_capacity cuts) },
 }
 
 /// Adds the growing stretch to those that stay, if it stays. There is room for it.
@@ -58,37 +70,12 @@ fn keep(stretches: &mut Vec<Stretch>, growing: Option<Growing>)
     }
 }
 
-/// Returns the piece that begins at a place, of which no fact was taken.
-fn piece_at(place: Option<PartPlace>) -> Option<Piece>
-    ensures { result ≡ piece_begun place }
-{
-    match place {
-        Some(place) => Some(Piece { place, passed: 0 }),
-        None => None,
-    }
-}
-
-/// Counts one fact more that was taken of the piece. Where they cannot be counted, no stretch may begin behind them.
-#[inline(always)]
-fn pass_one(piece: &mut Option<Piece>)
-    ensures { (limits : Limits) (part : PartRead) (fact : FactValue) → IsPieceOf limits part piece.old
-        → IsPieceOf limits (with_fact part fact) piece.new }
-{
-    if let Some(begun) = piece {
-        if begun.passed < u64::MAX {
-            begun.passed += 1;
-            return;
-        }
-    }
-    *piece = None;
-}
-
 impl<S: Scratch + Drop> ObjectLog<S> {
     ghost use Rattle.hprof_objects.specs.Log.{HasLogged, HoldsParts, IsPlaceNow, KeepsLogged, KeepsUngrown, scratch_of_log};
     ghost use Rattle.hprof_objects.specs.StoredObjects.{HoldsObjects, scratch_under};
     ghost use Rattle.hprof_objects.specs.Store.{StandsLast, rows_of_store};
     ghost use Rattle.hprof_objects.specs.Stretches.{IsGrowingStretch, IsPieceOf};
-    ghost use Rattle.hprof_objects.specs.declared.growing.Stands.TheVariants.{InMemory};
+    ghost use Rattle.hprof_objects.specs.declared.growing.Stands.TheVariants.{InMemory, InPart};
     ghost use Rattle.hprof_merge.specs.Rows.{ByteRow};
 
     /// Returns a log without objects.
@@ -101,6 +88,9 @@ impl<S: Scratch + Drop> ObjectLog<S> {
             keeping,
             store: RowStore::new(alloc, scratch, keeping.memory)?,
             stretches: Vec::new(alloc),
+            cuts: Vec::new(alloc),
+            cut: None,
+            due: false,
             part: 0,
             staying: 0,
             piece: None,
@@ -114,13 +104,17 @@ impl<S: Scratch + Drop> ObjectLog<S> {
             → HasLogged S.written S.health limits parts part self.new }
         ensures none { self.new.growing ≡ None }
         ensures stretches { self.new.stretches.items ≡ self.old.stretches.items ++ staying self.old.growing }
+        ensures cuts { self.new.cuts.items ≡ self.old.cuts.items ++ last_cut self.old.growing self.old.cut }
         ensures store { self.new.store ≡ self.old.store }
         ensures piece { self.new.piece ≡ self.old.piece }
         ensures part { self.new.part ≡ self.old.part }
     {
         let growing = self.growing;
+        let cut = self.cut;
         self.growing = None;
+        self.cut = None;
         keep(&mut self.stretches, growing);
+        keep_cut(&mut self.cuts, growing, cut);
     }
 
     /// Begins the part of that number. The parts before it have come to their ends.
@@ -151,6 +145,7 @@ impl<S: Scratch + Drop> ObjectLog<S> {
             → HasLogged S.written S.health limits parts (with_bytes part more) self.new }
         ensures scratch { scratch_of_log self.new ≡ scratch_of_log self.old }
     {
+        self.due = is_due(self.cut, place);
         self.piece = piece_at(place);
     }
 
@@ -164,15 +159,19 @@ impl<S: Scratch + Drop> ObjectLog<S> {
         let ObjectLog {
             store,
             mut stretches,
+            mut cuts,
             growing,
+            cut,
             ..
         } = self;
         keep(&mut stretches, growing);
+        keep_cut(&mut cuts, growing, cut);
         let RowStore { rows, runs, .. } = store;
         StoredObjects {
             rows: rows.sort(),
             runs,
             stretches,
+            cuts,
         }
     }
 
@@ -186,20 +185,22 @@ impl<S: Scratch + Drop> ObjectLog<S> {
         pass_one(&mut self.piece);
     }
 
-    /// Returns whether a stretch of so many bytes may stay in its part. Then there is room for it.
+    /// Returns whether a stretch of so many bytes may stay in its part. Then there is room for it, and for a cut.
     fn may_stay(&mut self, size: u64) -> bool
         requires { self.old.growing ≡ None }
         ensures room { result ≡ true → vec_len self.new.stretches < vec_capacity self.new.stretches }
+        ensures room_cut { result ≡ true → vec_len self.new.cuts < vec_capacity self.new.cuts }
         ensures none { self.new.growing ≡ None }
         ensures store { self.new.store ≡ self.old.store }
         ensures stretches { self.new.stretches.items ≡ self.old.stretches.items }
+        ensures cuts { self.new.cuts.items ≡ self.old.cuts.items }
         ensures piece { self.new.piece ≡ self.old.piece }
         ensures part { self.new.part ≡ self.old.part }
     {
         if size < self.keeping.stretch || self.staying >= self.keeping.stretches {
             return false;
         }
-        self.stretches.reserve(1).is_ok()
+        self.stretches.reserve(1).is_ok() && self.cuts.reserve(1).is_ok()
     }
 
     /// Goes on with a stretch whose rows are the last ones in memory, from this one on. If it is long enough, it stays in its part, and
@@ -217,6 +218,8 @@ impl<S: Scratch + Drop> ObjectLog<S> {
         if self.may_stay(growing.size) {
             self.store.truncate(from);
             self.staying = self.staying.saturating_add(1);
+            self.cut = Some(OpenCut::whole(&growing));
+            self.due = false;
             self.growing = Some(growing.in_part());
         } else {
             self.growing = Some(growing);
@@ -307,6 +310,35 @@ impl<S: Scratch + Drop> ObjectLog<S> {
         Ok(())
     }
 
+    /// Takes an object behind those of the growing stretch, which stays in its part. The object begins another cut, unless memory for it is
+    /// refused.
+    #[inline(never)]
+    fn cut_at(&mut self, growing: Growing, id: u64, len: usize)
+        requires growing { self.old.growing ≡ Some growing }
+        requires stands { growing.stands ≡ InPart }
+        requires above { growing.last < id }
+        requires count { growing.stretch.count < 2 ^ 64 - 1 }
+        ensures log { (limits : Limits) (parts : List PartRead) (part : PartRead) (fact : FactValue) (bytes : List ℕ)
+            → HasLogged S.written S.health limits parts part self.old → object_row part.ids fact ≡ Some (id, bytes)
+            → KeepsLogged S.written S.health limits parts (with_fact part fact) self.new }
+        ensures store { self.new.store ≡ self.old.store }
+        ensures piece { self.new.piece ≡ self.old.piece }
+    {
+        self.due = false;
+        self.growing = Some(growing.with(id, len));
+        let Some(piece) = self.piece else {
+            return;
+        };
+        let Some(cut) = self.cut else {
+            return;
+        };
+        if self.cuts.reserve(2).is_err() {
+            return;
+        }
+        self.cuts.push_reserved(cut.end(&growing));
+        self.cut = Some(OpenCut::behind(&growing, piece, id));
+    }
+
     /// Takes an object, with the bytes of its sub-record, and does not go on in the piece.
     #[inline(always)]
     fn take_row(&mut self, id: u64, spelled: &[u8]) -> Result<(), ScratchFault>
@@ -318,10 +350,16 @@ impl<S: Scratch + Drop> ObjectLog<S> {
         ensures piece { self.new.piece ≡ self.old.piece }
         ensures health { LeavesScratch result (S.health (scratch_of_log self.new)) }
     {
+        let due = self.due;
         match &mut self.growing {
             Some(growing) if growing.last < id && growing.stretch.count < u64::MAX => {
                 match growing.stands {
                     Stands::InPart => {
+                        if due {
+                            let growing = *growing;
+                            self.cut_at(growing, id, spelled.len());
+                            return Ok(());
+                        }
                         growing.grow(id, spelled.len());
                         Ok(())
                     }

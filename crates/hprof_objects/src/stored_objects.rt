@@ -1,5 +1,6 @@
 //! The objects of parts, where they are stored.
 
+use crate::cut::Cut;
 use crate::stretch::Stretch;
 use hprof_runs::{Runs, SortedRows};
 
@@ -10,4 +11,6 @@ pub struct StoredObjects<S> {
     pub(crate) rows: SortedRows,
     pub(crate) runs: Runs<S>,
     pub(crate) stretches: Vec<Stretch>,
+    /// The cuts of the stretches, one stretch after another.
+    pub(crate) cuts: Vec<Cut>,
 }

@@ -16,6 +16,16 @@ module _ {T : Type 0} (takes : T → IdSize → FactValue → T → Type 0) (ids
   takes_more old mid new [] object same took = (new, subst (λ (t : T). takes t ids object new) (sym same) took, refl)
   takes_more old mid new (first ∷ objects) object took more = (took.0, took.1, takes_more took.0 mid new objects object took.2 more)
 
+  -- some objects, and then others
+  pub takes_both : (old mid new : T) (objects others : List FactValue) → TakesObjects takes ids old objects mid
+      → TakesObjects takes ids mid others new → TakesObjects takes ids old (objects ++ others) new
+  takes_both old mid new [] others same second = subst (λ (t : T). TakesObjects takes ids t others new) (sym same) second
+  takes_both old mid new (first ∷ objects) others took second = (
+    took.0,
+    took.1,
+    takes_both took.0 mid new objects others took.2 second,
+  )
+
   -- the objects before those that are left were taken
   pub record GoesOver (all : List FactValue) (old now : T) (left : List FactValue) : Type 0 where
     pub front : List FactValue
@@ -55,6 +65,22 @@ module _ {T : Type 0} (takes : T → IdSize → FactValue → T → Type 0) (ids
   next_fits all old now left rest object next over = over.fit object (subst (λ (l : List FactValue). Has l object) (sym next) (inl refl))
 
   module _ {E : Type 0} (refuses : T → IdSize → FactValue → E → T → Type 0) where
+    -- one of these objects was refused, behind others that were taken
+    pub refused_behind : (old mid new : T) (objects others rest : List FactValue) (fault : E) → TakesObjects takes ids old objects mid
+        → RefusesObject takes refuses ids others fault mid new → RefusesObject takes refuses ids (objects ++ (others ++ rest)) fault old new
+    refused_behind old mid new objects others rest fault took within = record {
+      front = objects ++ within.front;
+      object = within.object;
+      behind = within.behind ++ rest;
+      are =
+          ap (λ (l : List FactValue). objects ++ (l ++ rest)) within.are
+          ∙ ap (λ (l : List FactValue). objects ++ l) (append_assoc within.front (within.object ∷ within.behind) rest)
+          ∙ sym (append_assoc objects within.front (within.object ∷ (within.behind ++ rest)));
+      mid = within.mid;
+      took = takes_both old mid within.mid objects within.front took within.took;
+      refused = within.refused;
+    }
+
     pub refused : (all : List FactValue) (old now new : T) (left rest : List FactValue) (object : FactValue) (fault : E)
         → left ≡ object ∷ rest → refuses now ids object fault new → GoesOver all old now left
         → RefusesObject takes refuses ids all fault old new

@@ -1,2 +1,4 @@
 pub mod Passing
 pub mod Finding
+pub mod Picked
+pub mod Picking

@@ -1,12 +1,15 @@
 //! The objects of a heap.
 
 ghost use Rattle.std.specs.Prelude.{◌≡◌, List, length, IfOk, OnOk, IfErr};
+ghost use Rattle.std.specs.List.Sorted.{IsStrictlyIncreasing};
 ghost use Rattle.hprof_items.specs.FactValue.{FactValue};
 ghost use Rattle.hprof_heap.specs.HeapFacts.{facts_of, size_of};
 ghost use Rattle.hprof_passes.specs.Passing.{IfLost, Passes, objects_among};
+ghost use Rattle.hprof_passes.specs.Picked.{picked};
 
 use crate::object_sink::ObjectSink;
 use crate::pass_stop::PassStop;
+use crate::picking::Picking;
 use hprof_heap::Heap;
 use std::alloc::Global;
 
@@ -43,6 +46,32 @@ pub trait Objects {
             → Passes T.takes T.refuses (size_of heap.now) (objects_among all) result sink.old sink.new }
         ensures agree { OnOk result (agree self.now (size_of heap.now) (facts_of heap.now)) }
         ensures tells { IfErr result (IfLost (tells self.now (size_of heap.now) (facts_of heap.now))) };
+
+    /// Gives a sink those of the objects whose identifiers are wanted, one after another in ascending order of identifier. The heap has all
+    /// other facts. The wanted identifiers ascend strictly. Objects that are not wanted need not be read.
+    ///
+    /// This body passes over all objects. An `impl` that has some of them more cheaply writes its own.
+    ///
+    /// # Errors
+    ///
+    /// - `Sink`: the sink refused an object. It was given the wanted ones before.
+    /// - `Lost`: the objects cannot be gone through. The sink was given the first of the wanted ones, or none.
+    fn pick<T: ObjectSink>(
+        &self,
+        alloc: Global,
+        heap: &Heap,
+        wanted: &[u64],
+        sink: &mut T,
+    ) -> Result<(), PassStop<T::Fault, Self::Fault>>
+        requires ascend { IsStrictlyIncreasing wanted.now }
+        ensures given { (all : List FactValue) → make_up self.now (size_of heap.now) (facts_of heap.now) all
+            → Passes T.takes T.refuses (size_of heap.now) (picked wanted.now (objects_among all)) result sink.old sink.new }
+        ensures agree { OnOk result (agree self.now (size_of heap.now) (facts_of heap.now)) }
+        ensures tells { IfErr result (IfLost (tells self.now (size_of heap.now) (facts_of heap.now))) }
+    {
+        let mut picking = Picking::new(wanted, sink);
+        self.pass(alloc, heap, &mut picking)
+    }
 
     /// Returns the number of objects. The heap has all other facts.
     fn count(&self, alloc: Global, heap: &Heap) -> Result<u64, Self::Fault>

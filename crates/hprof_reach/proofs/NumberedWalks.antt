@@ -9,8 +9,8 @@ use Rattle.hprof_numbers.specs.Numbered.{nodes_in}
 use Rattle.hprof_numbers.specs.Numbers.{items_in}
 use Rattle.hprof_numbers.proofs.Ascending.{number_of}
 use Rattle.hprof_search.specs.declared.kept_search.Search.{Search}
+use Rattle.hprof_search.specs.ByLists.{LeadsByList}
 use Rattle.hprof_search.specs.Search.{IsSearch}
-use Rattle.hprof_reach.specs.NumberedEdges.{LeadsByNumber}
 use Rattle.hprof_reach.specs.NumberedGraph.{IsGraphBy, count_of, node_at}
 use Rattle.hprof_reach.specs.Reaching.{IsNode, IsRooted, IsStart, IsStepBy, LeadsBy}
 use Rattle.hprof_reach.specs.declared.numbered_graph.NumberedGraph.{NumberedGraph}
@@ -29,9 +29,10 @@ module _ (P : Edge → Type 0) (ids : IdSize) (facts : List FactValue) (graph : 
   listed_within number one listed = subst (λ (n : ℕ). one < n) is.as_many (is.leads number one listed)
 
   -- edges between nodes
-  steps_same : (from to : ℕ) → IsNode facts from → (LeadsByNumber graph from to × Contains nodes to) ↔ IsStepBy P ids facts from to
+  steps_same : (from to : ℕ) → IsNode facts from
+      → (LeadsByList graph.edges nodes from to × Contains nodes to) ↔ IsStepBy P ids facts from to
   steps_same from to is_from = (there, back) where
-    there : LeadsByNumber graph from to × Contains nodes to → IsStepBy P ids facts from to
+    there : LeadsByList graph.edges nodes from to × Contains nodes to → IsStepBy P ids facts from to
     there step =
         let leads = step.0 in
         let by = (is.edges leads.number leads.one leads.within (listed_within leads.number leads.one leads.listed)).0 leads.listed in (
@@ -40,7 +41,7 @@ module _ (P : Edge → Type 0) (ids : IdSize) (facts : List FactValue) (graph : 
           (is.nodes to).0 step.1,
         )
 
-    back : IsStepBy P ids facts from to → LeadsByNumber graph from to × Contains nodes to
+    back : IsStepBy P ids facts from to → LeadsByList graph.edges nodes from to × Contains nodes to
     back step =
         let at = place_of from is_from in
         let on = place_of to step.1 in
@@ -76,9 +77,10 @@ module _ (P : Edge → Type 0) (ids : IdSize) (facts : List FactValue) (graph : 
           )
 
     pub reached_by_numbers : (search : Search)
-        → IsSearch (λ node. Contains nodes node × Contains starts node) (λ from to. LeadsByNumber graph from to × Contains nodes to) search
+        → IsSearch (λ node. Contains nodes node × Contains starts node) (λ from to. LeadsByList graph.edges nodes from to × Contains nodes
+        to) search
         → IsSearch (IsStart facts) (IsStepBy P ids facts) search
     reached_by_numbers =
         search_within (λ node. Contains nodes node × Contains starts node) (IsStart facts)
-        (λ from to. LeadsByNumber graph from to × Contains nodes to) (IsStepBy P ids facts) (IsNode facts) starts_same
+        (λ from to. LeadsByList graph.edges nodes from to × Contains nodes to) (IsStepBy P ids facts) (IsNode facts) starts_same
         (λ node start. (is.nodes node).0 start.0) steps_same (λ from to node step. (is.nodes to).0 step.1)

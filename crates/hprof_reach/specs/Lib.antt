@@ -2,7 +2,6 @@ pub mod Reaching
 pub mod Nodes
 pub mod Graph
 pub mod NumberedGraph
-pub mod NumberedEdges
 pub mod EdgesSoFar
 pub mod EdgesMade
 pub mod NodesSeen

@@ -6,33 +6,19 @@ ghost use Rattle.hprof_items.specs.FactValue.{FactValue};
 ghost use Rattle.hprof_edges.specs.declared.field_place.FieldPlace.{FieldPlace};
 ghost use Rattle.hprof_edges.specs.LeftOut.{IsKept, fields_in};
 ghost use Rattle.hprof_heap.specs.HeapFacts.{facts_of, size_of};
-ghost use Rattle.hprof_numbers.specs.Numbered.{nodes_in};
 ghost use Rattle.hprof_numbers.specs.Numbers.{items_in};
 ghost use Rattle.hprof_passes.specs.Finding.{Finds};
 ghost use Rattle.hprof_reach.specs.NumberedGraph.{IsGraphBy, IsNumbered, node_at};
 ghost use Rattle.hprof_reach.specs.Reaching.{IsReachBy};
 
-use crate::numbered_edges::NumberedEdges;
 use crate::numbered_graph::NumberedGraph;
 use crate::numbering::graph_over;
 use crate::reach::Reach;
 use hprof_edges::LeftOut;
 use hprof_heap::Heap;
-use hprof_numbers::Numbered;
 use hprof_passes::{Objects, PassStop};
-use hprof_search::search;
+use hprof_search::{ByLists, search_numbered};
 use std::alloc::{AllocError, Global};
-
-/// Returns a copy of the nodes, in ascending order. If memory runs out, the answer is `AllocError`.
-fn copied_nodes(alloc: Global, numbered: &Numbered) -> Result<Vec<u64>, AllocError>
-    ensures { IfOk result (λ nodes. nodes.items ≡ nodes_in numbered.now) }
-{
-    let mut nodes = Vec::with_capacity(alloc, numbered.len())?;
-    for number in 0..numbered.len() {
-        nodes.push(numbered.node(number))?;
-    }
-    Ok(nodes)
-}
 
 /// Returns the nodes that GC roots keep alive, in any order. Repetitions are possible. If memory runs out, the answer is `AllocError`.
 fn start_nodes(alloc: Global, graph: &NumberedGraph) -> Result<Vec<u64>, AllocError>
@@ -49,14 +35,15 @@ fn start_nodes(alloc: Global, graph: &NumberedGraph) -> Result<Vec<u64>, AllocEr
 }
 
 /// Searches a graph by numbers from its starts, breadth first. If memory runs out, the answer is `AllocError`.
-fn reach_in(alloc: Global, graph: &NumberedGraph) -> Result<Reach, AllocError>
-    requires { IsNumbered graph.now }
+fn reach_in(alloc: Global, graph: NumberedGraph) -> Result<Reach, AllocError>
+    requires { IsNumbered graph }
     ensures { IfOk result (λ reach. (fields : List FieldPlace) (ids : IdSize) (facts : List FactValue)
-        → IsGraphBy (IsKept fields facts) ids facts graph.now → IsReachBy (IsKept fields facts) ids facts reach) }
+        → IsGraphBy (IsKept fields facts) ids facts graph → IsReachBy (IsKept fields facts) ids facts reach) }
 {
-    let nodes = copied_nodes(alloc, &graph.nodes)?;
-    let starts = start_nodes(alloc, graph)?;
-    let search = search(alloc, &mut NumberedEdges { graph }, nodes, &starts)?;
+    let starts = start_nodes(alloc, &graph)?;
+    let NumberedGraph { nodes, edges, .. } = graph;
+    let mut steps = ByLists { lists: &edges };
+    let search = search_numbered(alloc, &mut steps, nodes, &starts)?;
     Ok(Reach { search })
 }
 
@@ -84,7 +71,7 @@ pub fn reach_over<O: Objects>(
         Ok(graph) => graph,
         Err(stop) => return Err(stop),
     };
-    match reach_in(alloc, &graph) {
+    match reach_in(alloc, graph) {
         Ok(reach) => Ok(reach),
         Err(fault) => Err(PassStop::Sink(fault)),
     }

@@ -13,7 +13,6 @@ mod index;
 pub mod laws;
 mod node_sink;
 mod nodes;
-mod numbered_edges;
 mod numbered_graph;
 mod numbering;
 mod reach;

@@ -94,9 +94,9 @@ pub fn reach_of(alloc: Global, heap: &Heap) -> Result<Reach, AllocError>
 pub fn reach_without(alloc: Global, heap: &Heap, left_out: &LeftOut) -> Result<Reach, AllocError>
     ensures { IfOk result (IsReachBy (IsKept (fields_in left_out.now) (facts_of heap.now)) (size_of heap.now) (facts_of heap.now)) }
 {
-    let mut graph = graph_of(alloc, heap, left_out)?;
+    let graph = graph_of(alloc, heap, left_out)?;
     let nodes = nodes_of(alloc, heap)?;
     let starts = starts_of(alloc, heap)?;
-    let search = search(alloc, &mut graph, nodes, &starts)?;
+    let search = search(alloc, graph, nodes, &starts)?;
     Ok(Reach { search })
 }

@@ -15,8 +15,8 @@ use hprof_passes::{Objects, PassStop};
 use hprof_small::small_heap;
 use std::alloc::Global;
 
-/// Writes the report `object` on an identifier, as [`write_object`] does. The heap has all facts but the objects, which are gone through
-/// once. Of the objects, memory holds only the one with the identifier.
+/// Writes the report `object` on an identifier, as [`write_object`] does. The heap has all facts but the objects, of which the one with
+/// the identifier is picked. Memory holds only this one.
 ///
 /// # Errors
 ///

@@ -15,8 +15,8 @@ use hprof_lines::stop_of_pass;
 use hprof_passes::{Objects, PassStop};
 use std::alloc::Global;
 
-/// Writes the report `text` on an identifier, as [`write_text`] does. The heap has all facts but the objects, which are gone through once,
-/// and again if the object is a string. Of the objects, memory holds only the string and the array of its characters.
+/// Writes the report `text` on an identifier, as [`write_text`] does. The heap has all facts but the objects, of which one is picked, and
+/// if it is a string, the array of its characters. Memory holds only these.
 ///
 /// # Errors
 ///

@@ -87,10 +87,10 @@ pub fn weakly_held(
 {
     holds_of_heap(heap);
     let none = LeftOut::none(alloc);
-    let mut graph = graph_of(alloc, heap, &none)?;
+    let graph = graph_of(alloc, heap, &none)?;
     let border = border_of(alloc, heap, weak, retained)?;
     let all = joined(alloc, &border.others, &border.sources)?;
-    let search = search(alloc, &mut graph, all, &border.sources)?;
+    let search = search(alloc, graph, all, &border.sources)?;
     let nodes = reached_among(alloc, &search, &border.others)?;
     let bytes = bytes_of(heap, &nodes);
     Ok(WeaklyHeld { nodes, bytes })

@@ -10,3 +10,5 @@ pub mod Told
 pub mod Searched
 pub mod Targets
 pub mod Counts
+pub mod LookedUp
+pub mod Listed

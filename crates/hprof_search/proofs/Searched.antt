@@ -1,5 +1,5 @@
 -- What is kept where a search has come to its end.
-use Rattle.std.proofs.Common.{◌≤◌, ℕ, zero, suc, List, [], Contains, nat_eq, ap, subst, arith}
+use Rattle.std.proofs.Common.{◌≡◌, ◌≤◌, ℕ, zero, suc, List, [], Contains, nat_eq, ap, sym, subst, arith}
 use Rattle.std.specs.List.{IsDistinct}
 use Rattle.hprof_search.specs.declared.kept_search.Search.{Search}
 use Rattle.hprof_search.specs.Search.{IsSearch, node_at, node_before}
@@ -48,3 +48,14 @@ module _ (Leads : ℕ → ℕ → Type 0) (starts : List ℕ) (search : Search)
     before = before;
     levels = levels;
   }
+
+-- the same over nodes that are those of the search
+pub searches_over : (Leads : ℕ → ℕ → Type 0) (starts nodes : List ℕ) (search : Search) → search.nodes.items ≡ nodes
+    → IsSearched Leads nodes starts (kept_finds search) [] search.levels → IsDistinct nat_eq search.order.keys
+    → IsByDistance Leads nodes starts search.order.keys
+    → IsSearch (λ node. Contains nodes node × Contains starts node) (λ from to. Leads from to × Contains nodes to) search
+searches_over Leads starts nodes search same searched once order =
+    subst (λ (ns : List ℕ). IsSearch (λ node. Contains ns node × Contains starts node) (λ from to. Leads from to × Contains ns to) search)
+    same (searches Leads starts search
+    (subst (λ (ns : List ℕ). IsSearched Leads ns starts (kept_finds search) [] search.levels) (sym same) searched) once
+    (subst (λ (ns : List ℕ). IsByDistance Leads ns starts search.order.keys) (sym same) order))

@@ -44,6 +44,10 @@ pub record Follows (Led : ℕ → ℕ → Type 0) (old new : Finds) : Type 0 whe
 abbrev pub Arrives : ℕ → ℕ → ℕ → ℕ → Type 0
 Arrives from number one other = (one ≡ from) × (other ≡ number)
 
+-- the nodes with these numbers are led to from that number
+abbrev pub LeadsFrom : ℕ → List ℕ → ℕ → ℕ → Type 0
+LeadsFrom from numbers one other = (one ≡ from) × Contains numbers other
+
 -- these targets are led to from that number, or where it is none, each from its own
 abbrev pub LeadsTo : List ℕ → Option ℕ → List ℕ → ℕ → ℕ → Type 0
 LeadsTo nodes from targets one other = (one ≡ unwrap_or from other) × Contains targets (slice_index nodes other)

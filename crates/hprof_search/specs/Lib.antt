@@ -4,3 +4,4 @@ pub mod NodeHash
 pub mod Finds
 pub mod Search
 pub mod WayBack
+pub mod ByLists

@@ -48,9 +48,8 @@ fn few_shown<O: Objects>(
     }
 }
 
-/// Returns the heap of all objects that the report on an identifier is read from. Goes through the objects once for the object; again for
-/// what it refers to; again for arrays of texts, and names of threads; and again for the arrays of these names. A pass that would find the
-/// same objects is left out.
+/// Returns the heap of all objects that the report on an identifier is read from. Picks the object; then what it refers to; then
+/// arrays of texts, and names of threads; and then the arrays of these names. What would give the same objects is left out.
 ///
 /// # Errors
 ///

@@ -16,8 +16,8 @@ use hprof_naming::ClassNames;
 use hprof_passes::{Objects, PassStop};
 use std::alloc::Global;
 
-/// Writes the report `show` on an identifier, as [`write_show`] does. The heap has all facts but the objects, which are gone through one to
-/// four times. Of the objects, memory holds only a few:
+/// Writes the report `show` on an identifier, as [`write_show`] does. The heap has all facts but the objects, of which some are picked, one
+/// to four times. Memory holds only these:
 ///
 /// - the object;
 /// - what the class and the object refer to, and of an array its first 100 elements that are not 0;

@@ -1,7 +1,5 @@
 -- A heap in the making that goes on with more facts.
-use Rattle.std.proofs.Common.{◌≡◌, ℕ, List, [], ◌∷◌, ◌++◌, Some, refl, sym, ap, subst, ◌∙◌, append-nil, append_assoc}
-use Rattle.std.specs.List.{filter}
-use Rattle.std.proofs.lemmas.List.Elements.{filter-append}
+use Rattle.std.proofs.Common.{◌≡◌, List, [], ◌∷◌, ◌++◌, Some, refl, sym, ap, subst, ◌∙◌, append-nil, append_assoc}
 use Rattle.hprof_values.specs.declared.ids.IdSize.{IdSize}
 use Rattle.hprof_items.specs.declared.header.Header.{Header}
 use Rattle.hprof_items.specs.FactValue.{FactValue}
@@ -10,15 +8,13 @@ use Rattle.hprof_stream.proofs.Runs.{Steps-then}
 use Rattle.hprof_heap.specs.Gathering.{Begins, Takes, gathered, nothing_gathered}
 use Rattle.hprof_passes.specs.Passing.{TakesObjects}
 use Rattle.hprof_small.specs.declared.few_objects.FewObjects.{FewObjects}
-use Rattle.hprof_small.specs.Small.{is_wanted}
-use Rattle.hprof_small.specs.FewObjects.{GoesOn, HasTaken, TakesWanted}
+use Rattle.hprof_small.specs.FewObjects.{GoesOn, HasTaken, TakesObject}
 
 -- a fact that the gatherer takes
-pub goes_one : (old new : FewObjects) (fact : FactValue) → new.header ≡ old.header → new.wanted.now ≡ old.wanted.now
+pub goes_one : (old new : FewObjects) (fact : FactValue) → new.header ≡ old.header
     → Takes (gathered old.gatherer) fact (gathered new.gatherer) → GoesOn old (fact ∷ []) new
-goes_one old new fact header wanted took = record {
+goes_one old new fact header took = record {
   header = header;
-  wanted = wanted;
   taken = λ facts has. subst (λ (h : Header). Run Begins Takes nothing_gathered (Some h) (facts ++ fact ∷ []) (gathered new.gatherer))
       (sym header) (
         has.0,
@@ -32,7 +28,6 @@ goes_one old new fact header wanted took = record {
 pub goes_none : (few : FewObjects) → GoesOn few [] few
 goes_none few = record {
   header = refl;
-  wanted = refl;
   taken = λ facts has. subst (HasTaken few) (sym (append-nil facts)) has;
 }
 
@@ -41,22 +36,18 @@ pub goes_further : (old mid new : FewObjects) (facts more : List FactValue) → 
     → GoesOn old (facts ++ more) new
 goes_further old mid new facts more first second = record {
   header = second.header ∙ first.header;
-  wanted = second.wanted ∙ first.wanted;
   taken = λ before has. subst (HasTaken new) (append_assoc before facts more) (second.taken (before ++ facts) (first.taken before has));
 }
 
--- those of the objects that are wanted
-pub goes_wanted : (ids : IdSize) (objects : List FactValue) (old new : FewObjects) → ids ≡ old.header.ids
-    → TakesObjects TakesWanted ids old objects new → GoesOn old (filter (is_wanted old.wanted.now) objects) new
-goes_wanted ids [] old new size same = subst (GoesOn old []) same (goes_none old)
-goes_wanted ids (object ∷ objects) old new size took =
+-- each of the objects
+pub goes_objects : (ids : IdSize) (objects : List FactValue) (old new : FewObjects) → ids ≡ old.header.ids
+    → TakesObjects TakesObject ids old objects new → GoesOn old objects new
+goes_objects ids [] old new size same = subst (GoesOn old []) same (goes_none old)
+goes_objects ids (object ∷ objects) old new size took =
     let mid = took.0 in
     let first = took.1 size in
-    let rest = goes_wanted ids objects mid new (size ∙ ap (λ (h : Header). h.ids) (sym first.header)) took.2 in
-    subst (λ (facts : List FactValue). GoesOn old facts new)
-    (sym (filter-append (is_wanted old.wanted.now) (object ∷ []) objects))
-    (goes_further old mid new (filter (is_wanted old.wanted.now) (object ∷ [])) (filter (is_wanted old.wanted.now) objects) first
-    (subst (λ (wanted : List ℕ). GoesOn mid (filter (is_wanted wanted) objects) new) first.wanted rest))
+    let rest = goes_objects ids objects mid new (size ∙ ap (λ (h : Header). h.ids) (sym first.header)) took.2 in
+    goes_further old mid new (object ∷ []) objects first rest
 
 -- some of the facts are taken, and these are left
 pub record Copies (all : List FactValue) (old now : FewObjects) (left : List FactValue) : Type 0 where

@@ -1,10 +1,9 @@
 -- What a small heap has of an identifier, the whole has.
-use Rattle.std.proofs.Common.{◌≡◌, ℕ, true, List, Option, Some, None, refl, sym, ap, subst, ◌∙◌}
+use Rattle.std.proofs.Common.{◌≡◌, ℕ, true, List, Option, Some, None, refl, sym, subst}
 use Rattle.std.specs.Prelude.{IsTrue}
 use Rattle.hprof_values.specs.declared.ids.IdSize.{IdSize}
 use Rattle.hprof_items.specs.FactValue.{FactValue, Name, Load, Unload, Frame, Trace, Start, End, Rooted, Class, Instance, ObjArray}
 use Rattle.hprof_items.specs.FactValue.{PrimArray}
-use Rattle.hprof_rows.specs.declared.key.Key.TheVariants as keys
 use Rattle.hprof_rows.specs.declared.table.Table.TheVariants as tables
 use Rattle.hprof_rows.specs.Facts.{Has}
 use Rattle.hprof_rows.specs.Tables.{number_of_table, stands_in}
@@ -14,36 +13,10 @@ use Rattle.hprof_heap.specs.Found.{IsClassFound, IsObjectFound}
 use Rattle.hprof_heap.specs.Objects.{HasNoObject, IsObject}
 use Rattle.hprof_histogram.specs.Chosen.{is_among}
 use Rattle.hprof_passes.specs.Passing.{objects_among}
+use Rattle.hprof_passes.specs.Picked.{is_wanted}
+use Rattle.hprof_passes.proofs.PickedObjects.{is_object_of, is_wanted_at}
 use Rattle.hprof_passes.proofs.Tables.{has_same}
-use Rattle.hprof_small.specs.Small.{IsSmall, is_one_of, is_wanted, object_of}
-
--- a dump of an object is an object, and has its identifier
-pub record IsObjectOf (id : ℕ) (fact : FactValue) : Type 0 where
-  pub stands : stands_in (number_of_table tables.Objects) fact ≡ true
-  pub of : object_of fact ≡ Some id
-
-pub is_object_of : (id : ℕ) (fact : FactValue) → IsObject id fact → IsObjectOf id fact
-is_object_of id (Instance other trace class bytes) is =
-    let same : keys.Object other ≡ keys.Object id = cc in
-    let e : other ≡ id = cc in
-    record { stands = refl; of = ap Some e }
-is_object_of id (ObjArray other trace class elements) is =
-    let same : keys.Object other ≡ keys.Object id = cc in
-    let e : other ≡ id = cc in
-    record { stands = refl; of = ap Some e }
-is_object_of id (PrimArray other trace elem bytes) is =
-    let same : keys.Object other ≡ keys.Object id = cc in
-    let e : other ≡ id = cc in
-    record { stands = refl; of = ap Some e }
-is_object_of id (Name other text) is = absurd cc
-is_object_of id (Load serial class trace name) is = absurd cc
-is_object_of id (Unload serial) is = absurd cc
-is_object_of id (Frame other method signature source class_serial line) is = absurd cc
-is_object_of id (Trace serial thread frames) is = absurd cc
-is_object_of id (Start thread object trace name group parent_group) is = absurd cc
-is_object_of id (End thread) is = absurd cc
-is_object_of id (Rooted root) is = absurd cc
-is_object_of id (Class other trace parent loader signers domain reserved1 reserved2 size constants statics fields) is = absurd cc
+use Rattle.hprof_small.specs.Small.{IsSmall}
 
 module _ (ids : IdSize) (wanted : List ℕ) (all small : List FactValue) (is : IsSmall ids wanted all small) where
   -- ---- facts
@@ -87,7 +60,7 @@ module _ (ids : IdSize) (wanted : List ℕ) (all small : List FactValue) (is : I
       let object = is_object_of id fact is_object in
       let chosen = picked (is_wanted wanted) (objects_among all) fact (record {
         has = picked (stands_in (number_of_table tables.Objects)) all fact (record { has = has; passes = object.stands });
-        passes = ap (is_one_of wanted) object.of ∙ among;
+        passes = is_wanted_at wanted fact id object.of among;
       }) in
       (picked_is (stands_in (number_of_table tables.Objects)) small fact
       (subst (λ (l : List FactValue). Has l fact) (sym is.objects) chosen)).has

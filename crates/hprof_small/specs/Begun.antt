@@ -1,6 +1,5 @@
 -- What ties a gatherer to the header that it was begun with.
-use Rattle.std.specs.Prelude.{◌≡◌, ℕ, List, Some}
-use Rattle.std.specs.List.Sorted.{IsStrictlyIncreasing}
+use Rattle.std.specs.Prelude.{◌≡◌, Some}
 use Rattle.std.proofs.Props.{props}
 use Rattle.hprof_items.specs.declared.header.Header.{Header}
 use Rattle.hprof_heap.specs.declared.gatherer.Gatherer.{Gatherer}
@@ -10,9 +9,6 @@ use Rattle.hprof_heap.specs.Gathering.{gathered}
 abbrev pub IsBegun : Gatherer → Header → Type 0
 IsBegun gatherer header = (gathered gatherer).begun ≡ Some header.ids
 
--- each of these has at most one proof
+-- that has at most one proof
 pub IsBegun-prop : (gatherer : Gatherer) (header : Header) → IsProp (IsBegun gatherer header)
 IsBegun-prop gatherer header = hlevel props
-
-pub ascends-prop : (wanted : List ℕ) → IsProp (IsStrictlyIncreasing wanted)
-ascends-prop wanted = hlevel props

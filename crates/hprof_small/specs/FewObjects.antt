@@ -1,6 +1,5 @@
 -- A heap in the making, and the facts that it has taken.
 use Rattle.std.specs.Prelude.{◌≡◌, ℕ, List, [], ◌∷◌, ◌++◌, Some}
-use Rattle.std.specs.List.{filter}
 use Rattle.hprof_values.specs.declared.ids.IdSize.{IdSize}
 use Rattle.hprof_items.specs.declared.header.Header.{Header}
 use Rattle.hprof_items.specs.FactValue.{FactValue}
@@ -12,7 +11,7 @@ use Rattle.hprof_heap.specs.Gathering.{Begins, Takes, gathered, nothing_gathered
 use Rattle.hprof_heap.specs.Heap.{heap_of}
 use Rattle.hprof_heap.specs.HeapFacts.{facts_of, size_of}
 use Rattle.hprof_small.specs.declared.few_objects.FewObjects.{FewObjects}
-use Rattle.hprof_small.specs.Small.{is_wanted, other_facts}
+use Rattle.hprof_small.specs.Small.{other_facts}
 
 -- these are the facts that it has taken
 abbrev pub HasTaken : FewObjects → List FactValue → Type 0
@@ -21,18 +20,16 @@ HasTaken few facts = Run Begins Takes nothing_gathered (Some few.header) facts (
 -- it goes on with these facts
 pub record GoesOn (old : FewObjects) (more : List FactValue) (new : FewObjects) : Type 0 where
   pub header : new.header ≡ old.header
-  pub wanted : new.wanted.now ≡ old.wanted.now
   pub taken : (facts : List FactValue) → HasTaken old facts → HasTaken new (facts ++ more)
 
--- an object with identifiers of its size is taken if it is wanted
-abbrev pub TakesWanted : FewObjects → IdSize → FactValue → FewObjects → Type 0
-TakesWanted old ids object new = ids ≡ old.header.ids → GoesOn old (filter (is_wanted old.wanted.now) (object ∷ [])) new
+-- an object with identifiers of its size is taken
+abbrev pub TakesObject : FewObjects → IdSize → FactValue → FewObjects → Type 0
+TakesObject old ids object new = ids ≡ old.header.ids → GoesOn old (object ∷ []) new
 
--- it has all of the facts but the objects, and takes the objects that are wanted
-pub record HasOthers (millis : ℕ) (ids : IdSize) (facts : List FactValue) (wanted : List ℕ) (few : FewObjects) : Type 0 where
+-- it has all of the facts but the objects
+pub record HasOthers (millis : ℕ) (ids : IdSize) (facts : List FactValue) (few : FewObjects) : Type 0 where
   pub time : few.header.millis ≡ millis
   pub size : few.header.ids ≡ ids
-  pub wants : few.wanted.now ≡ wanted
   pub taken : HasTaken few (other_facts facts)
 
 -- the heap has the size and the time of the header, and exactly these facts

@@ -1,8 +1,7 @@
 -- Facts with a few of their objects.
-use Rattle.std.specs.Prelude.{◌≡◌, ℕ, Bool, false, List, [], ◌∷◌, map, Option, Some, None}
-use Rattle.std.specs.List.{filter}
+use Rattle.std.specs.Prelude.{◌≡◌, ℕ, List, [], ◌∷◌, map}
 use Rattle.hprof_values.specs.declared.ids.IdSize.{IdSize}
-use Rattle.hprof_items.specs.FactValue.{FactValue, Instance, ObjArray, PrimArray}
+use Rattle.hprof_items.specs.FactValue.{FactValue}
 use Rattle.hprof_rows.specs.declared.table.Table.{Table}
 use Rattle.hprof_rows.specs.declared.table.Table.TheVariants as tables
 use Rattle.hprof_rows.specs.Tables.{facts_of_table, joined}
@@ -10,27 +9,11 @@ use Rattle.hprof_heap.specs.declared.heap.Heap.{Heap}
 use Rattle.hprof_heap.specs.Heap.{heap_of}
 use Rattle.hprof_heap.specs.HeapFacts.{facts_of, size_of}
 use Rattle.hprof_passes.specs.Passing.{IsWhole, objects_among}
-use Rattle.hprof_histogram.specs.Chosen.{is_among}
-
--- the identifier of an instance or an array
-abbrev pub object_of : FactValue → Option ℕ
-object_of (Instance id trace class bytes) = Some id
-object_of (ObjArray id trace class elements) = Some id
-object_of (PrimArray id trace elem bytes) = Some id
-object_of fact = None
-
--- whether the identifier, if there is one, is one of these
-abbrev pub is_one_of : List ℕ → Option ℕ → Bool
-is_one_of wanted (Some id) = is_among wanted id
-is_one_of wanted None = false
-
--- whether the fact is an object whose identifier is wanted
-abbrev pub is_wanted : List ℕ → FactValue → Bool
-is_wanted wanted fact = is_one_of wanted (object_of fact)
+use Rattle.hprof_passes.specs.Picked.{picked}
 
 -- the objects that are wanted
 abbrev pub wanted_objects : List ℕ → List FactValue → List FactValue
-wanted_objects wanted facts = filter (is_wanted wanted) (objects_among facts)
+wanted_objects wanted facts = picked wanted (objects_among facts)
 
 -- the facts of a heap: in each table but that of objects they are these facts, and of the objects they have those that are wanted
 pub record IsSmall (ids : IdSize) (wanted : List ℕ) (all small : List FactValue) : Type 0 where

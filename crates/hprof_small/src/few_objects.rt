@@ -1,10 +1,8 @@
-//! A heap in the making: all facts of a heap but its objects, and those objects of a pass that are wanted.
+//! A heap in the making: all facts of a heap but its objects, and the objects that it is given.
 
 ghost use Rattle.std.specs.Prelude.{◌≡◌};
-ghost use Rattle.std.specs.List.Sorted.{IsStrictlyIncreasing};
 ghost use Rattle.hprof_items.specs.FactValue.{value_of};
-ghost use Rattle.hprof_small.specs.Begun.{IsBegun, IsBegun-prop, ascends-prop};
-ghost use Rattle.hprof_small.specs.Small.{object_of};
+ghost use Rattle.hprof_small.specs.Begun.{IsBegun, IsBegun-prop};
 
 use crate::spelling::sub_bytes;
 use hprof_heap::{Gatherer, Heap, Table, holds_of_heap, id_size, table_facts};
@@ -27,33 +25,17 @@ const OTHER_TABLES: [Table; 9] = [
     Table::Classes,
 ];
 
-/// A heap in the making. It takes the objects whose identifiers are wanted.
+/// A heap in the making. It takes each object that it is given.
 #[derive(Drop)]
-pub(crate) struct FewObjects<'a> {
+pub(crate) struct FewObjects {
     alloc: Global,
     header: Header,
-    // They ascend strictly.
-    wanted: &'a [u64],
     gatherer: Gatherer,
-    ghost ascends: { IsStrictlyIncreasing wanted.now } by { ascends-prop wanted.now },
     // The gatherer takes facts with identifiers of the header's size.
     ghost begun: { IsBegun gatherer header } by { IsBegun-prop gatherer header },
 }
 
-/// Returns the identifier of an instance or an array, or `None` for any other fact.
-#[inline(always)]
-fn object_id(fact: &Fact<'_>) -> Option<u64>
-    ensures { result ≡ object_of (value_of fact.now) }
-{
-    match *fact {
-        Fact::Instance { id, .. } | Fact::ObjArray { id, .. } | Fact::PrimArray { id, .. } => {
-            Some(id)
-        }
-        _ => None,
-    }
-}
-
-impl<'a> FewObjects<'a> {
+impl FewObjects {
     ghost use Rattle.std.specs.Prelude.{◌∷◌, [], List, IfOk, OnOk};
     ghost use Rattle.hprof_items.specs.FactValue.{FactValue, ListsHave};
     ghost use Rattle.hprof_items.specs.Spelling.{Fits};
@@ -61,13 +43,11 @@ impl<'a> FewObjects<'a> {
     ghost use Rattle.hprof_heap.specs.Heap.{heap_of};
     ghost use Rattle.hprof_heap.specs.HeapFacts.{facts_of, size_of};
     ghost use Rattle.hprof_small.specs.FewObjects.{GoesOn, HasOthers, HasTaken, IsHeapOf};
-    ghost use Rattle.hprof_small.specs.Small.{is_wanted, other_facts};
+    ghost use Rattle.hprof_small.specs.Small.{other_facts};
 
     /// Returns a heap in the making without facts.
-    fn new(alloc: Global, header: Header, wanted: &'a [u64]) -> Self
-        requires { IsStrictlyIncreasing wanted.now }
+    fn new(alloc: Global, header: Header) -> Self
         ensures header { result.header ≡ header }
-        ensures wanted { result.wanted.now ≡ wanted.now }
         ensures taken { HasTaken result [] }
     {
         let mut gatherer = Gatherer::new(alloc);
@@ -78,7 +58,6 @@ impl<'a> FewObjects<'a> {
         FewObjects {
             alloc,
             header,
-            wanted,
             gatherer,
         }
     }
@@ -122,34 +101,22 @@ impl<'a> FewObjects<'a> {
     }
 
     /// Returns a heap in the making that has all facts of a heap but its objects. If memory runs out, the answer is `AllocError`.
-    pub(crate) fn of(alloc: Global, heap: &Heap, wanted: &'a [u64]) -> Result<Self, AllocError>
-        requires { IsStrictlyIncreasing wanted.now }
-        ensures { IfOk result (HasOthers (heap_of heap.now).millis (size_of heap.now) (facts_of heap.now) wanted.now) }
+    pub(crate) fn of(alloc: Global, heap: &Heap) -> Result<Self, AllocError>
+        ensures { IfOk result (HasOthers (heap_of heap.now).millis (size_of heap.now) (facts_of heap.now)) }
     {
         let header = Header {
             version: Version::V102,
             ids: id_size(heap),
             millis: heap.millis(),
         };
-        let mut few = FewObjects::new(alloc, header, wanted);
+        let mut few = FewObjects::new(alloc, header);
         few.add_others(heap)?;
         Ok(few)
     }
 
-    /// Returns whether an object is wanted.
-    #[inline(always)]
-    fn wants(&self, object: &Fact<'_>) -> bool
-        ensures { result ≡ is_wanted self.now.wanted.now (value_of object.now) }
-    {
-        match object_id(object) {
-            Some(id) => self.wanted.binary_search(&id).is_ok(),
-            None => false,
-        }
-    }
-
     /// Returns the heap of all facts. If the objects do not agree, the answer is `AllocError`.
     pub(crate) fn finish(self) -> Result<Heap, AllocError>
-        ensures { (facts : List FactValue) → HasTaken self.entry facts → IfOk result (IsHeapOf self.entry.header facts) }
+        ensures { (facts : List FactValue) → HasTaken self facts → IfOk result (IsHeapOf self.header facts) }
     {
         match self.gatherer.finish() {
             Ok(heap) => Ok(heap),
@@ -159,11 +126,11 @@ impl<'a> FewObjects<'a> {
 }
 
 /// The fault is want of memory.
-impl ObjectSink for FewObjects<'_> {
+impl ObjectSink for FewObjects {
     ghost use Rattle.std.specs.Prelude.{⊤};
-    ghost use Rattle.hprof_small.specs.FewObjects.{TakesWanted};
+    ghost use Rattle.hprof_small.specs.FewObjects.{TakesObject};
 
-    ghost takes = { TakesWanted };
+    ghost takes = { TakesObject };
 
     ghost refuses = { λ old ids object fault new. ⊤ };
 
@@ -171,7 +138,7 @@ impl ObjectSink for FewObjects<'_> {
 
     #[inline(always)]
     fn take(&mut self, ids: IdSize, object: &Fact<'_>) -> Result<(), AllocError> {
-        if ids != self.header.ids || !self.wants(object) {
+        if ids != self.header.ids {
             return Ok(());
         }
         self.add(object)

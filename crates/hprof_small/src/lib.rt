@@ -1,4 +1,4 @@
-//! A heap of a few objects: all facts of a heap whose objects are gone through, and of the objects those that are wanted.
+//! A heap of a few objects: all facts of a heap but its objects, and of the objects those that are wanted.
 #![tactic(auto)]
 
 mod few_objects;

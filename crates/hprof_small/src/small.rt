@@ -31,11 +31,11 @@ pub fn small_heap<O: Objects>(
         (O.tells objects.now (size_of heap.now) (facts_of heap.now))
         (λ all. IsSmallHeap (heap_of heap.now).millis (size_of heap.now) wanted.now all) result }
 {
-    let mut few = match FewObjects::of(alloc, heap, wanted) {
+    let mut few = match FewObjects::of(alloc, heap) {
         Ok(few) => few,
         Err(fault) => return Err(PassStop::Sink(fault)),
     };
-    match objects.pass(alloc, heap, &mut few) {
+    match objects.pick(alloc, heap, wanted, &mut few) {
         Ok(()) => {}
         Err(stop) => return Err(stop),
     }

@@ -30,3 +30,4 @@ mod SavedEnds
 mod Saved
 mod SavedHeaps
 mod SalvageAgain
+mod PickedPass

@@ -30,10 +30,11 @@ use Rattle.hprof_stored.proofs.ObjectSpelling.{IsObjectAt, object_at, one_spelle
 module _ {T E : Type 0} (takes : T → IdSize → FactValue → T → Type 0) (refuses : T → IdSize → FactValue → E → T → Type 0) where
   -- ---- the sink stays one over the same sink of objects
 
-  same_then : (old mid new : RowDecoder T) → AreOverSame old mid → AreOverSame mid new → AreOverSame old new
+  pub same_then : (old mid new : RowDecoder T) → AreOverSame old mid → AreOverSame mid new → AreOverSame old new
   same_then old mid new first second = (second.0 ∙ first.0, second.1 ∙ first.1)
 
-  same_run : (old : RowDecoder T) (rows : List ByteRow) (new : RowDecoder T) → Runs (GivesObject takes) old rows new → AreOverSame old new
+  pub same_run : (old : RowDecoder T) (rows : List ByteRow) (new : RowDecoder T) → Runs (GivesObject takes) old rows new
+      → AreOverSame old new
   same_run =
       unchanged.same_run (GivesObject takes) (GivesNone refuses) AreOverSame (λ it. (refl, refl)) same_then
       (λ old key bytes new gives. gives.over)
@@ -71,7 +72,7 @@ module _ {T E : Type 0} (takes : T → IdSize → FactValue → T → Type 0) (r
         (subst (λ (i : IdSize). takes (sink_under old) i gives.object (sink_under new)) size gives.took)
 
     -- the objects of the rows that were given
-    all_taken : (old new : RowDecoder T) (rows : List ByteRow) (objects : List FactValue) → old.ids ≡ ids → AreObjects ids rows objects
+    pub all_taken : (old new : RowDecoder T) (rows : List ByteRow) (objects : List FactValue) → old.ids ≡ ids → AreObjects ids rows objects
         → Runs (GivesObject takes) old rows new → TakesObjects takes ids (sink_under old) objects (sink_under new)
     all_taken old new [] [] size are run = ap (λ (it : RowDecoder T). sink_under it) run
     all_taken old new [] (object ∷ objects) size are run = absurd are

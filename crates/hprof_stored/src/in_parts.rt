@@ -81,6 +81,23 @@ impl<S: Scratch + Drop, P: Parts> Objects for InParts<'_, S, P> {
         }
     }
 
+    fn pick<T: ObjectSink>(
+        &self,
+        alloc: Global,
+        heap: &Heap,
+        wanted: &[u64],
+        sink: &mut T,
+    ) -> Result<(), PassStop<T::Fault, PassFault>> {
+        let mut rows = RowDecoder::new(id_size(heap), sink);
+        match self
+            .objects
+            .pick(alloc, self.parts, self.limits, wanted, &mut rows)
+        {
+            Ok(()) => Ok(()),
+            Err(stop) => Err(pass_stop(stop)),
+        }
+    }
+
     fn count(&self, alloc: Global, heap: &Heap) -> Result<u64, PassFault> {
         if let Some(count) = self.objects.count_in_one_stretch() {
             return Ok(count);

@@ -52,8 +52,8 @@ fn class_nodes(
     Ok(nodes)
 }
 
-/// Returns for each place of a tree whether its node is a class dump without an object dump. The heap has all facts but objects, which are
-/// gone through once. Memory holds those that have the label of classes.
+/// Returns for each place of a tree whether its node is a class dump without an object dump. The heap has all facts but objects, of which
+/// those that have the label of classes are picked. Memory holds these.
 ///
 /// # Errors
 ///

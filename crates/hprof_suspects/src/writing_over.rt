@@ -82,8 +82,8 @@ fn write_found<W: Target>(
 }
 
 /// Writes the report `suspects`, as [`write_suspects`](crate::write_suspects) does. The heap has all facts but the objects, which are gone
-/// through nine to twelve times. Memory holds the identifiers of all nodes, the numbers of what each refers to, and the tree of
-/// dominators; and of the objects only these:
+/// through seven or eight times; some are picked, two to four times. Memory holds the identifiers of all nodes, the numbers of what each
+/// refers to, and the tree of dominators; and of the objects only these:
 ///
 /// - the instances of `java.lang.Class`;
 /// - the suspects and the objects above them;

@@ -63,8 +63,8 @@ fn write_in_memory<W: Target>(
 }
 
 /// Writes the report `why` on an identifier, as [`write_why`](crate::write_why) does. The heap has all facts but the objects, which are
-/// gone through three to eight times. Memory holds the identifiers of all nodes and the numbers of what each refers to, and then, of the
-/// objects, only these:
+/// gone through two to five times; then some are picked, one to three times. Memory holds the identifiers of all nodes and the numbers of
+/// what each refers to, and then, of the objects, only these:
 ///
 /// - the object itself, and those on the path;
 /// - those of the threads of the roots of the first one;

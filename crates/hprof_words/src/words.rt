@@ -14,8 +14,8 @@ use hprof_heap::Heap;
 use hprof_passes::{Objects, PassStop};
 use std::alloc::{AllocError, Global};
 
-/// Returns the heap of all objects that the words for those of `few` are read from. Goes through the objects once for arrays of texts and
-/// names of threads, and again for the arrays of these names. A pass that would find the same objects is left out.
+/// Returns the heap of all objects that the words for those of `few` are read from. Picks the arrays of texts and the names of
+/// threads, and then the arrays of these names. What would give the same objects is left out.
 ///
 /// # Errors
 ///
@@ -46,8 +46,8 @@ pub fn words_of_few<O: Objects>(
 /// Returns the heap of all objects that the words for those with these identifiers are read from. The identifiers ascend strictly. The heap
 /// has the size, the time and all other facts of `heap`.
 ///
-/// Goes through the objects once for those that are wanted; again for the arrays of their texts, and for the names of those that are
-/// objects of threads; and again for the arrays of these names. A pass that would find the same objects is left out.
+/// Picks the objects that are wanted; then the arrays of their texts, and the names of those that are objects of threads; and then the
+/// arrays of these names. What would give the same objects is left out.
 ///
 /// # Errors
 ///

@@ -7,8 +7,8 @@ pub returns-in-Ok-finish : goal.returns-in-Ok-finish
 returns-in-Ok-finish g c =
     let ids = size_of c.args.heap.now in
     let facts = facts_of c.args.heap.now in (
-      c.in-Ok-pass.ensures.agree,
-      λ all make. small_heap_of (heap_of c.args.heap.now).millis ids c.args.wanted.now facts all c.in-Ok.few c.pass.new.sink
+      c.in-Ok-pick.ensures.agree,
+      λ all make. small_heap_of (heap_of c.args.heap.now).millis ids c.args.wanted.now facts all c.in-Ok.few c.pick.new.sink
           c.in-Ok-finish.small (g.met.O.Objects.whole c.args.objects.now ids facts all make) c.in-Ok.ensures
-          (c.in-Ok-pass.ensures.given all make) c.in-Ok-finish.ensures,
+          (c.in-Ok-pick.ensures.given all make) c.in-Ok-finish.ensures,
     )

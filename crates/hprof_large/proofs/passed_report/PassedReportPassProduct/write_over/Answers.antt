@@ -23,7 +23,8 @@ returns-in-Heap g c = λ summaries holds.
     let held = c.deref.result.now in
     let report = reports.Heap c.in-Heap.report in
     let whole = heap_with (heap_of c.args.heap.now) in
-    subst (λ (r : Report). EndsOver Made agree tells (λ all. IsReportText r summaries (whole all)) (λ refusal all. RefusesReport all r refusal)
+    subst (λ (r : Report). EndsOver Made agree tells (λ all. IsReportText r summaries (whole all)) (λ refusal all. RefusesReport all r
+    refusal)
     g.W.Target.written g.W.Target.health c.args.target.now c.write_heap_report.new.target c.write_heap_report.result) (sym c.in-Heap.is)
     (ends_over Made agree tells (λ all. IsHeapReport held ids all c.in-Heap.report) (λ all. IsReportText report summaries (whole all))
     g.W.Target.written g.W.Target.health c.args.target.now c.write_heap_report.new.target
@@ -43,7 +44,8 @@ returns-in-Kind g c = λ summaries holds.
     let tells = g.O.Objects.tells objects ids facts in
     let report = reports.Kind c.in-Kind.report c.in-Kind.kinds in
     let whole = heap_with (heap_of c.args.heap.now) in
-    subst (λ (r : Report). EndsOver Made agree tells (λ all. IsReportText r summaries (whole all)) (λ refusal all. RefusesReport all r refusal)
+    subst (λ (r : Report). EndsOver Made agree tells (λ all. IsReportText r summaries (whole all)) (λ refusal all. RefusesReport all r
+    refusal)
     g.W.Target.written g.W.Target.health c.args.target.now c.write_kind.new.target c.write_kind.result) (sym c.in-Kind.is)
     (ends_fewer MakeUp Made agree tells (λ all. IsReportText report summaries (whole all)) (λ refusal all. RefusesReport all report refusal)
     g.W.Target.written g.W.Target.health c.args.target.now c.write_kind.new.target (λ all made. made.0) c.write_kind.result
@@ -61,7 +63,8 @@ returns-in-Node g c = λ summaries holds.
     let tells = g.O.Objects.tells objects ids facts in
     let report = reports.Node c.in-Node.report c.in-Node.node in
     let whole = heap_with (heap_of c.args.heap.now) in
-    subst (λ (r : Report). EndsOver Made agree tells (λ all. IsReportText r summaries (whole all)) (λ refusal all. RefusesReport all r refusal)
+    subst (λ (r : Report). EndsOver Made agree tells (λ all. IsReportText r summaries (whole all)) (λ refusal all. RefusesReport all r
+    refusal)
     g.W.Target.written g.W.Target.health c.args.target.now c.write_node.new.target c.write_node.result) (sym c.in-Node.is)
     (ends_fewer MakeUp Made agree tells (λ all. IsReportText report summaries (whole all)) (λ refusal all. RefusesReport all report refusal)
     g.W.Target.written g.W.Target.health c.args.target.now c.write_node.new.target (λ all made. made.0) c.write_node.result

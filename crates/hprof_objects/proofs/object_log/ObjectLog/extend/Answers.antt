@@ -13,7 +13,7 @@ returns-in-Ok-true-clause-log g c = λ limits parts part fact it object.
     let old = c.args.self.now in
     let was = was_growing g.S.Target.written g.S.Target.health limits parts part old.part (rows_of_store old.store)
     (runs_of_store old.store)
-    old.stretches.items old.growing c.args.growing c.args.from c.requires.growing c.requires.from it.0 in
+    old.stretches.items old.cuts.items old.cut old.growing c.args.growing c.args.from c.requires.growing c.requires.from it.0 in
     c.begin_stretch.ensures.log limits parts part fact c.args.spelled.now []
     (subst (λ (p : Option Piece). IsPieceOf limits part p) (sym c.push.ensures.piece) it.1)
     object
@@ -26,7 +26,7 @@ returns-in-Ok-false-clause-log g c = λ limits parts part fact it object.
     let old = c.args.self.now in
     let was = was_growing g.S.Target.written g.S.Target.health limits parts part old.part (rows_of_store old.store)
     (runs_of_store old.store)
-    old.stretches.items old.growing c.args.growing c.args.from c.requires.growing c.requires.from it.0 in
+    old.stretches.items old.cuts.items old.cut old.growing c.args.growing c.args.from c.requires.growing c.requires.from it.0 in
     c.settle.ensures.log limits parts (with_fact part fact) (was.rows ++ (c.args.id, c.args.spelled.now) ∷ [])
     (subst (λ (n : ℕ). IsGrowingStretch limits n (with_fact part fact) c.with.result (rows_of_store c.push.new.self.store)
     (was.rows ++ (c.args.id, c.args.spelled.now) ∷ [])) (sym c.push.ensures.part)

@@ -1,5 +1,7 @@
 use Rattle.std.proofs.Common.{List, ◌++◌, ◌∙◌, ap, append-nil, subst, sym}
 use Rattle.hprof_objects.specs.declared.stretch.Stretch.{Stretch}
+use Rattle.hprof_objects.specs.declared.cut.Cut.{Cut}
+use Rattle.hprof_objects.specs.Cuts.{CutInto, all_rows, last_cut}
 use Rattle.hprof_objects.specs.Growing.{staying}
 use Rattle.hprof_objects.specs.Store.{rows_of_store}
 use Rattle.hprof_objects.specs.Stretches.{AreStretches}
@@ -19,4 +21,6 @@ returns-clause-holds g c = λ limits parts it.
           (sym (c.keep.ensures ∙ (ap (λ g. log.stretches.items ++ staying g) it.no_growing ∙ append-nil log.stretches.items)))
           it.are_stretches;
       enough = stored_enough (rows_of_store log.store) (sorted_in c.sort.result) it.runs it.lists c.sort.ensures parts it.enough;
+      cut = subst (λ (l : List Cut). CutInto limits parts l (all_rows it.lists))
+          (sym (c.keep_cut.ensures ∙ (ap (λ g. log.cuts.items ++ last_cut g log.cut) it.no_growing ∙ append-nil log.cuts.items))) it.cut;
     }

@@ -10,8 +10,9 @@ use Rattle.hprof_objects.proofs.object_log.ObjectLog.note.Goals as goal
 -- bytes came, and a piece begins behind all facts
 pub returns-clause-log : goal.returns-clause-log
 returns-clause-log g c = λ limits parts part more it now. (
-  keeps_bytes g.S.Target.written g.S.Target.health limits parts part c.args.self.now.part more (rows_of_store c.args.self.now.store)
-      (runs_of_store c.args.self.now.store) c.args.self.now.stretches.items c.args.self.now.growing it.0,
+  (let old = c.args.self.now in
+      keeps_bytes g.S.Target.written g.S.Target.health limits parts part old.part more (rows_of_store old.store) (runs_of_store old.store)
+      old.stretches.items old.cuts.items old.cut old.growing it.0),
   subst (λ (p : Option Piece). IsPieceOf limits (with_bytes part more) p) (sym c.piece_at-self.ensures)
       (piece_begins limits (with_bytes part more) c.args.place now),
 )

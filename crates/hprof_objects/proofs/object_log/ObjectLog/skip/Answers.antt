@@ -4,7 +4,8 @@ use Rattle.hprof_objects.proofs.object_log.ObjectLog.skip.Goals as goal
 
 pub returns-clause-log : goal.returns-clause-log
 returns-clause-log g c = λ limits parts part fact it none. (
-  keeps_other g.S.Target.written g.S.Target.health limits parts part c.args.self.now.part fact (rows_of_store c.args.self.now.store)
-      (runs_of_store c.args.self.now.store) c.args.self.now.stretches.items c.args.self.now.growing none it.0,
+  (let old = c.args.self.now in
+      keeps_other g.S.Target.written g.S.Target.health limits parts part old.part fact (rows_of_store old.store) (runs_of_store old.store)
+      old.stretches.items old.cuts.items old.cut old.growing none it.0),
   c.pass_one.ensures limits part fact it.1,
 )

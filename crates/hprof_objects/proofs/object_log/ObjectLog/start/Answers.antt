@@ -16,4 +16,5 @@ returns-in-Ok-true-clause-log g c = λ limits parts part fact it object.
     (rows_of_store c.push.new.self.store)) c.in-Ok-true.field-0-test c.in-Ok-true.ensures.row) refl
     (c.in-Ok-true.ensures.log limits parts part fact
     (ungrown g.S.Target.written g.S.Target.health limits parts part c.close.new.self.part (rows_of_store c.close.new.self.store)
-    (runs_of_store c.close.new.self.store) c.close.new.self.stretches.items c.close.new.self.growing c.close.ensures.none closed.0) object)
+    (runs_of_store c.close.new.self.store) c.close.new.self.stretches.items c.close.new.self.cuts.items c.close.new.self.cut
+    c.close.new.self.growing c.close.ensures.none closed.0) object)

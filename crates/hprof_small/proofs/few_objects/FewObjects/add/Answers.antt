@@ -5,4 +5,4 @@ use Rattle.hprof_small.proofs.few_objects.FewObjects.add.Goals as goal
 
 pub returns-in-Ok : goal.returns-in-Ok
 returns-in-Ok c =
-    goes_one c.args.self.now _ (value_of c.args.fact.now) refl refl c.in-Ok.ensures.steps
+    goes_one c.args.self.now _ (value_of c.args.fact.now) refl c.in-Ok.ensures.steps

@@ -9,6 +9,5 @@ returns c =
     record {
       time = ap (λ (h : Header). h.millis) (goes.header ∙ new.header) ∙ c.millis.ensures;
       size = ap (λ (h : Header). h.ids) (goes.header ∙ new.header) ∙ c.id_size.ensures.value;
-      wants = goes.wanted ∙ new.wanted;
       taken = goes.taken [] new.taken;
     }
