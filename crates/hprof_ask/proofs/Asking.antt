@@ -12,6 +12,7 @@ use Rattle.hprof_stream.specs.declared.limits.Limits.{Limits}
 use Rattle.hprof_stream.specs.declared.summary.PartSummary.{PartSummary}
 use Rattle.hprof_rows.specs.HeapValue.{HeapValue}
 use Rattle.hprof_heap.specs.State.{IsState}
+use Rattle.hprof_engine.specs.declared.loss.Loss.{Loss}
 use Rattle.hprof_engine.specs.declared.tool_fault.ToolFault.{ToolFault}
 use Rattle.hprof_engine.specs.Joining.{Tell, Agree, IsHindered, IsOfReading, IsOkOrConflict, none_known}
 use Rattle.hprof_engine.specs.Makes.{Reads}
@@ -21,7 +22,8 @@ use Rattle.hprof_ask.specs.declared.ask_fault.AskFault.TheVariants as faults
 use Rattle.hprof_questions.specs.declared.stop.DialogueStop.{DialogueStop}
 use Rattle.hprof_questions.specs.declared.stop.DialogueStop.TheVariants as stops
 use Rattle.hprof_ask.specs.Asks.{Asks}
-use Rattle.hprof_questions.specs.Dialogue.{EndsDialogue}
+use Rattle.hprof_questions.specs.Answering.{TellsLoss}
+use Rattle.hprof_questions.specs.Dialogue.{AnswersDialogue, EndsDialogue}
 use Rattle.hprof_ask.specs.HeapAnswers.{IsHeapAnswer}
 
 -- the summaries that are held are those of the parts
@@ -54,6 +56,7 @@ module _ {R Q W : Type 0} (left : R → Option (List ℕ)) (health : R → Healt
     questions = λ other e. absurd cc;
     write = λ other e. absurd cc;
     memory = λ e. absurd cc;
+    lost = λ loss e. absurd cc;
     no_other = λ parts ids millis facts told state are_well asks is_well few unhindered unwanted.
         no_other parts ids millis facts told state are_well unhindered;
   }
@@ -67,37 +70,45 @@ module _ {R Q W : Type 0} (left : R → Option (List ℕ)) (health : R → Healt
   module _ (heap : HeapValue) (agree : (parts : List (List ℕ)) → Tell left old parts → Agree parts heap.ids heap.millis heap.facts)
       (summaries : List PartSummary) (of_parts : (parts : List (List ℕ)) → Tell left old parts → AreSummaries parts summaries)
       (reads : Reads left health pulls none_known limits old new None) (is : Q) (after : W) where
+    -- none of it was lost
     pub asks : (r : Result (Unit {0}) DialogueStop)
-        → EndsDialogue (IsHeapAnswer summaries heap.ids heap.facts) asked asking turns written well was is before after r
+        → AnswersDialogue (IsHeapAnswer summaries heap.ids heap.facts) asked asking turns written well was is before after r
+        → EndsDialogue asked asking turns well was is after r → TellsLoss (λ loss. ⊥) r
         → Asks left health pulls asked asking turns written well limits old new was is before after (fault_of_dialogue r)
-    asks (Ok done) ends = record {
+    asks (Ok done) answers (bytes, consumed, ends) tells = record {
       reads = reads;
       refused = λ other e. absurd cc;
       kind = λ other e. absurd cc;
-      ok = λ e. (record { heap = heap; agree = agree; summaries = summaries; of_parts = of_parts; holds = ends.0 }, ends.1, ends.2);
+      ok = λ e. (
+        record { heap = heap; agree = agree; summaries = summaries; of_parts = of_parts; holds = answers },
+        ends.1,
+        ends.2,
+      );
       questions = λ other e. absurd cc;
       write = λ other e. absurd cc;
       memory = λ e. absurd cc;
+      lost = λ loss e. absurd cc;
       no_other = λ parts ids millis facts told state are_well asks is_well few unhindered unwanted. tt;
     }
-    asks (Err (stops.Questions fault)) ends = record {
+    asks (Err (stops.Questions fault)) answers (bytes, consumed, ends) tells = record {
       reads = reads;
       refused = λ other e. absurd cc;
       kind = λ other e. absurd cc;
       ok = λ e. absurd cc;
       questions = λ other e. (
-        record { heap = heap; agree = agree; summaries = summaries; of_parts = of_parts; holds = ends.0 },
+        record { heap = heap; agree = agree; summaries = summaries; of_parts = of_parts; holds = answers },
         ends.1,
         ends.2,
       );
       write = λ other e. absurd cc;
       memory = λ e. absurd cc;
+      lost = λ loss e. absurd cc;
       no_other = λ parts ids millis facts told state are_well asks is_well few unhindered unwanted. elim ends.1 [
         | inl ill_now ↦ absurd (failed (asking is) ill_now asks)
         | inr many ↦ absurd (few many)
       ];
     }
-    asks (Err (stops.Write fault)) ends = record {
+    asks (Err (stops.Write fault)) answers (bytes, consumed, ends) tells = record {
       reads = reads;
       refused = λ other e. absurd cc;
       kind = λ other e. absurd cc;
@@ -105,21 +116,28 @@ module _ {R Q W : Type 0} (left : R → Option (List ℕ)) (health : R → Healt
       questions = λ other e. absurd cc;
       write = λ other e.
           let one : fault ≡ other = cc in (
-            record { heap = heap; agree = agree; summaries = summaries; of_parts = of_parts; holds = ends.0 },
-            ends.1,
-            subst (λ (f : WriteFault). well after ≡ health_after f) one ends.2,
+            record { heap = heap; agree = agree; summaries = summaries; of_parts = of_parts; holds = answers },
+            ends.0,
+            subst (λ (f : WriteFault). well after ≡ health_after f) one ends.1,
           );
       memory = λ e. absurd cc;
+      lost = λ loss e. absurd cc;
       no_other = λ parts ids millis facts told state are_well asks is_well few unhindered unwanted.
-          absurd (ill (well after) fault ends.2 is_well);
+          absurd (ill (well after) fault ends.1 is_well);
     }
-    asks (Err stops.OutOfMemory) ends = record {
+    asks (Err stops.OutOfMemory) answers (bytes, consumed, ends) tells = record {
       reads = reads;
       refused = λ other e. absurd cc;
       kind = λ other e. absurd cc;
       ok = λ e. absurd cc;
       questions = λ other e. absurd cc;
       write = λ other e. absurd cc;
-      memory = λ e. (record { heap = heap; agree = agree; summaries = summaries; of_parts = of_parts; holds = ends.0 }, ends.1, ends.2);
+      memory = λ e. (
+        record { heap = heap; agree = agree; summaries = summaries; of_parts = of_parts; holds = answers },
+        ends.0,
+        ends.1,
+      );
+      lost = λ loss e. absurd cc;
       no_other = λ parts ids millis facts told state are_well asks is_well few unhindered unwanted. absurd (unwanted tt);
     }
+    asks (Err (stops.Lost loss)) answers ends tells = absurd tells

@@ -12,6 +12,7 @@ use Rattle.hprof_stream.specs.declared.limits.Limits.{Limits}
 use Rattle.hprof_stream.specs.declared.summary.PartSummary.{PartSummary}
 use Rattle.hprof_rows.specs.HeapValue.{HeapValue}
 use Rattle.hprof_heap.specs.State.{IsState}
+use Rattle.hprof_engine.specs.declared.loss.Loss.{Loss}
 use Rattle.hprof_engine.specs.declared.tool_fault.ToolFault.{ToolFault}
 use Rattle.hprof_engine.specs.declared.tool_fault.ToolFault.TheVariants as tool
 use Rattle.hprof_engine.specs.Joining.{Tell, Agree, IsHindered, IsOfReading, IsOkOrConflict, none_known}
@@ -94,6 +95,8 @@ pub record Asks {R Q W : Type 0} (left : R → Option (List ℕ)) (health : R �
       → OverParts left old (λ IsAnswer. Came IsAnswer asked asking turns written well was is before after
       (AnswersSome IsAnswer (IsAtEnd (asked is))))
       × (asking is ≡ healths.Well) × (well after ≡ healths.Well)
+  -- a heap in memory is never lost
+  pub lost : (loss : Loss) → ended ≡ Some (faults.Dialogue (stops.Lost loss)) → ⊥
   -- no other answer where the parts state something together, all stay well, nothing hindered reading and no memory was wanted
   pub no_other : (parts : List (List ℕ)) (ids : IdSize) (millis : ℕ) (facts : List FactValue) → Tell left old parts
       → IsState parts ids millis facts → All (λ reader. health reader ≡ healths.Well) new → asking is ≡ healths.Well

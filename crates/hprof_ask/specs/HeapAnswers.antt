@@ -29,6 +29,15 @@ IsReply summaries ids facts (questions.Report report) text = IsReportReply summa
 IsReply summaries ids facts (questions.Misnamed fault) text = text ≡ misnamed_text fault ++ codes "\n"
 IsReply summaries ids facts questions.NotUnderstood text = text ≡ codes "not understood\n"
 
+-- the reply where no report is written: help, or a line; to a question for a report, that no class has the name that it is on
+abbrev pub reply_without_report : Question → List ℕ
+reply_without_report questions.Nothing = []
+reply_without_report questions.Help = help_text
+reply_without_report questions.Quit = []
+reply_without_report (questions.Report report) = codes "no class has this name\n"
+reply_without_report (questions.Misnamed fault) = misnamed_text fault ++ codes "\n"
+reply_without_report questions.NotUnderstood = codes "not understood\n"
+
 -- what stands behind the reply: an empty line, but nothing where the dialogue ends
 abbrev pub behind_reply : Question → List ℕ
 behind_reply questions.Quit = []

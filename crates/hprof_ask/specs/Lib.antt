@@ -6,6 +6,7 @@ pub mod OfName
 pub mod SomeReport
 pub mod HeapAnswers
 pub mod OneHeapAnswer
+pub mod InMemory
 pub mod SomeHeapAnswer
 pub mod Asks
 pub mod Surveys

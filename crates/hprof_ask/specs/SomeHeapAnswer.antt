@@ -4,14 +4,16 @@ use Rattle.hprof_values.specs.declared.ids.IdSize.{IdSize}
 use Rattle.hprof_items.specs.FactValue.{FactValue}
 use Rattle.hprof_stream.specs.declared.summary.PartSummary.{PartSummary}
 use Rattle.hprof_rows.specs.Conflict.{IsConsistent}
+use Rattle.hprof_rows.specs.HeapValue.{HeapValue}
 use Rattle.hprof_rows.proofs.Order.{order_agrees}
 use Rattle.hprof_heap.specs.declared.heap.Heap.{Heap}
 use Rattle.hprof_heap.specs.Heap.{heap_of}
-use Rattle.hprof_heap.specs.HeapFacts.{facts_of, size_of}
+use Rattle.hprof_heap.specs.HeapFacts.{facts_of}
 use Rattle.hprof_questions.specs.declared.question.Question.{Question}
 use Rattle.hprof_questions.specs.declared.question.Question.TheVariants as questions
 use Rattle.hprof_questions.specs.declared.report.Report.{Report}
 use Rattle.hprof_ask.specs.HeapAnswers.{IsHeapAnswer, IsReply, IsReportReply, behind_reply, misnamed_text}
+use Rattle.hprof_ask.specs.InMemory.{IsValueOf, of_value}
 use Rattle.hprof_ask.specs.SomeReport.{report_or_none}
 use Rattle.hprof_questions.specs.Words.{help_text}
 
@@ -41,6 +43,7 @@ heap_agrees : (heap : Heap) → IsConsistent (facts_of heap)
 unfolding facts_of
 heap_agrees heap = order_agrees (heap_of heap).facts heap.sound.heap.ordered
 
-pub some_heap_answer : (summaries : List PartSummary) (heap : Heap) (question : Question)
-    → (text : List ℕ) × IsHeapAnswer summaries (size_of heap) (facts_of heap) question text
-some_heap_answer summaries heap = some_answer (size_of heap) (facts_of heap) (heap_agrees heap) summaries
+pub some_heap_answer : (summaries : List PartSummary) (heap : Heap) (value : HeapValue) → IsValueOf heap value → (question : Question)
+    → (text : List ℕ) × IsHeapAnswer summaries value.ids value.facts question text
+some_heap_answer summaries heap value is =
+    some_answer value.ids value.facts (of_value (λ ids facts. IsConsistent facts) heap value is (heap_agrees heap)) summaries

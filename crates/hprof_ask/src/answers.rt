@@ -5,7 +5,7 @@ ghost use Rattle.std.specs.List.{flat_map};
 ghost use Rattle.hprof_devices.specs.declared.health.Health.TheVariants.{Well};
 ghost use Rattle.hprof_heap.specs.HeapFacts.{facts_of, size_of};
 ghost use Rattle.hprof_lines.specs.Stopping.{LeavesTarget, WritesText};
-ghost use Rattle.hprof_ask.specs.HeapAnswers.{IsHeapAnswer, IsReply, IsReportReply, behind_reply};
+ghost use Rattle.hprof_ask.specs.HeapAnswers.{IsHeapAnswer, IsReply, IsReportReply, behind_reply, reply_without_report};
 ghost use Rattle.hprof_ask.specs.Kept.{IsKept};
 ghost use Rattle.hprof_questions.specs.Words.{all_words, follows_text, help_text, usage_line};
 
@@ -62,8 +62,29 @@ fn write_help<W: Target>(target: &mut W) -> Result<(), WriteStop>
     write_str("quit\nexit\n", target)
 }
 
+/// Writes the reply to a question for which no report is written: help, or a line. The reply to a question for a report is then that no
+/// class has the name that it is on. What stands behind the reply is not written. If it stops, the bytes written are the beginning of the
+/// reply.
+pub fn write_reply_without_report<W: Target>(
+    question: Question<'_>,
+    target: &mut W,
+) -> Result<(), WriteStop>
+    requires { W.health target.old ≡ Well }
+    ensures bytes { WritesText (W.written target.old) (W.written target.new) result (reply_without_report question.entry) }
+    ensures health { LeavesTarget result (W.health target.new) }
+{
+    match question {
+        Question::Nothing => write_str("", target),
+        Question::Help => write_help(target),
+        Question::Quit => write_str("", target),
+        Question::Report(_) => write_str("no class has this name\n", target),
+        Question::Misnamed(Misnamed::NoIdentifier) => write_str("not an identifier\n", target),
+        Question::NotUnderstood => write_str("not understood\n", target),
+    }
+}
+
 /// Returns what stands behind the reply to a question: an empty line, or nothing if the question ends the dialogue.
-fn behind_reply(question: Question<'_>) -> &'static str
+pub fn behind_reply(question: Question<'_>) -> &'static str
     ensures { result.now ≡ behind_reply question.entry }
 {
     match question {
@@ -91,7 +112,7 @@ fn write_report<W: Target>(
 {
     match answerer.write(alloc, kept, report, target) {
         Ok(()) => Ok(()),
-        Err(WriteStop::Refused(_)) => write_str("no class has this name\n", target),
+        Err(WriteStop::Refused(_)) => write_reply_without_report(Question::Report(report), target),
         Err(WriteStop::Write(fault)) => Err(WriteStop::Write(fault)),
         Err(WriteStop::OutOfMemory) => Err(WriteStop::OutOfMemory),
     }
@@ -114,12 +135,8 @@ fn write_reply<W: Target>(
     ensures kept { IsKept (size_of answerer.now.heap.now) (facts_of answerer.now.heap.now) kept.new }
 {
     match question {
-        Question::Nothing => write_str("", target),
-        Question::Help => write_help(target),
-        Question::Quit => write_str("", target),
         Question::Report(report) => write_report(alloc, answerer, kept, report, target),
-        Question::Misnamed(Misnamed::NoIdentifier) => write_str("not an identifier\n", target),
-        Question::NotUnderstood => write_str("not understood\n", target),
+        _ => write_reply_without_report(question, target),
     }
 }
 
@@ -147,10 +164,16 @@ fn write_answer<W: Target>(
 }
 
 impl<'a> Answers for Answerer<'a> {
+    ghost use Rattle.hprof_ask.specs.InMemory.{IsValueOf};
     ghost use Rattle.hprof_ask.specs.OneHeapAnswer.{one_heap_answer};
     ghost use Rattle.hprof_ask.specs.SomeHeapAnswer.{some_heap_answer};
 
-    ghost is_answer = { λ answers. IsHeapAnswer answers.summaries.now (size_of answers.heap.now) (facts_of answers.heap.now) };
+    ghost about = { λ answers. IsValueOf answers.heap.now };
+
+    ghost is_answer = { λ answers heap. IsHeapAnswer answers.summaries.now heap.ids heap.facts };
+
+    // A heap in memory is never lost.
+    ghost loses = { λ answers loss. ⊥ };
 
     ghost keeps = { λ answers kept. IsKept (size_of answers.heap.now) (facts_of answers.heap.now) kept };
 
@@ -174,5 +197,5 @@ impl<'a> Answers for Answerer<'a> {
 
     ghost some_answer = { λ answers. some_heap_answer answers.summaries.now answers.heap.now };
 
-    ghost one_answer = { λ answers. one_heap_answer answers.summaries.now (size_of answers.heap.now) (facts_of answers.heap.now) };
+    ghost one_answer = { λ answers heap is. one_heap_answer answers.summaries.now heap.ids heap.facts };
 }

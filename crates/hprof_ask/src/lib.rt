@@ -18,6 +18,7 @@ mod referring;
 mod survey;
 
 pub use answerer::Answerer;
+pub use answers::{behind_reply, write_reply_without_report};
 pub use ask::{ask_kept, ask_to};
 pub use ask_fault::AskFault;
 pub use calls::{

@@ -46,11 +46,11 @@ rule_left app takes rule is = rw is
 -- a command with the arguments of its row is that of the row
 pub shape_of_these : (row : CommandRow)
     → (with_rules (with_rules (with_rules (new_app row.word.now) (required_rules row.arguments.now)) (rules_if row.takes_parts parts_rule))
-    (rules_if row.takes_memory memory_rule)).top
+    (memory_rule ∷ [])).top
     ≡ shape_of_row row
 shape_of_these row =
     let parts = rules_if row.takes_parts parts_rule in
-    let memory = rules_if row.takes_memory memory_rule in
+    let memory = memory_rule ∷ [] in
     ap (λ (rules : List Rule). record (new_shape row.word.now) { rules = rules })
     (append_assoc (required_rules row.arguments.now) parts memory
     ∙ ap (λ (rules : List Rule). rules ++ (parts ++ memory)) (by_name row.arguments.now))

@@ -58,11 +58,6 @@ abbrev pub takes_parts : CommandWord → Bool
 takes_parts commands.Compare = false
 takes_parts other = true
 
--- whether a command takes the option for the memory: those that read objects again do
-abbrev pub takes_memory : CommandWord → Bool
-takes_memory commands.Ask = false
-takes_memory other = true
-
 -- the program or the command, with these arguments behind its own
 abbrev pub with_rules : App → List Rule → App
 with_rules app rules = record app { top = record app.top { rules = app.top.rules ++ rules } }
@@ -71,18 +66,18 @@ with_rules app rules = record app { top = record app.top { rules = app.top.rules
 abbrev pub rules_if : Bool → Rule → List Rule
 rules_if takes rule = if takes then rule ∷ [] else []
 
--- a command of that word, with these arguments: those that it must be given, then the parts and the memory, if it takes them
-abbrev pub shape_with : (word : List ℕ) → (required : List (List ℕ)) → (parts memory : Bool) → Shape
-shape_with word required parts memory = record (new_shape word) {
-  rules = map required_rule required ++ (rules_if parts parts_rule ++ rules_if memory memory_rule);
+-- a command of that word, with these arguments: those that it must be given, then the parts, if it takes them, and the memory
+abbrev pub shape_with : (word : List ℕ) → (required : List (List ℕ)) → (parts : Bool) → Shape
+shape_with word required parts = record (new_shape word) {
+  rules = map required_rule required ++ (rules_if parts parts_rule ++ memory_rule ∷ []);
 }
 
 abbrev pub shape_of_command : CommandWord → Shape
-shape_of_command command = shape_with (command_word command) (required_of command) (takes_parts command) (takes_memory command)
+shape_of_command command = shape_with (command_word command) (required_of command) (takes_parts command)
 
 abbrev pub shape_of_row : CommandRow → Shape
 shape_of_row row =
-    shape_with row.word.now (map (λ argument. argument.name.now) row.arguments.now) row.takes_parts row.takes_memory
+    shape_with row.word.now (map (λ argument. argument.name.now) row.arguments.now) row.takes_parts
 
 -- all commands, in the order of the program's help
 abbrev pub all_commands : List CommandWord

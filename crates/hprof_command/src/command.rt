@@ -1,6 +1,6 @@
 //! The words of the command line.
 
-ghost use Rattle.std.specs.Prelude.{◌≡◌, ◌<◌, ◌^◌, ℕ, false, map, MatchResult, IfOk, string_bytes, codes};
+ghost use Rattle.std.specs.Prelude.{◌≡◌, ◌<◌, ◌^◌, ℕ, [], ◌∷◌, false, map, MatchResult, IfOk, string_bytes, codes};
 ghost use Rattle.clap.specs.Words.{app_of, found_of, rows_of, rule_of, shape_of, subcommand_rows_of, with_subcommand};
 ghost use Rattle.hprof_questions.specs.Words.{follows_of};
 ghost use Rattle.hprof_scratch.specs.Size.{IsSize};
@@ -197,18 +197,11 @@ fn with_parts<'a>(
     Ok(command)
 }
 
-/// Adds the option for the memory to a command, if it takes it.
-fn with_memory<'a>(
-    alloc: Global,
-    command: Command<'a>,
-    takes_memory: bool,
-) -> Result<Command<'a>, AllocError>
-    ensures { IfOk result (λ command_then. app_of command_then ≡ with_rules (app_of command.entry) (rules_if takes_memory memory_rule)) }
+/// Adds the option for the memory to a command.
+fn with_memory<'a>(alloc: Global, command: Command<'a>) -> Result<Command<'a>, AllocError>
+    ensures { IfOk result (λ command_then. app_of command_then ≡ with_rules (app_of command.entry) (memory_rule ∷ [])) }
 {
-    if takes_memory {
-        return command.arg(memory_arg(alloc));
-    }
-    Ok(command)
+    command.arg(memory_arg(alloc))
 }
 
 /// Returns a command of the program.
@@ -220,7 +213,7 @@ fn subcommand<'a>(alloc: Global, row: &CommandRow) -> Result<Command<'a>, AllocE
         .after_help(row.help);
     let command = with_required(alloc, command, row.arguments)?;
     let command = with_parts(alloc, command, row.takes_parts)?;
-    with_memory(alloc, command, row.takes_memory)
+    with_memory(alloc, command)
 }
 
 /// Adds a command to the program.

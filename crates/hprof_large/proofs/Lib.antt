@@ -1,3 +1,5 @@
 mod FewerMade
 mod NamedKind
 mod NamedDumps
+mod Answering
+mod AskingStored

@@ -1,12 +1,19 @@
-//! The reports on parts that are larger than the memory: those that are made of passes over objects.
+//! The reports on parts that are larger than the memory, and answers to questions about them. Both are made of passes over objects.
 //!
-//! Begin with [`PassedReport`].
+//! Begin with [`PassedReport`] and [`ask_stored`].
 #![tactic(auto)]
 
+mod asking;
 mod checked;
 mod heap;
 mod kind;
 mod node;
+mod passed_answers;
 mod passed_report;
+mod stops;
+mod texts;
 
+pub use asking::ask_stored;
+pub use passed_answers::PassedAnswers;
 pub use passed_report::PassedReport;
+pub use texts::KeptTexts;

@@ -1,5 +1,6 @@
 pub mod LineLemmas
 pub mod KeptLines
+pub mod Taking
 pub mod Hearing
 pub mod Dialogues
 pub mod OneLine

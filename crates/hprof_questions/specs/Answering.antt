@@ -5,6 +5,7 @@ use Rattle.std.specs.Io.KnownBytes.{Appends}
 use Rattle.hprof_devices.specs.declared.health.Health.{Health}
 use Rattle.hprof_devices.specs.declared.health.Health.TheVariants.{Well}
 use Rattle.hprof_devices.specs.Device.{health_after}
+use Rattle.hprof_engine.specs.declared.loss.Loss.{Loss}
 use Rattle.hprof_questions.specs.declared.dialogue.Course.{Course}
 use Rattle.hprof_questions.specs.declared.dialogue.Course.TheVariants as courses
 use Rattle.hprof_questions.specs.declared.question.Question.{Question}
@@ -26,10 +27,17 @@ AreAnswers IsAnswer (line ∷ lines) text = (Quits line × (text ≡ []))
     ⊎ (¬ (Quits line) × (answer : List ℕ) × (rest : List ℕ) × IsLineAnswer IsAnswer line answer × AreAnswers IsAnswer lines rest
     × (text ≡ answer ++ rest))
 
--- all of the text was written, or where it stopped some of it, from the front
+-- all of the text was written; where it stopped some of it, from the front, and nothing where that which it is about was lost
 abbrev pub WritesAnswer : {A : Type 0} → Option (List ℕ) → Option (List ℕ) → Result A DialogueStop → List ℕ → Type 0
 WritesAnswer old new (Ok done) text = Appends old new text
+WritesAnswer old new (Err (stops.Lost loss)) text = new ≡ old
 WritesAnswer old new (Err stop) text = (n : ℕ) × (n ≤ length text) × Appends old new (take n text)
+
+-- a question was taken: the dialogue ended at one that ends it, and at no other
+abbrev pub EndsAtQuit : Question → Result Course DialogueStop → Type 0
+EndsAtQuit question (Ok courses.Ended) = question ≡ questions.Quit
+EndsAtQuit question (Ok courses.Open) = question ≢ questions.Quit
+EndsAtQuit question (Err stop) = question ≢ questions.Quit
 
 -- a question was taken: it ended the dialogue and nothing was written, or it was answered
 abbrev pub TakesQuestion : (Question → List ℕ → Type 0) → Question → (old new : Option (List ℕ)) → Result Course DialogueStop → Type 0
@@ -39,11 +47,24 @@ TakesQuestion IsAnswer question old new (Ok courses.Open) =
 TakesQuestion IsAnswer question old new (Err stop) =
     (question ≢ questions.Quit) × (text : List ℕ) × IsAnswer question text × WritesAnswer {A = Unit {0}} old new (Err stop) text
 
--- the health in which a writer is left by an answer: want of memory leaves it well
+-- the writer failed or stuck
+abbrev pub IsOfWriter : DialogueStop → Type 0
+IsOfWriter (stops.Write fault) = ⊤
+IsOfWriter other = ⊥
+
+-- where that which the answers are about was lost, it says why
+--   Loses: it is lost for that reason
+abbrev pub TellsLoss : {A : Type 0} → (Loses : Loss → Type 0) → Result A DialogueStop → Type 0
+TellsLoss Loses (Ok done) = ⊤
+TellsLoss Loses (Err (stops.Lost loss)) = Loses loss
+TellsLoss Loses (Err other) = ⊤
+
+-- the health in which a writer is left by an answer: only its own faults leave it other than well
 abbrev pub LeavesWriter : {A : Type 0} → Result A DialogueStop → Health → Type 0
 LeavesWriter (Ok done) health = health ≡ Well
 LeavesWriter (Err (stops.Write fault)) health = health ≡ health_after fault
 LeavesWriter (Err stops.OutOfMemory) health = health ≡ Well
+LeavesWriter (Err (stops.Lost loss)) health = health ≡ Well
 LeavesWriter (Err (stops.Questions fault)) health = ⊥
 
 -- all that was written was flushed, unless the writer failed
@@ -52,4 +73,5 @@ abbrev pub PassesOn : {A : Type 0} → Result A DialogueStop → (Flushed : Type
 PassesOn (Ok done) Flushed = Flushed
 PassesOn (Err (stops.Write fault)) Flushed = ⊤
 PassesOn (Err stops.OutOfMemory) Flushed = Flushed
+PassesOn (Err (stops.Lost loss)) Flushed = Flushed
 PassesOn (Err (stops.Questions fault)) Flushed = Flushed

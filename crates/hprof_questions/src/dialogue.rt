@@ -1,11 +1,13 @@
 //! Questions that are taken line by line, and answered.
 
 ghost use Rattle.std.specs.Prelude.{◌≡◌, ◌++◌, ◌∷◌, [], ◌<◌, ◌≤◌, ◌+◌, ◌-◌, ℕ, List, Option, take, length, vec_capacity};
-ghost use Rattle.std.specs.Prelude.{Err, OnOk};
+ghost use Rattle.std.specs.Prelude.{◌⊎◌, Err, IfErr, OnOk};
 ghost use Rattle.std.specs.Io.KnownBytes.{Keeps};
 ghost use Rattle.hprof_devices.specs.declared.health.Health.TheVariants.{Well, Failed};
-ghost use Rattle.hprof_questions.specs.Answering.{LeavesWriter, PassesOn, TakesQuestion, WritesAnswer};
-ghost use Rattle.hprof_questions.specs.Dialogue.{EndsDialogue, Finishes, GoesOver, Heard, LetsReadOn};
+ghost use Rattle.hprof_rows.specs.HeapValue.{HeapValue};
+ghost use Rattle.hprof_questions.specs.Answering.{EndsAtQuit, IsOfWriter, LeavesWriter, PassesOn, TakesQuestion, TellsLoss, WritesAnswer};
+ghost use Rattle.hprof_questions.specs.Dialogue.{AnswersDialogue, EndsDialogue, Finishes, GoesOver, Heard, LetsReadOnAbout, TakesLines};
+ghost use Rattle.hprof_questions.specs.Dialogue.{TakesOn};
 
 use crate::asker::Asker;
 use crate::question::{Question, ended_question, last_question};
@@ -28,14 +30,26 @@ pub(crate) enum Course {
     Ended,
 }
 
-/// A type that answers questions.
+/// A type that answers questions about a heap.
+///
+/// The heap may be one whose objects are read again for each answer. Then an answer may stop because they are lost, and the heap is known
+/// only if the bytes of its parts are.
 pub trait Answers {
+    ghost use Rattle.hprof_devices.specs.declared.health.Health.TheVariants.{Well};
+    ghost use Rattle.hprof_engine.specs.declared.loss.Loss.{Loss};
     ghost use Rattle.hprof_questions.specs.declared.question.Question.{Question};
     ghost use Rattle.hprof_questions.specs.Same.{IsSame};
-    ghost use Rattle.hprof_devices.specs.declared.health.Health.TheVariants.{Well};
+    ghost use Rattle.hprof_rows.specs.HeapValue.{HeapValue};
 
-    // The text is the answer to that question.
-    ghost is_answer: { Self → Question → List ℕ → Type 0 };
+    // The answers may be about that heap. It need not be known which one it is: if the bytes of the parts are not known, there may be
+    // several such heaps, or none. So all that is said of answers is said for each heap that they may be about.
+    ghost about: { Self → HeapValue → Type 0 };
+
+    // The text is the answer to that question about that heap.
+    ghost is_answer: { Self → HeapValue → Question → List ℕ → Type 0 };
+
+    // What the answers are about cannot be read again, for that reason.
+    ghost loses: { Self → Loss → Type 0 };
 
     // What is kept between questions is of this. It is no part of any answer.
     ghost keeps: { Self → Self.Kept → Type 0 };
@@ -44,6 +58,7 @@ pub trait Answers {
     type Kept;
 
     /// Writes the answer to a question. If it stops, at a fault or because memory runs out, some of the answer was written, from the front.
+    /// If it stops because what it is about is lost, nothing of it was written.
     fn answer<W: Target>(
         &self,
         alloc: Global,
@@ -53,17 +68,19 @@ pub trait Answers {
     ) -> Result<(), DialogueStop>
         requires well { W.health target.old ≡ Well }
         requires kept { keeps self.now kept.old }
-        ensures bytes { (text : List ℕ) × is_answer self.now question.entry text
+        ensures bytes { (heap : HeapValue) → about self.now heap → (text : List ℕ) × is_answer self.now heap question.entry text
             × WritesAnswer (W.written target.old) (W.written target.new) result text }
         ensures health { LeavesWriter result (W.health target.new) }
+        ensures lost { TellsLoss (loses self.now) result }
         ensures kept { keeps self.now kept.new };
 
-    // A question has an answer.
-    ghost some_answer: { (answers : Self) (question : Question) → (text : List ℕ) × is_answer answers question text };
+    // A question has an answer about each heap.
+    ghost some_answer: { (answers : Self) (heap : HeapValue) → about answers heap → (question : Question)
+        → (text : List ℕ) × is_answer answers heap question text };
 
-    // And no other, wherever the bytes of a name lie.
-    ghost one_answer: { (answers : Self) (question same : Question) (one other : List ℕ) → IsSame question same
-        → is_answer answers question one → is_answer answers same other → one ≡ other };
+    // And no other about that heap, wherever the bytes of a name lie.
+    ghost one_answer: { (answers : Self) (heap : HeapValue) → about answers heap → (question same : Question) (one other : List ℕ)
+        → IsSame question same → is_answer answers heap question one → is_answer answers heap same other → one ≡ other };
 }
 
 /// Keeps one more byte of a line, if there is room for it.
@@ -87,8 +104,11 @@ fn take_question<A: Answers, W: Target>(
 ) -> Result<Course, DialogueStop>
     requires well { W.health target.old ≡ Well }
     requires kept { A.keeps answers.now kept.old }
-    ensures takes { TakesQuestion (A.is_answer answers.now) question.entry (W.written target.old) (W.written target.new) result }
+    ensures takes { (heap : HeapValue) → A.about answers.now heap
+        → TakesQuestion (A.is_answer answers.now heap) question.entry (W.written target.old) (W.written target.new) result }
+    ensures ends { EndsAtQuit question.entry result }
     ensures health { LeavesWriter result (W.health target.new) }
+    ensures lost { TellsLoss (A.loses answers.now) result }
     ensures kept { A.keeps answers.now kept.new }
 {
     match question {
@@ -113,10 +133,12 @@ fn go_over<A: Answers, W: Target>(
     requires well { W.health target.old ≡ Well }
     requires kept { A.keeps answers.now kept.old }
     requires room { KEPT ≤ vec_capacity line.old }
-    ensures bytes { (bytes : List ℕ) (start : Option (List ℕ))
-        → Heard (A.is_answer answers.now) bytes start (W.written target.old) line.old.items
-        → GoesOver (A.is_answer answers.now) (bytes ++ piece.now) start (W.written target.new) line.new.items result }
+    ensures bytes { (heap : HeapValue) → A.about answers.now heap → (bytes : List ℕ) (start : Option (List ℕ))
+        → Heard (A.is_answer answers.now heap) bytes start (W.written target.old) line.old.items
+        → GoesOver (A.is_answer answers.now heap) (bytes ++ piece.now) start (W.written target.new) line.new.items result }
+    ensures takes { (bytes : List ℕ) → TakesLines bytes line.old.items → TakesOn (bytes ++ piece.now) line.new.items result }
     ensures health { LeavesWriter result (W.health target.new) }
+    ensures lost { TellsLoss (A.loses answers.now) result }
     ensures kept { A.keeps answers.now kept.new }
     ensures room { KEPT ≤ vec_capacity line.new }
 {
@@ -141,6 +163,7 @@ fn flush_all<W: Flush>(target: &mut W) -> Result<(), DialogueStop>
     ensures flushed { OnOk result (W.flushed target.new) }
     ensures passes { PassesOn result (W.flushed target.new) }
     ensures health { LeavesWriter result (W.health target.new) }
+    ensures writer { IfErr result IsOfWriter }
 {
     match target.flush() {
         Ok(()) => Ok(()),
@@ -154,6 +177,7 @@ fn pass_on<W: Flush>(stop: DialogueStop, target: &mut W) -> DialogueStop
     ensures bytes { Keeps (W.written target.old) (W.written target.new) }
     ensures passes { PassesOn {A = Unit {0}} (Err result) (W.flushed target.new) }
     ensures health { LeavesWriter {A = Unit {0}} (Err result) (W.health target.new) }
+    ensures stop { (result ≡ stop) ⊎ IsOfWriter result }
 {
     if let DialogueStop::Write(fault) = stop {
         return DialogueStop::Write(fault);
@@ -174,9 +198,11 @@ fn answer_last<A: Answers, W: Target>(
 ) -> Result<(), DialogueStop>
     requires well { W.health target.old ≡ Well }
     requires kept { A.keeps answers.now kept.old }
-    ensures bytes { (bytes : List ℕ) (start : Option (List ℕ)) → Heard (A.is_answer answers.now) bytes start (W.written target.old) line.now
-        → Finishes (A.is_answer answers.now) bytes start (W.written target.new) result }
+    ensures bytes { (heap : HeapValue) → A.about answers.now heap → (bytes : List ℕ) (start : Option (List ℕ))
+        → Heard (A.is_answer answers.now heap) bytes start (W.written target.old) line.now
+        → Finishes (A.is_answer answers.now heap) bytes start (W.written target.new) result }
     ensures health { LeavesWriter result (W.health target.new) }
+    ensures lost { TellsLoss (A.loses answers.now) result }
     ensures kept { A.keeps answers.now kept.new }
 {
     if line.is_empty() {
@@ -196,9 +222,11 @@ fn finish<A: Answers, W: Flush>(
 ) -> Result<(), DialogueStop>
     requires well { W.health target.old ≡ Well }
     requires kept { A.keeps answers.now kept.old }
-    ensures bytes { (bytes : List ℕ) (start : Option (List ℕ)) → Heard (A.is_answer answers.now) bytes start (W.written target.old) line.now
-        → Finishes (A.is_answer answers.now) bytes start (W.written target.new) result }
+    ensures bytes { (heap : HeapValue) → A.about answers.now heap → (bytes : List ℕ) (start : Option (List ℕ))
+        → Heard (A.is_answer answers.now heap) bytes start (W.written target.old) line.now
+        → Finishes (A.is_answer answers.now heap) bytes start (W.written target.new) result }
     ensures health { LeavesWriter result (W.health target.new) }
+    ensures lost { TellsLoss (A.loses answers.now) result }
     ensures flushed { PassesOn result (W.flushed target.new) }
     ensures kept { A.keeps answers.now kept.new }
 {
@@ -221,13 +249,17 @@ fn take_lines<A: Answers, Q: Asker<W>, W: Flush>(
     requires asking { Q.health questions.old ≡ Well }
     requires well { W.health target.old ≡ Well }
     requires kept { A.keeps answers.now kept.old }
-    requires leave { LetsReadOn (A.is_answer answers.now) Q.left W.written W.flushed Q.may_read questions.old (W.written target.old) }
+    requires leave { LetsReadOnAbout (A.about answers.now) (A.is_answer answers.now) Q.left W.written W.flushed Q.may_read questions.old
+        (W.written target.old) }
     requires some { 0 < length piece.old }
     requires empty { line.old.items ≡ [] }
     requires room { KEPT ≤ vec_capacity line.old }
-    ensures dialogue { EndsDialogue (A.is_answer answers.now) Q.left Q.health Q.pulls W.written W.health
-        questions.old questions.new target.old target.new result }
+    ensures dialogue { (heap : HeapValue) → A.about answers.now heap
+        → AnswersDialogue (A.is_answer answers.now heap) Q.left Q.health Q.pulls W.written W.health questions.old questions.new
+        target.old target.new result }
+    ensures ends { EndsDialogue Q.left Q.health Q.pulls W.health questions.old questions.new target.new result }
     ensures flushed { PassesOn result (W.flushed target.new) }
+    ensures lost { TellsLoss (A.loses answers.now) result }
     ensures kept { A.keeps answers.now kept.new }
 {
     'turns: for _turn in 0..u64::MAX {
@@ -255,8 +287,8 @@ fn take_lines<A: Answers, Q: Asker<W>, W: Flush>(
 }
 
 /// Takes the lines of the questions and answers each, until there are no more or a line ends the dialogue. What stands behind that line is
-/// not answered, and no more is read. All answers so far are flushed before more is read, and at the end, also if memory runs out or the
-/// questions cannot be read on. Of a line no more than its first bytes are kept.
+/// not answered, and no more is read. All answers so far are flushed before more is read, and at the end, also if memory runs out, if what
+/// the answers are about is lost or if the questions cannot be read on. Of a line no more than its first bytes are kept.
 pub fn converse<A: Answers, Q: Asker<W>, W: Flush>(
     alloc: Global,
     answers: &A,
@@ -268,10 +300,14 @@ pub fn converse<A: Answers, Q: Asker<W>, W: Flush>(
     requires well { W.health target.old ≡ Well }
     requires kept { A.keeps answers.now kept.old }
     // No more is read before all lines that ended are answered, and the answers were flushed, nor behind a line that ends the dialogue.
-    requires leave { LetsReadOn (A.is_answer answers.now) Q.left W.written W.flushed Q.may_read questions.old (W.written target.old) }
-    ensures dialogue { EndsDialogue (A.is_answer answers.now) Q.left Q.health Q.pulls W.written W.health
-        questions.old questions.new target.old target.new result }
+    requires leave { LetsReadOnAbout (A.about answers.now) (A.is_answer answers.now) Q.left W.written W.flushed Q.may_read questions.old
+        (W.written target.old) }
+    ensures dialogue { (heap : HeapValue) → A.about answers.now heap
+        → AnswersDialogue (A.is_answer answers.now heap) Q.left Q.health Q.pulls W.written W.health questions.old questions.new
+        target.old target.new result }
+    ensures ends { EndsDialogue Q.left Q.health Q.pulls W.health questions.old questions.new target.new result }
     ensures flushed { PassesOn result (W.flushed target.new) }
+    ensures lost { TellsLoss (A.loses answers.now) result }
     ensures kept { A.keeps answers.now kept.new }
 {
     let Ok(mut piece) = vec![in alloc; 0u8; PIECE_LEN] else {

@@ -3,6 +3,7 @@
 ghost use Rattle.std.specs.Prelude.{◌≡◌};
 
 use hprof_devices::{ReadFault, WriteFault};
+use hprof_engine::Loss;
 use std::alloc::AllocError;
 use thiserror::Error;
 
@@ -15,6 +16,9 @@ pub enum DialogueStop {
     /// The writer failed or stuck.
     #[error("{0}")]
     Write(WriteFault),
+    /// What the answers are about cannot be read again.
+    #[error("{0}")]
+    Lost(Loss),
     /// Memory was refused.
     #[error("out of memory")]
     OutOfMemory,
@@ -47,5 +51,15 @@ impl From<WriteFault> for DialogueStop {
 
     fn from(fault: WriteFault) -> DialogueStop {
         DialogueStop::Write(fault)
+    }
+}
+
+impl From<Loss> for DialogueStop {
+    ghost use Rattle.hprof_questions.specs.declared.stop.DialogueStop.TheVariants.{Lost};
+
+    ghost from_gives = { λ loss given. given ≡ Lost loss };
+
+    fn from(loss: Loss) -> DialogueStop {
+        DialogueStop::Lost(loss)
     }
 }

@@ -7,29 +7,38 @@ use Rattle.hprof_devices.specs.Buffered.{buffered_of}
 use Rattle.hprof_devices.specs.declared.buffered.BufferedDevice.{BufferedDevice}
 use Rattle.hprof_devices.specs.declared.health.Health.{Health}
 use Rattle.hprof_devices.specs.declared.health.Health.TheVariants as healths
+use Rattle.hprof_devices.specs.declared.health.ReadFault.{ReadFault}
 use Rattle.hprof_stream.specs.declared.summary.PartSummary.{PartSummary}
 use Rattle.hprof_rows.specs.HeapValue.{HeapValue}
+use Rattle.hprof_engine.specs.declared.loss.Loss.{Loss}
+use Rattle.hprof_engine.specs.declared.tool_fault.ToolFault.{ToolFault}
 use Rattle.hprof_engine.specs.declared.tool_fault.ToolFault.TheVariants as tool
 use Rattle.hprof_engine.specs.Joining.{Agree, Tell}
-use Rattle.hprof_engine.specs.Makes.{dump_making}
+use Rattle.hprof_engine.specs.Makes.{IsChange, Reads}
 use Rattle.hprof_engine.specs.Summaries.{AreSummaries}
+use Rattle.hprof_stored.specs.StoredMaking.{stored_dump_making}
+use Rattle.hprof_stored.specs.Storing.{HaveObject}
+use Rattle.hprof_diff.specs.Comparing.{IsOfCounting}
 use Rattle.hprof_questions.specs.declared.question.Question.{Question}
 use Rattle.hprof_questions.specs.declared.stop.DialogueStop.TheVariants as stops
-use Rattle.hprof_questions.specs.Dialogue.{AnswersLines, AnswersSome, AreOpenLines}
+use Rattle.hprof_questions.specs.Dialogue.{AnswersBefore, AnswersDialogue, AnswersLines, AnswersSome, AreOpenLines}
 use Rattle.hprof_questions.specs.Lines.{AreLines}
 use Rattle.hprof_ask.specs.declared.ask_fault.AskFault.{AskFault}
 use Rattle.hprof_ask.specs.declared.ask_fault.AskFault.TheVariants as faults
+use Rattle.hprof_ask.specs.Asks.{LetsAsk, fault_of_parts}
 use Rattle.hprof_ask.specs.HeapAnswers.{IsHeapAnswer}
+use Rattle.hprof_large.specs.AskingStored.{LetsAskStored, OfDialogue, OverTold}
 use Rattle.hprof_tool.specs.declared.program.refused.Refused.{Refused}
 use Rattle.hprof_tool.specs.declared.program.refused.Refused.TheVariants as refusals
 use Rattle.hprof_tool.specs.Folder.{Answered}
-use Rattle.hprof_tool.specs.Program.{OfParts, IsOfMaking, IsRefusal, IsReportRefusal, refused_of}
+use Rattle.hprof_tool.specs.Program.{OfParts, IsOfMaking, IsRefusal, IsReportRefusal, refused_of, usual_limits}
 
 -- how the program refuses what asking questions ended with
 abbrev pub refused_asking : AskFault → Refused
 refused_asking (faults.Parts fault) = refused_of fault
 refused_asking (faults.Dialogue (stops.Questions fault)) = refusals.Questions
 refused_asking (faults.Dialogue (stops.Write fault)) = refusals.Engine (tool.Write fault)
+refused_asking (faults.Dialogue (stops.Lost loss)) = refusals.Engine (tool.Lost loss)
 refused_asking (faults.Dialogue stops.OutOfMemory) = refusals.OutOfMemory
 
 -- nothing is held back in the buffer before a stream
@@ -39,6 +48,41 @@ is_flushed device = writer_buffer (buffered_of device) ≡ []
 -- the source of questions failed, or was pulled as often as can be counted
 abbrev pub CannotReadOn : {Q : Type 0} → (Q → Health) → (Q → ℕ) → Q → Type 0
 CannotReadOn health pulls source = (health source ≡ healths.Failed) ⊎ (2 ^ 64 - 1 ≤ pulls source)
+
+-- objects were lost while parts were read, or while questions were answered
+abbrev pub LosesObjects : Option AskFault → Loss → Type 0
+LosesObjects ended loss = (ended ≡ Some (faults.Parts (tool.Lost loss))) ⊎ (ended ≡ Some (faults.Dialogue (stops.Lost loss)))
+
+-- what a call answers that reads all parts, and then takes lines and answers them; memory is taken for each object, also for one that is
+-- known
+--   left, health, pulls: what a reader of parts has left to tell, how it is doing, how often it was pulled
+--   asked, asking, turns: the same of the source of questions;  written, well: what the writer holds, where it tells, and how it is doing
+--   old, new; was, is; before, after: the readers, the source and the writer, before and afterwards
+--   ended: the fault that the call ended with, if any
+pub record AsksReaders {R Q W : Type 0} (left : R → Option (List ℕ)) (health : R → Health) (pulls : R → ℕ) (asked : Q → Option (List ℕ))
+    (asking : Q → Health) (turns : Q → ℕ) (written : W → Option (List ℕ)) (well : W → Health) (old new : List R) (was is : Q)
+    (before after : W) (ended : Option AskFault) : Type 0 where
+  -- what is answered of the parts, which are all read before the first question is
+  pub reads : Reads left health pulls HaveObject usual_limits old new (fault_of_parts ended)
+  -- where they are refused, nothing was read of the questions, and nothing was written
+  pub refused : (fault : ToolFault) → ended ≡ Some (faults.Parts fault) → (is ≡ was) × (after ≡ before)
+  -- such a fault is none of writing, and no heap is refused
+  pub kind : IsOfCounting (fault_of_parts ended)
+  -- where objects were lost, a part that is told did not change
+  pub changed : (loss : Loss) → LosesObjects ended loss → (parts : List (List ℕ)) → Tell left old parts → IsChange loss → ⊥
+  -- what was taken of the questions and written of the answers, if the parts are told: they agree
+  pub answers : OfDialogue ended (λ result. (parts : List (List ℕ)) → Tell left old parts
+      → OverTold parts (λ IsAnswer. AnswersDialogue IsAnswer asked asking turns written well was is before after result))
+  -- why the questions could not be read on
+  pub cause : (fault : ReadFault) → ended ≡ Some (faults.Dialogue (stops.Questions fault)) → CannotReadOn asking turns is
+
+-- the leave to read questions on, whether objects are read again or not
+--   start: what the writer held before
+abbrev pub LetsAskReaders : {R Q W : Type 0} → (left : R → Option (List ℕ)) → (asked : Q → Option (List ℕ))
+    → (written : W → Option (List ℕ)) → (flushed : W → Type 0) → (may_read : Q → W → Type 0) → List R → Q → (start : Option (List ℕ))
+    → Type 0
+LetsAskReaders left asked written flushed may_read readers was start =
+    LetsAsk left asked written flushed may_read readers was start × LetsAskStored left asked written flushed may_read readers was start
 
 -- a refusal that the questions could not be read comes of their source alone
 abbrev pub HasFailed : {Q : Type 0} → (Q → Health) → (Q → ℕ) → Refused → Type 0
@@ -77,6 +121,11 @@ module _ {O : Type 0} (contents : O → Option (List ℕ)) (old : O) (Over : ((Q
   AnswersFirst holds = Over (λ IsAnswer questions. OfFront questions
       (λ front rest. AnswersSome IsAnswer (rest ≡ []) front (contents old) holds))
 
+  -- the answers to the lines before the last one that was taken were written, and nothing of the answer to that
+  abbrev pub AnswersButLast : (holds : Option (List ℕ)) → Type 0
+  AnswersButLast holds = Over (λ IsAnswer questions. OfFront questions
+      (λ front rest. AnswersBefore IsAnswer (rest ≡ []) front (contents old) holds))
+
   -- what a refusal says, and leaves of the stream: behind what it held stand those answers, and if it failed all but some bytes at the end
   --   Says: what it says of the parts
   abbrev pub LeavesAnswers : (Says : Refused → Type 0) → Refused → (new : Option O) → Type 0
@@ -85,6 +134,9 @@ module _ {O : Type 0} (contents : O → Option (List ℕ)) (old : O) (Over : ((Q
   LeavesAnswers Says (refusals.Engine (tool.Write fault)) (Some new) = (unwritten : List ℕ) × AnswersFirst (append_known
       (contents new) unwritten)
   LeavesAnswers Says (refusals.Engine (tool.Write fault)) None = ⊥
+  LeavesAnswers Says (refusals.Engine (tool.Lost loss)) (Some new) =
+      Says (refusals.Engine (tool.Lost loss)) × ((new ≡ old) ⊎ AnswersButLast (contents new))
+  LeavesAnswers Says (refusals.Engine (tool.Lost loss)) None = ⊥
   LeavesAnswers Says refusals.OutOfMemory (Some new) = (new ≡ old) ⊎ AnswersFirst (contents new)
   LeavesAnswers Says refusals.OutOfMemory None = ⊤
   LeavesAnswers Says (refusals.Engine (tool.Part index fault)) new = Says (refusals.Engine (tool.Part index fault)) × (new ≡ Some old)
@@ -105,7 +157,7 @@ module _ {R Q : Type 0} (left : R → Option (List ℕ)) (asked : Q → Option (
 --   old, new: the readers, before and afterwards
 abbrev pub SaysOfReaders : {R : Type 0} → (R → Option (List ℕ)) → (R → Health) → (R → ℕ) → (old new : List R) → Refused → Type 0
 SaysOfReaders left health pulls old new refused = IsOfMaking refused
-    × ((parts : List (List ℕ)) → Tell left old parts → IsRefusal left health pulls old new dump_making refused parts)
+    × ((parts : List (List ℕ)) → Tell left old parts → IsRefusal left health pulls old new stored_dump_making refused parts)
 
 -- answered: what came of the names of files
 -- tells: what a part has left to tell
@@ -124,4 +176,5 @@ module _ {P W I O : Type 0} (answered : Answered P W) (tells : P → Option (Lis
   -- what a refusal says, and leaves of the stream
   --   health, pulls: how a part is doing, and how often it was pulled
   abbrev pub RefusesQuestions : (health : P → Health) (pulls : P → ℕ) → Refused → (new : Option O) → Type 0
-  RefusesQuestions health pulls = LeavesAnswers contents old OverFiles (IsReportRefusal dump_making answered tells health pulls names)
+  RefusesQuestions health pulls =
+      LeavesAnswers contents old OverFiles (IsReportRefusal stored_dump_making answered tells health pulls names)

@@ -4,7 +4,7 @@ ghost use Rattle.std.specs.Prelude.{◌≡◌, All};
 ghost use Rattle.hprof_devices.specs.declared.health.Health.TheVariants.{Well};
 ghost use Rattle.hprof_devices.specs.Device.{health_of};
 
-use crate::engine::{Answer, Call, Given, Ways, made, plain, text_of_fault};
+use crate::engine::{Answer, Call, Given, Ways, made_of_heap, plain, text_of_fault};
 use crate::outcome::Outcome;
 use crate::streams::{Reader, Writer};
 use crate::trouble::Trouble;
@@ -24,6 +24,9 @@ fn text_of_asking(alloc: Global, fault: AskFault) -> Result<String, AllocError> 
         AskFault::Dialogue(DialogueStop::Questions(_)) => String::from_str(alloc, "read failed"),
         AskFault::Dialogue(DialogueStop::Write(fault)) => {
             text_of_fault(alloc, ToolFault::Write(fault))
+        }
+        AskFault::Dialogue(DialogueStop::Lost(loss)) => {
+            text_of_fault(alloc, ToolFault::Lost(loss))
         }
         AskFault::Dialogue(DialogueStop::OutOfMemory) => String::from_str(alloc, "out of memory"),
     }
@@ -98,7 +101,7 @@ pub fn check_asked(
         parts,
         input: &input,
     };
-    let asked = made(alloc, Call::Ask, given, ways)?;
+    let asked = made_of_heap(alloc, Call::Ask, given, ways)?;
     let answer = whole.answer_asked();
     let answers = if answer == "done" {
         let reply = whole.reply_asked();
@@ -107,6 +110,18 @@ pub fn check_asked(
         Vec::new(alloc)
     };
     asked.check_says(alloc, answer, &answers)
+}
+
+/// Returns the answer of a call that answers questions.
+pub(crate) fn of_dialogue(
+    alloc: Global,
+    answer: Result<(), AskFault>,
+) -> Result<Answer, AllocError> {
+    let text = match answer {
+        Ok(()) => String::from_str(alloc, "done")?,
+        Err(fault) => text_of_asking(alloc, fault)?,
+    };
+    Ok(plain(alloc, text))
 }
 
 /// Asks the questions of the input, and returns the result of the call.
@@ -121,9 +136,6 @@ pub(crate) fn conversed(
     requires writer { health_of target.old ≡ Well }
 {
     let mut questions = Device::new(input);
-    let text = match ask_to(alloc, readers, &mut questions, target, limits) {
-        Ok(()) => String::from_str(alloc, "done")?,
-        Err(fault) => text_of_asking(alloc, fault)?,
-    };
-    Ok(plain(alloc, text))
+    let answer = ask_to(alloc, readers, &mut questions, target, limits);
+    of_dialogue(alloc, answer)
 }

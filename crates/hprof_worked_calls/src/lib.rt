@@ -4,6 +4,7 @@
 mod blocks;
 mod conversing;
 mod engine;
+mod failing;
 mod graph;
 mod heaps;
 mod listing;

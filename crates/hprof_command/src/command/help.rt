@@ -24,11 +24,11 @@ without 0x or @. A reader that closes early, as head does, is a failed write:
 cut with sed -n 1,10p instead. While files are read, a terminal shows how much
 of them was read.
 
-Commands with the option --memory SIZE read dumps that are larger than the
-memory: objects may take SIZE bytes there. More of them are read again from the
-dump, or go to a file in TMPDIR that is removed. SIZE is a number, with K, M, G
-or T behind it for powers of 1024. Without the option it is a quarter of the
-memory that is available.
+Each command takes the option --memory SIZE, and reads dumps that are larger
+than the memory: objects may take SIZE bytes there. More of them are read again
+from the dump, or go to a file in TMPDIR that is removed. SIZE is a number, with
+K, M, G or T behind it for powers of 1024. Without the option it is a quarter of
+the memory that is available.
 
 Exit status: 0 done, 1 refused (one line on standard error), 2 not understood.";
 
@@ -70,6 +70,9 @@ The line `quit` or `exit` ends the dialogue, and on a terminal Control-D does.
 Identifiers are hexadecimal, without 0x or @. Two dumps of one process are two
 heaps: ask each alone. A compressed dump goes through zcat:
     $ hprof ask <(zcat heap.hprof.gz)
+
+`hprof --help` explains --memory. Objects beyond it are read again for each
+answer.
 
 Exit status: 0 done, 1 refused (one line on standard error), 2 not understood.";
 

@@ -70,7 +70,7 @@ pub(crate) enum CommandWord {
     Ask,
 }
 
-/// The row of a command in the table.
+/// The row of a command in the table. Each command takes the option for the memory, too.
 #[derive(Clone, Copy)]
 pub(crate) struct CommandRow {
     /// The word of the command.
@@ -83,8 +83,6 @@ pub(crate) struct CommandRow {
     pub(crate) arguments: &'static [Argument],
     /// Whether names of parts follow.
     pub(crate) takes_parts: bool,
-    /// Whether it takes the option for the memory.
-    pub(crate) takes_memory: bool,
 }
 
 /// All commands, in the order in which the program's help lists them.
@@ -136,7 +134,6 @@ fn report_row(report: ReportWord) -> CommandRow
         help: row.help,
         arguments: arguments_of(row.follows),
         takes_parts: true,
-        takes_memory: true,
     }
 }
 
@@ -153,7 +150,6 @@ impl CommandWord {
                 help: help::JOIN,
                 arguments: &[OUT],
                 takes_parts: true,
-                takes_memory: true,
             },
             CommandWord::Write(NewFile::Dump101) => CommandRow {
                 word: "join101",
@@ -161,7 +157,6 @@ impl CommandWord {
                 help: help::JOIN101,
                 arguments: &[OUT],
                 takes_parts: true,
-                takes_memory: true,
             },
             CommandWord::Salvage => CommandRow {
                 word: "salvage",
@@ -169,7 +164,6 @@ impl CommandWord {
                 help: help::SALVAGE,
                 arguments: &[OUT],
                 takes_parts: true,
-                takes_memory: true,
             },
             CommandWord::Report(report) => report_row(report),
             CommandWord::Compare => CommandRow {
@@ -178,7 +172,6 @@ impl CommandWord {
                 help: help::DIFF,
                 arguments: &[OLDER, NEWER],
                 takes_parts: false,
-                takes_memory: true,
             },
             CommandWord::Ask => CommandRow {
                 word: "ask",
@@ -186,7 +179,6 @@ impl CommandWord {
                 help: help::ASK,
                 arguments: &[],
                 takes_parts: true,
-                takes_memory: false,
             },
         }
     }

@@ -125,6 +125,7 @@ impl From<AskFault> for Refused {
             AskFault::Dialogue(DialogueStop::Write(fault)) => {
                 Refused::Engine(ToolFault::Write(fault))
             }
+            AskFault::Dialogue(DialogueStop::Lost(loss)) => Refused::Engine(ToolFault::Lost(loss)),
             AskFault::Dialogue(DialogueStop::OutOfMemory) => Refused::OutOfMemory,
         }
     }

@@ -1,5 +1,5 @@
 use Rattle.std.proofs.Common.{ap}
-use Rattle.hprof_engine.specs.Makes.{dump_making}
+use Rattle.hprof_stored.specs.StoredMaking.{stored_dump_making}
 use Rattle.hprof_tool.specs.declared.program.refused.Stopped.{Stopped}
 use Rattle.hprof_tool.specs.Conversing.{HasFailed, OverFiles, RefusesQuestions}
 use Rattle.hprof_tool.specs.Program.{IsReportRefusal}
@@ -29,7 +29,7 @@ returns-clause-refused g c =
     let asked = λ (it : Prompting _ _). left it.questions in
     let contents = g.O.Write.contents in
     let names = c.args.names.now in
-    let refusal = IsReportRefusal dump_making answered tells health pulls names in
+    let refusal = IsReportRefusal stored_dump_making answered tells health pulls names in
     let refuses = λ (stopped : Stopped _). RefusesQuestions answered tells left contents names c.args.input c.args.output health pulls
     stopped.why stopped.writer in
     let failed = λ (stopped : Stopped _). HasFailed g.I.Source.health g.I.Source.pulls stopped.why in

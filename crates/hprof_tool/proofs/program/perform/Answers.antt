@@ -2,6 +2,7 @@ use Rattle.std.proofs.Common.{refl, List, subst, sym}
 use Rattle.std.specs.Borrow.{Bor}
 use Rattle.hprof_engine.specs.Makes.{IsMadeOf}
 use Rattle.hprof_tool.specs.Again.{report_of_parts}
+use Rattle.hprof_tool.specs.Conversing.{RefusesQuestions}
 use Rattle.hprof_tool.specs.Folder.{MayCreateBehind}
 use Rattle.hprof_tool.specs.Program.{IsFilesRefusal, IsMadeInFile}
 use Rattle.hprof_tool.specs.SalvagedFiles.{IsSalvagedFile}
@@ -64,3 +65,11 @@ returns-in-Report-clause-refused g c = λ refused.
     c.report-ended.result.output)
     c.deref-in-Report.ensures.value it.2.1 in
     (why, rw c.in-Report.is (it.0, it.1, refuses), it.2.2)
+
+pub returns-in-Ask-clause-refused : goal.returns-in-Ask-clause-refused
+returns-in-Ask-clause-refused g c = λ refused.
+    let it = c.converse.ensures.refused refused in
+    let refuses = subst (λ (names : List (Bor (List _))). RefusesQuestions (g.F.Folder.answered c.args.files.now) g.F.Part.Source.left
+    g.I.Source.left g.O.Write.contents names c.args.input c.args.output g.F.Part.Source.health g.F.Part.Source.pulls it.0
+    c.converse.result.output) c.deref-in-Ask.ensures.value it.1 in
+    (it.0, rw c.in-Ask.is (refuses, it.2), it.3)

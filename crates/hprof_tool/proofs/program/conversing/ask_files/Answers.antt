@@ -1,5 +1,5 @@
 use Rattle.std.proofs.Common.{List, refl, sym, subst}
-use Rattle.hprof_engine.specs.Makes.{dump_making}
+use Rattle.hprof_stored.specs.StoredMaking.{stored_dump_making}
 use Rattle.hprof_tool.specs.Conversing.{OverFiles, OverReaders, SaysOfReaders}
 use Rattle.hprof_tool.specs.Folder.{AreOpened}
 use Rattle.hprof_tool.specs.Program.{IsReportRefusal}
@@ -39,7 +39,7 @@ returns-clause-refused g c =
     (OverFiles answered tells asked contents names source c.args.output)
     (over_files answered tells asked contents names source c.args.output parts opened asked source refl)
     (SaysOfReaders tells g.F.Part.Source.health g.F.Part.Source.pulls parts read)
-    (IsReportRefusal dump_making answered tells g.F.Part.Source.health g.F.Part.Source.pulls names)
+    (IsReportRefusal stored_dump_making answered tells g.F.Part.Source.health g.F.Part.Source.pulls names)
     (says_files answered tells g.F.Part.Source.health g.F.Part.Source.pulls names parts read opened) stopped.why stopped.writer leaves)
     c.ask_through_buffer.ensures.stops
 

@@ -4,9 +4,9 @@ use Rattle.std.specs.Io.KnownBytes.{append_known}
 use Rattle.std.specs.Io.Buffered.{writer_buffer, writer_contents, writer_inner}
 use Rattle.hprof_devices.specs.Buffered.{buffered_health, buffered_of}
 use Rattle.hprof_devices.specs.declared.buffered.BufferedDevice.{BufferedDevice}
-use Rattle.hprof_ask.specs.Asks.{LetsAsk, PassesAnswersOn}
+use Rattle.hprof_ask.specs.Asks.{PassesAnswersOn}
 use Rattle.hprof_tool.specs.declared.program.refused.Refused.{Refused}
-use Rattle.hprof_tool.specs.Conversing.{LeavesAnswers, OverReaders, SaysOfReaders, is_flushed}
+use Rattle.hprof_tool.specs.Conversing.{LeavesAnswers, LetsAskReaders, OverReaders, SaysOfReaders, is_flushed}
 use Rattle.hprof_tool.proofs.Conversing.{answered_all, cannot_read_on, stopped}
 use Rattle.hprof_tool.proofs.Making.{none_added}
 use Rattle.hprof_tool.proofs.program.conversing.ask_through_buffer.Goals as goal
@@ -18,7 +18,7 @@ ask_readers-outcome-requires-clause-leave g c =
     rw (c.in-Ok.ensures.inner, c.in-Ok.ensures.empty, none_added (contents c.args.writer)) in
     let at_first : writer_contents contents (buffered_of c.new-target.result) ≡ contents c.args.writer =
     ap (writer_contents contents) c.new-target.ensures.buffered ∙ empty in
-    subst (λ (start : Option (List ℕ)). LetsAsk g.R.Source.left g.Q.Asker.left (λ device. writer_contents contents (buffered_of device))
+    subst (λ (start : Option (List ℕ)). LetsAskReaders g.R.Source.left g.Q.Asker.left (λ device. writer_contents contents (buffered_of device))
     is_flushed g.Q.Asker.may_read c.args.readers.now c.args.questions.now start) (sym at_first) c.requires.leave
 
 pub returns-in-Ok-outcome-clause-ok : goal.returns-in-Ok-outcome-clause-ok
@@ -69,7 +69,7 @@ returns-in-Err g c =
       ok = tt;
       gone = λ none. absurd (subst is_there none tt);
       cause = λ same. cannot_read_on g.Q.Asker.health g.Q.Asker.pulls asked.new.questions c.in-Err.fault
-          (λ why is. (c.in-Err.ensures.asks.questions why (ap Some is)).1) (sym c.from.ensures ∙ same);
+          (λ why is. c.in-Err.ensures.asks.cause why (ap Some is)) (sym c.from.ensures ∙ same);
       stops = subst (λ (r : Refused). LeavesAnswers contents c.args.writer (OverReaders g.R.Source.left g.Q.Asker.left c.args.readers.now
           c.args.questions.now) (SaysOfReaders g.R.Source.left g.R.Source.health g.R.Source.pulls c.args.readers.now asked.new.readers) r
           (Some last)) (sym c.from.ensures)

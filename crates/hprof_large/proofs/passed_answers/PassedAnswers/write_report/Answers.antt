@@ -1,0 +1,75 @@
+use Rattle.std.proofs.Common.{◌∙◌, ap, codes, inr, ℕ, List, Option, refl, Result, subst, sym}
+use Rattle.hprof_heap.specs.HeapFacts.{facts_of, size_of}
+use Rattle.hprof_passes.specs.declared.pass_stop.PassStop.TheVariants.{Sink}
+use Rattle.hprof_engine.specs.declared.product.WriteStop.{WriteStop}
+use Rattle.hprof_engine.specs.declared.product.WriteStop.TheVariants as writes
+use Rattle.hprof_stored.specs.InParts.{HaveUnion, MakeUp, TellsPass}
+use Rattle.hprof_lines.specs.Stopping.{WritesText}
+use Rattle.hprof_questions.specs.declared.stop.DialogueStop.{DialogueStop}
+use Rattle.hprof_questions.specs.Answering.{WritesAnswer}
+use Rattle.hprof_large.proofs.Answering.{answered, lacks_class, lost, replied, stopped}
+use Rattle.hprof_large.proofs.passed_answers.PassedAnswers.write_report.Goals as goal
+
+pub returns-in-Ok-clause-bytes : goal.returns-in-Ok-clause-bytes
+returns-in-Ok-clause-bytes g c =
+    let self = c.args.self.now in
+    replied self.heap.now (MakeUp g.S.Target.written g.S.Target.health g.P.Parts.bytes self.objects)
+    (λ ids facts all make. make.whole) self.summaries.now.items g.W.Target.written g.W.Target.health c.args.target.now
+    c.write_by_passes.new.target (HaveUnion g.S.Target.written g.S.Target.health g.P.Parts.bytes self.objects)
+    (TellsPass g.S.Target.written g.S.Target.health g.P.Parts.bytes g.S.Scratch.unreadable self.objects (size_of self.heap.now)
+    (facts_of self.heap.now)) c.args.report c.requires c.in-Ok.field-0 c.in-Ok.ensures
+
+pub returns-in-Err-Lost-clause-bytes : goal.returns-in-Err-Lost-clause-bytes
+returns-in-Err-Lost-clause-bytes g c =
+    let self = c.args.self.now in
+    let it = c.in-Err-Lost in
+    (lost self.heap.now (MakeUp g.S.Target.written g.S.Target.health g.P.Parts.bytes self.objects)
+    (λ ids facts all make. make.whole) self.summaries.now.items g.W.Target.written g.W.Target.health c.args.target.now
+    c.write_by_passes.new.target (HaveUnion g.S.Target.written g.S.Target.health g.P.Parts.bytes self.objects)
+    (TellsPass g.S.Target.written g.S.Target.health g.P.Parts.bytes g.S.Scratch.unreadable self.objects (size_of self.heap.now)
+    (facts_of self.heap.now)) c.args.report c.requires it.field-0 it.fault c.stop_of_pass_fault.result it.field-0-is
+    c.stop_of_pass_fault.ensures it.ensures).0
+
+pub returns-in-Err-Sink-Write-clause-bytes : goal.returns-in-Err-Sink-Write-clause-bytes
+returns-in-Err-Sink-Write-clause-bytes g c =
+    let self = c.args.self.now in
+    let it = c.in-Err-Sink-Write in
+    (stopped self.heap.now (MakeUp g.S.Target.written g.S.Target.health g.P.Parts.bytes self.objects)
+    (λ ids facts all make. make.whole) self.summaries.now.items g.W.Target.written g.W.Target.health c.args.target.now
+    c.write_by_passes.new.target (HaveUnion g.S.Target.written g.S.Target.health g.P.Parts.bytes self.objects)
+    (TellsPass g.S.Target.written g.S.Target.health g.P.Parts.bytes g.S.Scratch.unreadable self.objects (size_of self.heap.now)
+    (facts_of self.heap.now)) c.args.report c.requires it.field-0 (writes.Write it.fault)
+    (it.field-0-is ∙ ap (λ (stop : WriteStop). Sink stop) it.field-0-0-is) (λ refusal e. absurd cc) it.ensures).0
+
+pub returns-in-Err-Sink-OutOfMemory-clause-bytes : goal.returns-in-Err-Sink-OutOfMemory-clause-bytes
+returns-in-Err-Sink-OutOfMemory-clause-bytes g c =
+    let self = c.args.self.now in
+    let it = c.in-Err-Sink-OutOfMemory in
+    (stopped self.heap.now (MakeUp g.S.Target.written g.S.Target.health g.P.Parts.bytes self.objects)
+    (λ ids facts all make. make.whole) self.summaries.now.items g.W.Target.written g.W.Target.health c.args.target.now
+    c.write_by_passes.new.target (HaveUnion g.S.Target.written g.S.Target.health g.P.Parts.bytes self.objects)
+    (TellsPass g.S.Target.written g.S.Target.health g.P.Parts.bytes g.S.Scratch.unreadable self.objects (size_of self.heap.now)
+    (facts_of self.heap.now)) c.args.report c.requires it.field-0 writes.OutOfMemory
+    (it.field-0-is ∙ ap (λ (stop : WriteStop). Sink stop) it.field-0-0-is) (λ refusal e. absurd cc) it.ensures).0
+
+-- no class has the name
+pub returns-in-Err-Sink-Refused-clause-bytes : goal.returns-in-Err-Sink-Refused-clause-bytes
+returns-in-Err-Sink-Refused-clause-bytes g c = λ whole is.
+    let self = c.args.self.now in
+    let it = c.in-Err-Sink-Refused in
+    let lacks = lacks_class self.heap.now (MakeUp g.S.Target.written g.S.Target.health g.P.Parts.bytes self.objects)
+    (λ ids facts all make. make.whole) self.summaries.now.items g.W.Target.written g.W.Target.health c.args.target.now
+    c.write_by_passes.new.target (HaveUnion g.S.Target.written g.S.Target.health g.P.Parts.bytes self.objects)
+    (TellsPass g.S.Target.written g.S.Target.health g.P.Parts.bytes g.S.Scratch.unreadable self.objects (size_of self.heap.now)
+    (facts_of self.heap.now)) c.args.report c.requires it.field-0 it.field-0-0-0
+    (it.field-0-is ∙ ap (λ (stop : WriteStop). Sink stop) it.field-0-0-is) it.ensures in
+    let text = codes "no class has this name\n" in
+    let wrote = c.write_reply_without_report in
+    let new = g.W.Target.written wrote.new.target in (
+      text,
+      inr (lacks.1 whole is, refl),
+      subst (λ (r : Result (Unit {0}) DialogueStop).
+          WritesAnswer (g.W.Target.written c.args.target.now) new r text) (sym c.answer_of.ensures)
+          (answered (g.W.Target.written c.args.target.now) new (g.W.Target.health wrote.new.target) wrote.result text wrote.ensures.health
+          (subst (λ (old : Option (List ℕ)). WritesText old new wrote.result text) (ap g.W.Target.written lacks.0) wrote.ensures.bytes)),
+    )

@@ -1,0 +1,235 @@
+//! Answers to questions about a heap whose objects stay in the parts.
+
+ghost use Rattle.std.specs.Prelude.{◌≡◌, ℕ, List, IfErr, IfOk};
+ghost use Rattle.hprof_devices.specs.declared.health.Health.TheVariants.{Well};
+ghost use Rattle.hprof_rows.specs.HeapValue.{HeapValue};
+ghost use Rattle.hprof_heap.specs.HeapFacts.{facts_of, size_of};
+ghost use Rattle.hprof_stored.specs.InParts.{HaveUnion, MakeUp, TellsPass};
+ghost use Rattle.hprof_questions.specs.Answering.{LeavesWriter, TellsLoss, WritesAnswer};
+ghost use Rattle.hprof_ask.specs.HeapAnswers.{IsHeapAnswer, IsReply, IsReportReply};
+ghost use Rattle.hprof_ask.specs.Report.{IsHeapReport, IsReport, RefusesReport};
+ghost use Rattle.hprof_making.specs.Over.{EndsOver};
+ghost use Rattle.hprof_large.specs.Stops.{IsLostBy};
+ghost use Rattle.hprof_large.specs.Texts.{AreReports};
+ghost use Rattle.hprof_large.specs.Whole.{IsWholeHeap};
+
+use crate::heap::write_heap_report;
+use crate::passed_report::PassedReport;
+use crate::stops::{answer_of, stop_of_pass_fault};
+use crate::texts::KeptTexts;
+use hprof_ask::{behind_reply, write_reply_without_report};
+use hprof_devices::{Device, Target, push_all};
+use hprof_engine::WriteStop;
+use hprof_heap::Heap;
+use hprof_lines::write_str;
+use hprof_making::PassProduct;
+use hprof_parts::Parts;
+use hprof_passes::PassStop;
+use hprof_questions::{Answers, DialogueStop, HeapReport, Question, Report};
+use hprof_runs::Scratch;
+use hprof_stored::{InParts, PassFault};
+use hprof_stream::PartSummary;
+use std::alloc::Global;
+
+/// A heap whose objects are gone through anew for each answer, and the summaries of its parts.
+#[derive(Drop)]
+pub struct PassedAnswers<'a, S, P> {
+    /// All facts of the heap but objects.
+    pub heap: &'a Heap,
+    /// The objects.
+    pub objects: InParts<'a, S, P>,
+    /// The summaries of the parts.
+    pub summaries: &'a Vec<PartSummary>,
+}
+
+/// Writes bytes. If the writer fails, the bytes written are the beginning of them.
+fn write_bytes<W: Target>(bytes: &[u8], target: &mut W) -> Result<(), DialogueStop>
+    requires { W.health target.old ≡ Well }
+    ensures bytes { WritesAnswer (W.written target.old) (W.written target.new) result bytes.now }
+    ensures health { LeavesWriter result (W.health target.new) }
+    ensures lost { TellsLoss (λ loss. ⊥) result }
+{
+    match push_all(bytes, target) {
+        Ok(()) => Ok(()),
+        Err(fault) => Err(DialogueStop::Write(fault)),
+    }
+}
+
+impl<S: Scratch + Drop, P: Parts> PassedAnswers<'_, S, P> {
+    /// Writes a report on a class, an object, or objects, as [`PassedReport`] does.
+    fn write_by_passes<W: Target>(
+        &self,
+        alloc: Global,
+        report: Report<'_>,
+        target: &mut W,
+    ) -> Result<(), PassStop<WriteStop, PassFault>>
+        requires { W.health target.old ≡ Well }
+        ensures { EndsOver (MakeUp S.written S.health P.bytes self.now.objects (size_of self.now.heap.now) (facts_of self.now.heap.now))
+            (HaveUnion S.written S.health P.bytes self.now.objects)
+            (TellsPass S.written S.health P.bytes S.unreadable self.now.objects (size_of self.now.heap.now) (facts_of self.now.heap.now))
+            (λ all. IsReport self.now.summaries.now.items (size_of self.now.heap.now) all report.entry)
+            (λ refusal all. RefusesReport all report.entry refusal) W.written W.health target.old target.new result }
+    {
+        PassedReport { report }.write_over(
+            alloc,
+            self.summaries,
+            self.heap,
+            &self.objects,
+            None,
+            target,
+        )
+    }
+
+    /// Writes the reply to a question for a report: the report, or that no class has the name that it is on.
+    fn write_report<W: Target>(
+        &self,
+        alloc: Global,
+        report: Report<'_>,
+        target: &mut W,
+    ) -> Result<(), DialogueStop>
+        requires { W.health target.old ≡ Well }
+        ensures bytes { (heap : HeapValue) → IsWholeHeap self.now.heap.now (MakeUp S.written S.health P.bytes self.now.objects) heap
+            → (text : List ℕ) × IsReportReply self.now.summaries.now.items heap.ids heap.facts report.entry text
+            × WritesAnswer (W.written target.old) (W.written target.new) result text }
+        ensures health { LeavesWriter result (W.health target.new) }
+        ensures lost { TellsLoss (IsLostBy (TellsPass S.written S.health P.bytes S.unreadable self.now.objects (size_of self.now.heap.now)
+            (facts_of self.now.heap.now))) result }
+    {
+        match self.write_by_passes(alloc, report, target) {
+            Ok(()) => Ok(()),
+            Err(PassStop::Lost(fault)) => Err(stop_of_pass_fault(fault)),
+            Err(PassStop::Sink(WriteStop::Refused(_))) => answer_of(write_reply_without_report(
+                Question::Report(report),
+                target,
+            )),
+            Err(PassStop::Sink(WriteStop::Write(fault))) => Err(DialogueStop::Write(fault)),
+            Err(PassStop::Sink(WriteStop::OutOfMemory)) => Err(DialogueStop::OutOfMemory),
+        }
+    }
+
+    /// Makes the text of a report on the whole heap.
+    fn make_text(&self, alloc: Global, report: HeapReport) -> Result<Vec<u8>, PassFault>
+        ensures text { IfOk result (λ bytes. (heap : HeapValue)
+            → IsWholeHeap self.now.heap.now (MakeUp S.written S.health P.bytes self.now.objects) heap
+            → IsHeapReport self.now.summaries.now.items heap.ids heap.facts report bytes.items) }
+        ensures lost { IfErr result (TellsPass S.written S.health P.bytes S.unreadable self.now.objects (size_of self.now.heap.now)
+            (facts_of self.now.heap.now)) }
+    {
+        let mut target = Device::new(Vec::new(alloc));
+        match write_heap_report(
+            alloc,
+            self.summaries,
+            self.heap,
+            &self.objects,
+            report,
+            None,
+            &mut target,
+        ) {
+            Ok(()) => Ok(target.into_inner()),
+            Err(PassStop::Lost(fault)) => Err(fault),
+            // A list fails to take a byte only if memory runs out.
+            Err(PassStop::Sink(_)) => Err(PassFault::OutOfMemory),
+        }
+    }
+
+    /// Writes a report on the whole heap, from the text that is kept, or makes the text and keeps it.
+    fn write_kept<W: Target>(
+        &self,
+        alloc: Global,
+        kept: &mut KeptTexts,
+        report: HeapReport,
+        target: &mut W,
+    ) -> Result<(), DialogueStop>
+        requires well { W.health target.old ≡ Well }
+        requires kept { (heap : HeapValue) → IsWholeHeap self.now.heap.now (MakeUp S.written S.health P.bytes self.now.objects) heap
+            → AreReports self.now.summaries.now.items heap.ids heap.facts kept.old }
+        ensures bytes { (heap : HeapValue) → IsWholeHeap self.now.heap.now (MakeUp S.written S.health P.bytes self.now.objects) heap
+            → (text : List ℕ) × IsHeapReport self.now.summaries.now.items heap.ids heap.facts report text
+            × WritesAnswer (W.written target.old) (W.written target.new) result text }
+        ensures health { LeavesWriter result (W.health target.new) }
+        ensures lost { TellsLoss (IsLostBy (TellsPass S.written S.health P.bytes S.unreadable self.now.objects (size_of self.now.heap.now)
+            (facts_of self.now.heap.now))) result }
+        ensures kept { (heap : HeapValue) → IsWholeHeap self.now.heap.now (MakeUp S.written S.health P.bytes self.now.objects) heap
+            → AreReports self.now.summaries.now.items heap.ids heap.facts kept.new }
+    {
+        if let Some(bytes) = kept.find(report) {
+            return write_bytes(bytes, target);
+        }
+        let bytes = match self.make_text(alloc, report) {
+            Ok(bytes) => bytes,
+            Err(fault) => return Err(stop_of_pass_fault(fault)),
+        };
+        let outcome = write_bytes(&bytes, target);
+        kept.keep(report, bytes);
+        outcome
+    }
+
+    /// Writes the reply to a question, without what stands behind it.
+    fn write_reply<W: Target>(
+        &self,
+        alloc: Global,
+        kept: &mut KeptTexts,
+        question: Question<'_>,
+        target: &mut W,
+    ) -> Result<(), DialogueStop>
+        requires well { W.health target.old ≡ Well }
+        requires kept { (heap : HeapValue) → IsWholeHeap self.now.heap.now (MakeUp S.written S.health P.bytes self.now.objects) heap
+            → AreReports self.now.summaries.now.items heap.ids heap.facts kept.old }
+        ensures bytes { (heap : HeapValue) → IsWholeHeap self.now.heap.now (MakeUp S.written S.health P.bytes self.now.objects) heap
+            → (text : List ℕ) × IsReply self.now.summaries.now.items heap.ids heap.facts question.entry text
+            × WritesAnswer (W.written target.old) (W.written target.new) result text }
+        ensures health { LeavesWriter result (W.health target.new) }
+        ensures lost { TellsLoss (IsLostBy (TellsPass S.written S.health P.bytes S.unreadable self.now.objects (size_of self.now.heap.now)
+            (facts_of self.now.heap.now))) result }
+        ensures kept { (heap : HeapValue) → IsWholeHeap self.now.heap.now (MakeUp S.written S.health P.bytes self.now.objects) heap
+            → AreReports self.now.summaries.now.items heap.ids heap.facts kept.new }
+    {
+        match question {
+            Question::Report(Report::Heap(report)) => self.write_kept(alloc, kept, report, target),
+            Question::Report(report) => self.write_report(alloc, report, target),
+            _ => answer_of(write_reply_without_report(question, target)),
+        }
+    }
+}
+
+impl<S: Scratch + Drop, P: Parts> Answers for PassedAnswers<'_, S, P> {
+    ghost use Rattle.hprof_heap.specs.HeapFacts.{facts_of, size_of};
+    ghost use Rattle.hprof_rows.specs.HeapValue.{HeapValue};
+    ghost use Rattle.hprof_stored.specs.InParts.{MakeUp, TellsPass};
+    ghost use Rattle.hprof_ask.specs.HeapAnswers.{IsHeapAnswer};
+    ghost use Rattle.hprof_ask.specs.OneHeapAnswer.{one_heap_answer};
+    ghost use Rattle.hprof_large.specs.SomeAnswer.{some_answer_of_whole};
+    ghost use Rattle.hprof_large.specs.Stops.{IsLostBy};
+    ghost use Rattle.hprof_large.specs.Texts.{AreReports};
+    ghost use Rattle.hprof_large.specs.Whole.{IsWholeHeap};
+
+    ghost about = { λ it. IsWholeHeap it.heap.now (MakeUp S.written S.health P.bytes it.objects) };
+
+    ghost is_answer = { λ it heap. IsHeapAnswer it.summaries.now.items heap.ids heap.facts };
+
+    ghost loses = { λ it. IsLostBy (TellsPass S.written S.health P.bytes S.unreadable it.objects (size_of it.heap.now)
+        (facts_of it.heap.now)) };
+
+    ghost keeps = { λ it kept. (heap : HeapValue) → IsWholeHeap it.heap.now (MakeUp S.written S.health P.bytes it.objects) heap
+        → AreReports it.summaries.now.items heap.ids heap.facts kept };
+
+    type Kept = KeptTexts;
+
+    fn answer<W: Target>(
+        &self,
+        alloc: Global,
+        kept: &mut KeptTexts,
+        question: Question<'_>,
+        target: &mut W,
+    ) -> Result<(), DialogueStop> {
+        match self.write_reply(alloc, kept, question, target) {
+            Ok(()) => answer_of(write_str(behind_reply(question), target)),
+            Err(stop) => Err(stop),
+        }
+    }
+
+    ghost some_answer = { λ it heap is. some_answer_of_whole it.summaries.now.items it.heap.now
+        (MakeUp S.written S.health P.bytes it.objects) (λ ids facts all make. make.whole) heap is };
+
+    ghost one_answer = { λ it heap is. one_heap_answer it.summaries.now.items heap.ids heap.facts };
+}
