@@ -3,8 +3,9 @@
 large.py [--turns N] [--memory SIZE] [--id ID] [--only WORD..] DUMP..
 
 Each command runs on each dump with `--memory SIZE`, 256M unless it is given, and with `--memory 1T`, in turn. Both must print and write the
-same. The reports on an object run if there is an ID, and of all commands only those that are named, if some are. A line has the medians of the times, their ratio, and the greatest peaks of memory. It needs the built program (`rt run` in
-crates/hprof leaves it as crates/hprof/out/hprof) and room for two joined dumps. It is no part of the gate.
+same. The reports on an object run if there is an ID, and of all commands only those that are named, if some are. A line has the medians of
+the times, their ratio, and the greatest peaks of memory. It needs the built program (`rt run` in crates/hprof leaves it as
+crates/hprof/out/hprof) and room for two joined dumps. It is no part of the gate.
 """
 
 import argparse

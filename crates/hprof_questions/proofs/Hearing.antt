@@ -16,8 +16,8 @@ use Rattle.hprof_questions.specs.Asked.{Asks, NoneQuits, Quits}
 use Rattle.hprof_questions.specs.Dialogue.{AnswersBefore, AnswersFront, AnswersLines, AnswersSome, AnswersStopped, AreLinesToQuit}
 use Rattle.hprof_questions.specs.Dialogue.{AreOpenLines, Finishes, Heard}
 use Rattle.hprof_questions.specs.Lines.{AreFirstLines, AreLines, AreTaken, IsBeforeFeed}
-use Rattle.hprof_questions.proofs.Taking.{ended, ended_asks, ended_quits, first_line, no_quit, none_ended, none_more, taken_byte, taken_line}
-use Rattle.hprof_questions.proofs.Taking.{taken_none, taken_open, taken_quit}
+use Rattle.hprof_questions.proofs.Taking.{ended, ended_asks, ended_quits, first_line, no_quit, none_ended, none_more}
+use Rattle.hprof_questions.proofs.Taking.{taken_byte, taken_line, taken_none, taken_open, taken_quit}
 
 -- nothing was written
 nothing_written : (now new : Option (List ℕ)) → new ≡ now → Appends now new []
@@ -81,14 +81,15 @@ module _ (IsAnswer : Question → List ℕ → Type 0) where
       heard_line new (other, answer, is, appends) next empty = record {
         taken = taken_line bytes kept heard.taken question asks other next empty;
         text = heard.text ++ answer;
-        are_answers = answers_more heard.taken.lines line_ended heard.text answer heard.taken.none (no_quit line_ended question line_asks other)
-            heard.are_answers (record { question = question; asks = line_asks; is = is });
+        are_answers = answers_more heard.taken.lines line_ended heard.text answer heard.taken.none
+            (no_quit line_ended question line_asks other) heard.are_answers (record { question = question; asks = line_asks; is = is });
         appended = Appends-trans start now new heard.text answer heard.appended appends;
       }
 
       -- its answer stopped
-      abbrev front_of_last : (more : List ℕ) (new : Option (List ℕ)) → question ≢ questions.Quit → (answer : List ℕ) → IsAnswer question answer
-          → (n : ℕ) → n ≤ length answer → Appends now new (take n answer) → AnswersFront IsAnswer ⊥ (bytes ++ 10 ∷ more) start new
+      abbrev front_of_last : (more : List ℕ) (new : Option (List ℕ)) → question ≢ questions.Quit → (answer : List ℕ)
+          → IsAnswer question answer → (n : ℕ) → n ≤ length answer → Appends now new (take n answer)
+          → AnswersFront IsAnswer ⊥ (bytes ++ 10 ∷ more) start new
       front_of_last more new other answer is n within appends = record {
         lines = heard.taken.lines;
         last = line_ended;

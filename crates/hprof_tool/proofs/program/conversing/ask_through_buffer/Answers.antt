@@ -18,8 +18,9 @@ ask_readers-outcome-requires-clause-leave g c =
     rw (c.in-Ok.ensures.inner, c.in-Ok.ensures.empty, none_added (contents c.args.writer)) in
     let at_first : writer_contents contents (buffered_of c.new-target.result) ≡ contents c.args.writer =
     ap (writer_contents contents) c.new-target.ensures.buffered ∙ empty in
-    subst (λ (start : Option (List ℕ)). LetsAskReaders g.R.Source.left g.Q.Asker.left (λ device. writer_contents contents (buffered_of device))
-    is_flushed g.Q.Asker.may_read c.args.readers.now c.args.questions.now start) (sym at_first) c.requires.leave
+    subst (λ (start : Option (List ℕ)). LetsAskReaders g.R.Source.left g.Q.Asker.left
+    (λ device. writer_contents contents (buffered_of device)) is_flushed g.Q.Asker.may_read c.args.readers.now c.args.questions.now
+    start) (sym at_first) c.requires.leave
 
 pub returns-in-Ok-outcome-clause-ok : goal.returns-in-Ok-outcome-clause-ok
 returns-in-Ok-outcome-clause-ok g c =
