@@ -9,9 +9,6 @@ REPORTS = ROOT / "crates" / "hprof_questions" / "src" / "report_word.rt"
 COMMANDS = ROOT / "crates" / "hprof_command" / "src" / "command" / "subcommands.rt"
 REPORT = re.compile(r'word: "(\w+)",\s+follows: Follows::(\w+),\s+about: "([^"]*)"')
 COMMAND = re.compile(r'word: "(\w+)",\s+about: "([^"]*)",\s+help: [\w:]+,\s+arguments: &\[([\w, ]*)\]')
-# Which commands take the option --memory: each in its row, and reports in one for all of them.
-TAKES_MEMORY = re.compile(r'word: "(\w+)",[^}]*takes_memory: true')
-REPORTS_TAKE_MEMORY = re.compile(r"word: row\.word,[^}]*takes_memory: true")
 # The list that a completion has a command in, by what the command takes before dumps.
 TAKES = {
     "Nothing": "heaps",
@@ -23,7 +20,6 @@ TAKES = {
     "OLDER, NEWER": "pairs",
 }
 LIST = re.compile(r"(?m)^\s*(?:local|set)(?: -\w)? (outs|heaps|kinds|nodes|pairs)(?:='|=\(| )([\w ]+)")
-SIZED = re.compile(r"(?m)^\s*(?:(?:local|set)(?: -\w)? )?sized\+?(?:='|=\(| ) ?([\w ]+)")
 # How a completion has a command with its line of help; that for bash has none.
 ABOUT = {
     "_hprof": re.compile(r"(?m)^        '(\w+):(.*)'$"),
@@ -37,13 +33,6 @@ def commands():
     rows = {word: (TAKES[follows], about) for word, follows, about in REPORT.findall(REPORTS.read_text())}
     rows.update({word: (TAKES[takes], about) for word, about, takes in COMMAND.findall(COMMANDS.read_text())})
     return rows
-
-
-def sized():
-    """The commands that take the option for the memory."""
-    table = COMMANDS.read_text()
-    reports = {word for word, _, _ in REPORT.findall(REPORTS.read_text())} if REPORTS_TAKE_MEMORY.search(table) else set()
-    return reports | set(TAKES_MEMORY.findall(table))
 
 
 def types():
@@ -68,8 +57,6 @@ def faults_of(name, text, rows):
     found = {(word, key) for key, words in LIST.findall(text) for word in words.split()}
     for word, key in sorted(found ^ {(word, key) for word, (key, _) in rows.items()}):
         yield f"{name}: {word} in {key}"
-    for word in sorted({word for words in SIZED.findall(text) for word in words.split()} ^ sized()):
-        yield f"{name}: {word} with --memory"
     if name in ABOUT:
         about = set(ABOUT[name].findall(text)) ^ {(word, about) for word, (_, about) in rows.items()}
         yield from sorted(f"{name}: {word}: {line}" for word, line in about if word != "help")

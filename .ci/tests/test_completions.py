@@ -89,13 +89,13 @@ class Bash(Folder):
         self.assertEqual(self.replies("--"), ["--help", "--version"])
 
     def test_options_of_commands(self):
-        names, sized = sorted(COMMANDS), completions.sized()
+        names = sorted(COMMANDS)
         for name, reply in zip(names, self.all_replies([(name, "-") for name in names])):
-            self.assertEqual(reply, ["-h", "--help", "--memory"] if name in sized else ["-h", "--help"], name)
+            self.assertEqual(reply, ["-h", "--help", "--memory"], name)
 
     def test_a_size_is_no_argument(self):
         self.assertEqual(self.replies("check", "--m"), ["--memory"])
-        self.assertEqual(self.replies("ask", "--m"), [])
+        self.assertEqual(self.replies("help", "--m"), [])
         for begun in (("--memory", ""), ("--memory", "5"), ("--memory", "="), ("--memory", "=", ""), ("--memory=",), ("--memory=5",)):
             self.assertEqual(self.replies("check", *begun), [], begun)
         for size in (("--memory", "1M"), ("--memory", "=", "1M"), ("--memory=1M",)):
@@ -157,7 +157,7 @@ class Fish(Folder):
 
     def test_a_size_is_no_argument(self):
         self.assertEqual(self.replies("hprof check --m"), {"--memory"})
-        self.assertEqual(self.replies("hprof ask --m"), set())
+        self.assertEqual(self.replies("hprof help --m"), set())
         for size in ("--memory 1M", "--memory=1M"):
             self.assertEqual(self.replies(f"hprof objects {size} "), TYPES, size)
             self.assertIn("friday.hprof", self.replies(f"hprof objects byte[] {size} f"), size)
@@ -222,7 +222,7 @@ class Zsh(Folder):
             "hprof diff a f": "hprof diff a friday.hprof ",
             "hprof diff a b f": "hprof diff a b f",
             "hprof check --m": "hprof check --memory=",
-            "hprof ask --m": "hprof ask --m",
+            "hprof help --m": "hprof help --m",
             "hprof check --memory f": "hprof check --memory f",
             "hprof objects --memory 1M by": "hprof objects --memory 1M byte\\[\\] ",
             "hprof join --memory=1M out f": "hprof join --memory=1M out friday.hprof ",
@@ -257,13 +257,6 @@ class Words(unittest.TestCase):
         for name in ("_hprof", "hprof.fish"):
             lines = self.faults(name, "by retained size'", "by size'")
             self.assertEqual({line.split(":")[1] for line in lines}, {" biggest", " retained"}, name)
-
-    def test_commands_with_the_option_for_the_memory(self):
-        reports = "check histo classes threads suspects retained biggest objects show why who keeps text object refs path"
-        self.assertEqual(completions.sized(), {*reports.split(), "diff", "join", "join101", "salvage"})
-        for name in ("hprof.bash", "_hprof", "hprof.fish"):
-            faults = self.faults(name, "join101 salvage check", "salvage check ask")
-            self.assertEqual(faults, [f"{name}: ask with --memory", f"{name}: join101 with --memory"])
 
     def test_types_and_options(self):
         for name in ("hprof.bash", "_hprof", "hprof.fish"):

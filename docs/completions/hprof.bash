@@ -41,9 +41,6 @@ _hprof() {
     local kinds='biggest objects'
     local nodes='show why who keeps text object refs path'
     local pairs='diff'
-    # The commands that take --memory SIZE.
-    local sized='join join101 salvage check histo classes threads suspects retained objects biggest'
-    sized+=' show why who keeps text object refs path diff'
     local commands="$outs $heaps $kinds $pairs $nodes"
     local command=${COMP_WORDS[1]} before=${COMP_WORDS[COMP_CWORD - 1]} place
     _hprof_place
@@ -53,7 +50,7 @@ _hprof() {
     elif [[ $before == --memory || $before == = || ${COMP_WORDS[COMP_CWORD]} == = ]]; then
         # A size has to be typed.
         COMPREPLY=()
-    elif [[ ${COMP_WORDS[COMP_CWORD]} == -* ]] && _hprof_has "$sized" "$command"; then
+    elif [[ ${COMP_WORDS[COMP_CWORD]} == -* ]] && _hprof_has "$commands" "$command"; then
         _hprof_words '-h --help --memory'
     elif [[ ${COMP_WORDS[COMP_CWORD]} == -* ]]; then
         _hprof_words '-h --help'

@@ -29,9 +29,6 @@ set -l heaps check histo classes threads suspects retained ask
 set -l kinds biggest objects
 set -l nodes show why who keeps text object refs path
 set -l pairs diff
-# The commands that take --memory SIZE.
-set -l sized join join101 salvage check histo classes threads suspects retained objects biggest
-set -a sized show why who keeps text object refs path diff
 
 complete -c hprof -f
 complete -c hprof -s h -l help -d 'Print the help'
@@ -58,7 +55,7 @@ complete -c hprof -n __fish_use_subcommand -a refs -d 'Prints each reference to 
 complete -c hprof -n __fish_use_subcommand -a path -d 'Prints the shortest path from a GC root to a class or an object'
 complete -c hprof -n __fish_use_subcommand -a ask -d 'Reads the parts once, and answers questions on standard input'
 complete -c hprof -n __fish_use_subcommand -a help -d 'Prints the help of a command'
-complete -c hprof -n "__fish_seen_subcommand_from $sized" -l memory -x -d 'The memory that objects may take, as 512M'
+complete -c hprof -n "__fish_seen_subcommand_from $outs $heaps $kinds $pairs $nodes" -l memory -x -d 'The memory that objects may take, as 512M'
 complete -c hprof -n '__hprof_at 1 help' -a "$outs $heaps $kinds $pairs $nodes"
 complete -c hprof -n "__hprof_at 1 $outs" -a '(__fish_complete_directories)'
 complete -c hprof -n "__hprof_at 1 $kinds" -d Type -a "'boolean[]' 'char[]' 'float[]' 'double[]' 'byte[]' 'short[]' 'int[]' 'long[]'"
