@@ -2,8 +2,9 @@
 """Runs the program with each of its requests for memory refused in turn.
 
 A run in which a request was refused has to answer want of memory, with status 1, no output file and nothing printed but some
-of the report, from its front, or what the run with ample memory answers; nothing else may come in its place. A record that is
-passed over takes as many requests whatever its length. It needs the built program (`rt run` in crates/hprof leaves it as
+of the report, from its front, or what the run with ample memory answers; nothing else may come in its place. Each command runs
+with all objects in memory, and with no memory for them, so that they are read again. A record that is passed over takes as
+many requests whatever its length. It needs the built program (`rt run` in crates/hprof leaves it as
 crates/hprof/out/hprof) and cc. It is no part of the gate.
 """
 
@@ -67,6 +68,11 @@ def passed_over(length):
     return b"\x7f\0\0\0\0" + length.to_bytes(4, "big") + bytes(length)
 
 
+def is_want(text):
+    """Whether the text is that of want of memory, for the file of scratch, too, which cannot be created without memory."""
+    return b"out of memory" in text or text == b"hprof: scratch failed\n"
+
+
 def run(words, library, refuse_at, out):
     """What the program answers, asked the questions if it reads any, and whether a request was refused."""
     out.unlink(missing_ok=True)
@@ -115,6 +121,7 @@ def main():
             "passed over, 10,000,000 bytes": ["join", out, long],
         }
         two.with_name("three").write_bytes(HEADER + name(3, b"other"))
+        cases.update({f"{title}, read again": [*words, "--memory", "0"] for title, words in cases.items()})
         wrong, requests = 0, {}
         for title, words in cases.items():
             ample, _ = run(words, library, 0, out)
@@ -129,7 +136,7 @@ def main():
                     break
                 if answer == ample:
                     answers["the answer"] += 1
-                elif answer[0] == 1 and ample[1].startswith(answer[1]) and answer[3] is None and b"out of memory" in answer[2]:
+                elif answer[0] == 1 and ample[1].startswith(answer[1]) and answer[3] is None and is_want(answer[2]):
                     answers["want of memory"] += 1
                 else:
                     wrong += 1
