@@ -5,6 +5,7 @@ ghost use Rattle.hprof_devices.specs.declared.health.Health.TheVariants.{Well};
 ghost use Rattle.hprof_heap.specs.HeapFacts.{facts_of, size_of};
 ghost use Rattle.hprof_passes.specs.Finding.{Finds};
 ghost use Rattle.hprof_lines.specs.Passed.{EndsPassed};
+ghost use Rattle.hprof_retained.specs.KeptReferences.{AreKeptReferences};
 ghost use Rattle.hprof_lines.specs.Stopping.{LeavesTarget, WritesText};
 ghost use Rattle.hprof_describe.specs.Findings.{AreFindings, Findings};
 ghost use Rattle.hprof_keeps.specs.BiggestText.{IsBiggestText};
@@ -24,8 +25,7 @@ use hprof_heap::Heap;
 use hprof_lines::stop_of_pass;
 use hprof_naming::ClassNames;
 use hprof_passes::{Objects, PassStop};
-use hprof_retained::{Retained, retained_over};
-use hprof_weak::weak_fields_over;
+use hprof_retained::{KeptReferences, Retained};
 use std::alloc::{AllocError, Global};
 
 /// A tree of dominators, and places in it.
@@ -39,24 +39,25 @@ pub(crate) struct ChosenTree {
 ///
 /// # Errors
 ///
-/// Those of `weak_fields_over`, `retained_over` and `chosen_over`.
+/// Those of `take_retained` and `chosen_over`.
 fn chosen_tree<O: Objects>(
     alloc: Global,
     heap: &Heap,
     objects: &O,
+    references: &mut KeptReferences,
     choice: Choice<'_>,
 ) -> Result<ChosenTree, PassStop<AllocError, O::Fault>>
-    requires { ClassesAscend choice }
+    requires references { AreKeptReferences (O.make_up objects.now (size_of heap.now) (facts_of heap.now))
+        (O.agree objects.now (size_of heap.now) (facts_of heap.now)) (size_of heap.now) references.old }
+    requires ascend { ClassesAscend choice }
     ensures places { IfOk result (λ made. ArePlaces made.retained made.places.items) }
     ensures made { Finds (O.make_up objects.now (size_of heap.now) (facts_of heap.now))
         (O.agree objects.now (size_of heap.now) (facts_of heap.now)) (O.tells objects.now (size_of heap.now) (facts_of heap.now))
         (λ all. IsChosenTree (size_of heap.now) all choice.entry) result }
+    ensures references { AreKeptReferences (O.make_up objects.now (size_of heap.now) (facts_of heap.now))
+        (O.agree objects.now (size_of heap.now) (facts_of heap.now)) (size_of heap.now) references.new }
 {
-    let weak = match weak_fields_over(alloc, heap, objects) {
-        Ok(weak) => weak,
-        Err(stop) => return Err(stop),
-    };
-    let retained = match retained_over(alloc, heap, objects, &weak) {
+    let retained = match references.take_retained(alloc, heap, objects) {
         Ok(retained) => retained,
         Err(stop) => return Err(stop),
     };
@@ -87,7 +88,7 @@ fn write_in_memory<W: Target>(
 }
 
 /// Writes the report `biggest` on a choice of classes and objects, as [`write_biggest`](crate::write_biggest) does. The heap has all facts
-/// but the objects, which are gone through four or five times; then some are picked, one to four times. Memory holds the tree of
+/// but the objects, which are gone through four or five times if nothing is kept; then some are picked, one to four times. Memory holds the tree of
 /// dominators, and of the objects first those of all classes if the choice has class dumps, and then only these:
 ///
 /// - those of the choice that strong references reach;
@@ -101,16 +102,23 @@ pub fn write_biggest_over<O: Objects, W: Target>(
     alloc: Global,
     heap: &Heap,
     objects: &O,
+    references: &mut KeptReferences,
     choice: Choice<'_>,
     target: &mut W,
 ) -> Result<(), PassStop<WriteStop, O::Fault>>
+    requires references { AreKeptReferences (O.make_up objects.now (size_of heap.now) (facts_of heap.now))
+        (O.agree objects.now (size_of heap.now) (facts_of heap.now)) (size_of heap.now) references.old }
     requires ascend { ClassesAscend choice }
     requires well { W.health target.old ≡ Well }
-    ensures { EndsPassed (O.make_up objects.now (size_of heap.now) (facts_of heap.now))
+    ensures ends { EndsPassed (O.make_up objects.now (size_of heap.now) (facts_of heap.now))
         (O.agree objects.now (size_of heap.now) (facts_of heap.now)) (O.tells objects.now (size_of heap.now) (facts_of heap.now))
         (λ all. IsBiggestText (size_of heap.now) all (IsChosen all choice.entry)) W.written W.health target.old target.new result }
+    ensures references { AreKeptReferences (O.make_up objects.now (size_of heap.now) (facts_of heap.now))
+        (O.agree objects.now (size_of heap.now) (facts_of heap.now)) (size_of heap.now) references.new }
 {
-    let ChosenTree { retained, places } = match chosen_tree(alloc, heap, objects, choice) {
+    let ChosenTree { retained, places } = match chosen_tree(
+        alloc, heap, objects, references, choice,
+    ) {
         Ok(made) => made,
         Err(stop) => return Err(stop_of_pass(stop)),
     };
@@ -118,7 +126,9 @@ pub fn write_biggest_over<O: Objects, W: Target>(
         Ok(small) => small,
         Err(stop) => return Err(stop_of_pass(stop)),
     };
-    match write_in_memory(alloc, &small, &retained, &places, target) {
+    let outcome = write_in_memory(alloc, &small, &retained, &places, target);
+    references.keep_retained(retained);
+    match outcome {
         Ok(()) => Ok(()),
         Err(stop) => Err(PassStop::Sink(stop)),
     }

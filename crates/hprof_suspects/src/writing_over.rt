@@ -7,6 +7,7 @@ ghost use Rattle.hprof_describe.specs.Findings.{AreFindings, Findings};
 ghost use Rattle.hprof_lines.specs.Passed.{EndsPassed};
 ghost use Rattle.hprof_lines.specs.Stopping.{LeavesTarget, WritesText};
 ghost use Rattle.hprof_passes.specs.Finding.{Finds};
+ghost use Rattle.hprof_retained.specs.KeptReferences.{AreKeptReferences};
 ghost use Rattle.hprof_suspects.specs.SuspectsText.{IsSuspectsText};
 ghost use Rattle.hprof_suspects.specs.Told.{Fits, report_text};
 ghost use Rattle.hprof_suspects.specs.ToldHeaps.{IsToldHeap, named_nodes};
@@ -20,6 +21,7 @@ use hprof_heap::Heap;
 use hprof_lines::{stop_of_pass, write_line};
 use hprof_naming::ClassNames;
 use hprof_passes::{Objects, PassStop};
+use hprof_retained::KeptReferences;
 use hprof_words::words_heap;
 use std::alloc::{AllocError, Global};
 
@@ -82,7 +84,7 @@ fn write_found<W: Target>(
 }
 
 /// Writes the report `suspects`, as [`write_suspects`](crate::write_suspects) does. The heap has all facts but the objects, which are gone
-/// through seven or eight times; some are picked, two to four times. Memory holds the identifiers of all nodes, the numbers of what each
+/// through seven or eight times if nothing is kept; some are picked, two to four times. Memory holds the identifiers of all nodes, the numbers of what each
 /// refers to, and the tree of dominators; and of the objects only these:
 ///
 /// - the instances of `java.lang.Class`;
@@ -97,14 +99,19 @@ pub fn write_suspects_over<O: Objects, W: Target>(
     alloc: Global,
     heap: &Heap,
     objects: &O,
+    references: &mut KeptReferences,
     target: &mut W,
 ) -> Result<(), PassStop<WriteStop, O::Fault>>
-    requires { W.health target.old ≡ Well }
-    ensures { EndsPassed (O.make_up objects.now (size_of heap.now) (facts_of heap.now))
+    requires references { AreKeptReferences (O.make_up objects.now (size_of heap.now) (facts_of heap.now))
+        (O.agree objects.now (size_of heap.now) (facts_of heap.now)) (size_of heap.now) references.old }
+    requires well { W.health target.old ≡ Well }
+    ensures ends { EndsPassed (O.make_up objects.now (size_of heap.now) (facts_of heap.now))
         (O.agree objects.now (size_of heap.now) (facts_of heap.now)) (O.tells objects.now (size_of heap.now) (facts_of heap.now))
         (λ all. IsSuspectsText (size_of heap.now) all) W.written W.health target.old target.new result }
+    ensures references { AreKeptReferences (O.make_up objects.now (size_of heap.now) (facts_of heap.now))
+        (O.agree objects.now (size_of heap.now) (facts_of heap.now)) (size_of heap.now) references.new }
 {
-    let found = match found_out_over(alloc, heap, objects) {
+    let found = match found_out_over(alloc, heap, objects, references) {
         Ok(found) => found,
         Err(stop) => return Err(stop_of_pass(stop)),
     };
@@ -112,7 +119,10 @@ pub fn write_suspects_over<O: Objects, W: Target>(
         Ok(small) => small,
         Err(stop) => return Err(stop_of_pass(stop)),
     };
-    match write_found(alloc, &small, &found, target) {
+    let outcome = write_found(alloc, &small, &found, target);
+    let FoundOut { retained, .. } = found;
+    references.keep_retained(retained);
+    match outcome {
         Ok(()) => Ok(()),
         Err(stop) => Err(PassStop::Sink(stop)),
     }
