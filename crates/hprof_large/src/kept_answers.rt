@@ -23,7 +23,8 @@ pub struct KeptAnswers {
 impl KeptAnswers {
     /// Returns what is kept before the first question: nothing. It allocates nothing.
     pub fn new(alloc: Global) -> KeptAnswers
-        ensures texts { (summaries : List PartSummary) (ids : IdSize) (facts : List FactValue) → AreReports summaries ids facts result.texts }
+        ensures texts { (summaries : List PartSummary) (ids : IdSize) (facts : List FactValue)
+            → AreReports summaries ids facts result.texts }
         ensures references { (MakeUp : List FactValue → Type 0) (agree : Type 0) (ids : IdSize)
             → AreKeptReferences MakeUp agree ids result.references }
     {

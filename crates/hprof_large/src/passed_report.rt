@@ -70,7 +70,8 @@ impl Summaries for PassedReport<'_> {
     ghost no_room = { λ it. no_room_for_none it.report };
 }
 
-/// Writes a report. The heap has all facts but the objects, whose counts by kind may be known. `kept` are the summaries that the report wants.
+/// Writes a report. The heap has all facts but the objects, whose counts by kind may be known. `kept` are the summaries that the report
+/// wants.
 ///
 /// # Errors
 ///
