@@ -1,5 +1,5 @@
 -- What was made of the references of a heap, and is kept between reports.
-use Rattle.std.specs.Prelude.{◌↔◌, List, IfSome}
+use Rattle.std.specs.Prelude.{◌≡◌, ◌↔◌, ◌⊎◌, List, IfSome, Option, Some, None}
 use Rattle.hprof_values.specs.declared.ids.IdSize.{IdSize}
 use Rattle.hprof_items.specs.FactValue.{FactValue}
 use Rattle.hprof_edges.specs.declared.edge.Edge.{Edge}
@@ -28,3 +28,12 @@ pub record AreKeptReferences (MakeUp : List FactValue → Type 0) (agree : Type 
   pub all : IfSome references.all (IsFound MakeUp agree (IsReach ids))
   pub strong : IfSome references.strong (IsFound MakeUp agree (IsStrongReach ids))
   pub retained : IfSome references.retained (IsFound MakeUp agree (IsTreeOf ids))
+
+pub record KeepsNothing (references : KeptReferences) : Type 0 where
+  pub all : references.all ≡ None
+  pub strong : references.strong ≡ None
+  pub retained : references.retained ≡ None
+
+-- what is kept stays, or this is kept in its place
+abbrev pub KeepsOr : {A : Type 0} → (old new : Option A) → A → Type 0
+KeepsOr old new value = (new ≡ old) ⊎ (new ≡ Some value)

@@ -1,12 +1,10 @@
 //! What was made of the references of a heap, and is kept between reports.
 
-ghost use Rattle.std.specs.Prelude.{◌≡◌, List};
-ghost use Rattle.hprof_values.specs.declared.ids.IdSize.{IdSize};
-ghost use Rattle.hprof_items.specs.FactValue.{FactValue};
+ghost use Rattle.std.specs.Prelude.{◌≡◌};
 ghost use Rattle.hprof_heap.specs.HeapFacts.{facts_of, size_of};
 ghost use Rattle.hprof_passes.specs.Finding.{Finds};
 ghost use Rattle.hprof_reach.specs.Reaching.{IsReach};
-ghost use Rattle.hprof_retained.specs.KeptReferences.{AreKeptReferences, IsFound, IsStrongReach};
+ghost use Rattle.hprof_retained.specs.KeptReferences.{AreKeptReferences, IsStrongReach, KeepsNothing, KeepsOr};
 ghost use Rattle.hprof_retained.specs.Tree.{IsTreeOf};
 
 use crate::making::retained_over;
@@ -78,7 +76,7 @@ fn tree_over<O: Objects>(
 impl KeptReferences {
     /// Returns what is kept before the first report: nothing.
     fn nothing(keeps: bool) -> KeptReferences
-        ensures { (MakeUp : List FactValue → Type 0) (agree : Type 0) (ids : IdSize) → AreKeptReferences MakeUp agree ids result }
+        ensures { KeepsNothing result }
     {
         KeptReferences {
             keeps,
@@ -90,14 +88,14 @@ impl KeptReferences {
 
     /// Returns what is kept before the only report. Nothing is kept later, since no other report wants it.
     pub fn for_one() -> KeptReferences
-        ensures { (MakeUp : List FactValue → Type 0) (agree : Type 0) (ids : IdSize) → AreKeptReferences MakeUp agree ids result }
+        ensures { KeepsNothing result }
     {
         KeptReferences::nothing(false)
     }
 
     /// Returns what is kept before the first of many reports.
     pub fn for_many() -> KeptReferences
-        ensures { (MakeUp : List FactValue → Type 0) (agree : Type 0) (ids : IdSize) → AreKeptReferences MakeUp agree ids result }
+        ensures { KeepsNothing result }
     {
         KeptReferences::nothing(true)
     }
@@ -179,8 +177,8 @@ impl KeptReferences {
 
     /// Keeps the search by references of any kind, if there are many reports.
     pub fn keep_all(&mut self, reach: Reach)
-        ensures { (MakeUp : List FactValue → Type 0) (agree : Type 0) (ids : IdSize) → IsFound MakeUp agree (IsReach ids) reach
-            → AreKeptReferences MakeUp agree ids self.old → AreKeptReferences MakeUp agree ids self.new }
+        ensures all { KeepsOr self.old.all self.new.all reach }
+        ensures others { (self.new.strong ≡ self.old.strong) × (self.new.retained ≡ self.old.retained) }
     {
         if self.keeps {
             self.all = Some(reach);
@@ -189,8 +187,8 @@ impl KeptReferences {
 
     /// Keeps the search by strong references, if there are many reports.
     pub fn keep_strong(&mut self, reach: Reach)
-        ensures { (MakeUp : List FactValue → Type 0) (agree : Type 0) (ids : IdSize) → IsFound MakeUp agree (IsStrongReach ids) reach
-            → AreKeptReferences MakeUp agree ids self.old → AreKeptReferences MakeUp agree ids self.new }
+        ensures strong { KeepsOr self.old.strong self.new.strong reach }
+        ensures others { (self.new.all ≡ self.old.all) × (self.new.retained ≡ self.old.retained) }
     {
         if self.keeps {
             self.strong = Some(reach);
@@ -199,8 +197,8 @@ impl KeptReferences {
 
     /// Keeps the tree of dominators, if there are many reports.
     pub fn keep_retained(&mut self, retained: Retained)
-        ensures { (MakeUp : List FactValue → Type 0) (agree : Type 0) (ids : IdSize) → IsFound MakeUp agree (IsTreeOf ids) retained
-            → AreKeptReferences MakeUp agree ids self.old → AreKeptReferences MakeUp agree ids self.new }
+        ensures retained { KeepsOr self.old.retained self.new.retained retained }
+        ensures others { (self.new.all ≡ self.old.all) × (self.new.strong ≡ self.old.strong) }
     {
         if self.keeps {
             self.retained = Some(retained);
