@@ -22,8 +22,8 @@ returns-in-Ok-outcome-clause-ends g c =
     made.2)
     c.in-Ok-outcome.ensures.health
 
-pub returns-in-Err-outcome-clause-ends : goal.returns-in-Err-outcome-clause-ends
-returns-in-Err-outcome-clause-ends g c =
+pub returns-clause-ends : goal.returns-clause-ends
+returns-clause-ends g c =
     let ids = size_of c.args.heap.now in
     let facts = facts_of c.args.heap.now in
     let objects = c.args.objects.now in
@@ -47,8 +47,8 @@ returns-in-Ok-outcome-clause-references g c =
     (c.in-Ok.ensures.made.0, λ all make. (c.in-Ok.ensures.made.1 all make).0) c.keep_retained.ensures.retained
     c.keep_retained.ensures.others
 
-pub returns-in-Err-outcome-clause-references : goal.returns-in-Err-outcome-clause-references
-returns-in-Err-outcome-clause-references g c =
+pub returns-clause-references : goal.returns-clause-references
+returns-clause-references g c =
     let ids = size_of c.args.heap.now in
     let facts = facts_of c.args.heap.now in
     let objects = c.args.objects.now in
