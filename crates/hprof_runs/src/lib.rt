@@ -24,6 +24,7 @@ mod scratch;
 mod scratch_fault;
 mod scratch_writer;
 mod sorted_rows;
+mod spelling;
 
 pub use file_scratch::FileScratch;
 pub use firsts::Firsts;
