@@ -1,4 +1,5 @@
 pub mod Lying
+pub mod Lens
 pub mod Picked
 pub mod Sending
 pub mod Spelled

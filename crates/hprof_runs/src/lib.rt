@@ -4,6 +4,7 @@
 //! Begin with [`Rows`], which takes rows in any order, and [`Runs`].
 #![tactic(auto)]
 
+mod ahead;
 mod file_scratch;
 mod firsts;
 mod header;

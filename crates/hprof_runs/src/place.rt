@@ -1,9 +1,9 @@
 //! Places of rows.
 
-ghost use Rattle.std.specs.Prelude.{◌≡◌, ◌<◌, ◌^◌, drop};
+ghost use Rattle.std.specs.Prelude.{◌≡◌, ◌<◌, ◌^◌, take, drop};
 ghost use Rattle.hprof_runs.specs.Spelling.{spelled_content};
 
-use crate::header::first_content;
+use crate::header::{HEADER_BYTES, first_content};
 
 /// The key of a row, and where the row is spelled among others.
 #[derive(Clone, Copy)]
@@ -32,4 +32,14 @@ pub(crate) fn bytes_at(bytes: &[u8], place: Place) -> &[u8]
     ensures { result.now ≡ spelled_content (drop place.at bytes.now) }
 {
     first_content(bytes.get(place.at..).unwrap_or(&[]))
+}
+
+/// Returns so many bytes of the row at a place, or as many as there are.
+#[inline(always)]
+pub(crate) fn bytes_of(bytes: &[u8], place: Place, len: usize) -> &[u8]
+    ensures { result.now ≡ take len (drop 12 (drop place.at bytes.now)) }
+{
+    let spelled = bytes.get(place.at..).unwrap_or(&[]);
+    let rest = spelled.get(HEADER_BYTES..).unwrap_or(&[]);
+    rest.get(..len).unwrap_or(rest)
 }
