@@ -1,11 +1,10 @@
 -- The lengths of the rows at the next places, as they are read and passed.
 use Rattle.std.proofs.Common.{◌≡◌, ◌≤◌, ◌<◌, ◌+◌, ◌++◌, ◌-◌, ℕ, zero, suc, List, [], ◌∷◌, length, take, drop, set, get_or, min}
-use Rattle.std.proofs.Common.{refl, sym, ap, subst, ◌∙◌, append_assoc, arith}
+use Rattle.std.proofs.Common.{sym, ap, subst, ◌∙◌, arith}
 use Rattle.std.proofs.lemmas.List.{drop-drop, length-append, length-take, take_min}
 use Rattle.std.proofs.Math.Seq.{drop-append_seam, drop-cons}
-use Rattle.hprof_runs.specs.declared.ahead.Ahead.{Ahead}
 use Rattle.hprof_runs.specs.declared.place.Place.{Place}
-use Rattle.hprof_runs.specs.Ahead.{AreAhead, AreLens, IsLenAt}
+use Rattle.hprof_runs.specs.Ahead.{AreLens, IsLenAt}
 use Rattle.hprof_runs.specs.Places.{content_at}
 use Rattle.hprof_runs.specs.Spelling.{spelled_len}
 

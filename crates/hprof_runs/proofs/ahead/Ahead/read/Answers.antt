@@ -1,6 +1,5 @@
-use Rattle.std.proofs.Common.{◌≡◌, ◌<◌, ◌∙◌, length, set, take, add-one, arith, refl}
+use Rattle.std.proofs.Common.{◌<◌, ◌∙◌, length, add-one, arith, refl}
 use Rattle.std.proofs.lemmas.List.{length-set}
-use Rattle.hprof_runs.specs.Ahead.{AreLens}
 use Rattle.hprof_runs.proofs.Lens.{all_lens, len_read, set_len}
 use Rattle.hprof_runs.proofs.ahead.Ahead.read.Goals as goal
 

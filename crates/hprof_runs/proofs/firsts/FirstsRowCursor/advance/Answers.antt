@@ -1,5 +1,4 @@
-use Rattle.std.proofs.Common.{◌≡◌, ◌∷◌, List, rules}
-use Rattle.hprof_runs.specs.declared.place.Place.{Place}
+use Rattle.std.proofs.Common.{◌≡◌, ◌∷◌, rules}
 use Rattle.hprof_runs.proofs.Lens.{places_behind}
 use Rattle.hprof_runs.proofs.firsts.FirstsRowCursor.advance.Goals as goal
 
