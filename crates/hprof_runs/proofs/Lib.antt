@@ -1,5 +1,5 @@
 pub mod Lying
-pub mod Lens
+pub mod Lengths
 pub mod Picked
 pub mod Sending
 pub mod Spelled

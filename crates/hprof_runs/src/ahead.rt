@@ -7,11 +7,12 @@ use crate::place::{Place, bytes_at};
 /// The number of rows whose lengths are read together.
 const AHEAD: usize = 16;
 
-/// The lengths of the rows at the next places. They are read together, since rows that lie far apart come from memory at the same time
-/// then, and not one after another.
+/// The lengths of the rows at the next places. They are read together, so that a program waits for memory once for all of them, and not
+/// once for each.
 #[derive(Clone, Copy)]
 pub(crate) struct Ahead {
-    lens: [usize; AHEAD],
+    lengths: [usize; AHEAD],
+    /// The number of lengths that are passed.
     passed: usize,
     ghost few: { passed < 16 },
 }
@@ -24,22 +25,22 @@ impl Ahead {
     pub(crate) fn read(bytes: &[u8], places: &[Place]) -> Self
         ensures { AreAhead bytes.now places.now result }
     {
-        let mut lens = [0; AHEAD];
+        let mut lengths = [0; AHEAD];
         for i in 0..places.len().min(AHEAD) {
-            lens[i] = bytes_at(bytes, places[i]).len();
+            lengths[i] = bytes_at(bytes, places[i]).len();
         }
-        Ahead { lens, passed: 0 }
+        Ahead { lengths, passed: 0 }
     }
 
     /// Returns the length of the row at the first place.
     #[inline(always)]
     pub(crate) fn first(&self) -> usize
-        ensures { result ≡ slice_index self.now.lens self.now.passed }
+        ensures { result ≡ slice_index self.now.lengths self.now.passed }
     {
-        self.lens[self.passed]
+        self.lengths[self.passed]
     }
 
-    /// Passes places, behind which these come.
+    /// Passes so many places, behind which these come. If all lengths are passed, it reads the next ones.
     #[inline(always)]
     pub(crate) fn pass(&mut self, count: usize, bytes: &[u8], behind: &[Place])
         ensures { (places : List Place) → AreAhead bytes.now places self.old → behind.now ≡ drop count places

@@ -2,9 +2,9 @@
 
 ghost use Rattle.std.specs.Prelude.{◌≡◌, ◌++◌, ℕ, List, ⊤};
 ghost use Rattle.hprof_merge.specs.Late.{in_order_above};
-ghost use Rattle.hprof_runs.specs.Picked.{firsts_of};
 ghost use Rattle.hprof_runs.specs.declared.place.Place.{Place};
 ghost use Rattle.hprof_runs.specs.Ahead.{AreAhead, AreAhead-prop};
+ghost use Rattle.hprof_runs.specs.Picked.{firsts_of};
 ghost use Rattle.hprof_runs.specs.Places.{rows_lying};
 
 use crate::ahead::Ahead;
@@ -18,7 +18,7 @@ pub struct Firsts<'a> {
     bytes: &'a [u8],
     places: &'a [Place],
     ahead: Ahead,
-    ghost lens: { AreAhead bytes.now places.now ahead } by { AreAhead-prop bytes.now places.now ahead },
+    ghost lengths: { AreAhead bytes.now places.now ahead } by { AreAhead-prop bytes.now places.now ahead },
 }
 
 /// Returns the places from the first one on whose key is above this one.

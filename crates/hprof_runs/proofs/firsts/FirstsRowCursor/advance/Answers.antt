@@ -1,5 +1,5 @@
 use Rattle.std.proofs.Common.{◌≡◌, ◌∷◌, rules}
-use Rattle.hprof_runs.proofs.Lens.{places_behind}
+use Rattle.hprof_runs.proofs.Lengths.{places_behind}
 use Rattle.hprof_runs.proofs.firsts.FirstsRowCursor.advance.Goals as goal
 
 pub invariant_of-self : goal.invariant_of-self
@@ -10,5 +10,5 @@ invariant_of-self c =
     let behind = c.places_above-above.ensures.behind in
     let is : it.places.now ≡ c.in-Some.place.now ∷ rest = search rules in
     record {
-      lens = c.pass.ensures it.places.now it.lens (places_behind it.places.now rest behind.0 above c.in-Some.place.now is behind.1);
+      lengths = c.pass.ensures it.places.now it.lengths (places_behind it.places.now rest behind.0 above c.in-Some.place.now is behind.1);
     }
