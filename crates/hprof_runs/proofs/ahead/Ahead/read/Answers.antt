@@ -15,9 +15,10 @@ loop-i-preserved c =
     let size = c.loop-i.invariant.size in
     let lt : i < length places = omega arith in
     let room : i < length lengths = omega arith in
+    let own = length_read c.args.bytes.now place content (length content) c.bytes_at.ensures refl in
     record {
-      read = rw add-one (set_length c.args.bytes.now places lengths i place (length content) c.loop-i.invariant.read lt c.index-places-i.is room
-          (length_read c.args.bytes.now place content (length content) c.bytes_at.ensures refl));
+      read = rw add-one
+          (set_length c.args.bytes.now places lengths i place (length content) c.loop-i.invariant.read lt c.index-places-i.is room own);
       size = length-set lengths i (length content) ∙ size;
     }
 
