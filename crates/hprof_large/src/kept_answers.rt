@@ -4,7 +4,7 @@ ghost use Rattle.std.specs.Prelude.{List};
 ghost use Rattle.hprof_values.specs.declared.ids.IdSize.{IdSize};
 ghost use Rattle.hprof_items.specs.FactValue.{FactValue};
 ghost use Rattle.hprof_stream.specs.declared.summary.PartSummary.{PartSummary};
-ghost use Rattle.hprof_retained.specs.KeptReferences.{AreKeptReferences};
+ghost use Rattle.hprof_retained.specs.KeptReferences.{KeepsNothing};
 ghost use Rattle.hprof_large.specs.Texts.{AreReports};
 
 use crate::texts::KeptTexts;
@@ -25,8 +25,7 @@ impl KeptAnswers {
     pub fn new(alloc: Global) -> KeptAnswers
         ensures texts { (summaries : List PartSummary) (ids : IdSize) (facts : List FactValue)
             → AreReports summaries ids facts result.texts }
-        ensures references { (MakeUp : List FactValue → Type 0) (agree : Type 0) (ids : IdSize)
-            → AreKeptReferences MakeUp agree ids result.references }
+        ensures references { KeepsNothing result.references }
     {
         KeptAnswers {
             texts: KeptTexts::new(alloc),
