@@ -77,7 +77,8 @@ fn write_from_tree<O: Objects, W: Target>(
     target: &mut W,
 ) -> Result<(), PassStop<WriteStop, O::Fault>>
     requires agree { O.agree objects.now (size_of heap.now) (facts_of heap.now) }
-    requires made { (all : List FactValue) → O.make_up objects.now (size_of heap.now) (facts_of heap.now) all → IsKeptTree (size_of heap.now) all id made.now }
+    requires made { (all : List FactValue) → O.make_up objects.now (size_of heap.now) (facts_of heap.now) all
+        → IsKeptTree (size_of heap.now) all id made.now }
     requires places { HasPlaces made.now.retained made.now.kept }
     requires well { W.health target.old ≡ Well }
     ensures { EndsPassed (O.make_up objects.now (size_of heap.now) (facts_of heap.now))

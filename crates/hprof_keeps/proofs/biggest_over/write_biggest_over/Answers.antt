@@ -12,4 +12,5 @@ returns-clause-references g c =
     let objects = c.args.objects.now in
     retained_kept_on (g.O.Objects.make_up objects ids facts) (g.O.Objects.agree objects ids facts) ids c.chosen_tree.new.references
     c.keep_retained.new.self c.in-Ok.ensures.references c.in-Ok.made.retained
-    (c.in-Ok.ensures.made.0, λ all make. (c.in-Ok.ensures.made.1 all make).0) c.keep_retained.ensures.retained c.keep_retained.ensures.others
+    (c.in-Ok.ensures.made.0, λ all make. (c.in-Ok.ensures.made.1 all make).0) c.keep_retained.ensures.retained
+    c.keep_retained.ensures.others

@@ -9,4 +9,5 @@ returns-clause-references g c =
     let objects = c.args.objects.now in
     retained_kept_on (g.O.Objects.make_up objects ids facts) (g.O.Objects.agree objects ids facts) ids c.found_out_over.new.references
     c.keep_retained.new.self c.in-Ok.ensures.references c.in-Ok.found.retained
-    (c.in-Ok.ensures.found.0, λ all make. (c.in-Ok.ensures.found.1 all make).tree) c.keep_retained.ensures.retained c.keep_retained.ensures.others
+    (c.in-Ok.ensures.found.0, λ all make. (c.in-Ok.ensures.found.1 all make).tree) c.keep_retained.ensures.retained
+    c.keep_retained.ensures.others

@@ -13,7 +13,8 @@ returns-in-Ok-outcome-clause-ends g c =
     let answer : Result (Unit {0}) WriteStop = Ok c.in-Ok-outcome.field-0 in
     ends_passed (g.O.Objects.make_up objects ids facts) (g.O.Objects.agree objects ids facts) (g.O.Objects.tells objects ids facts)
     (λ all. IsPathText ids all c.args.id) g.W.Target.written g.W.Target.health c.args.target.now c.write_path-outcome.new.target answer
-    c.in-Ok.ensures.reach.0 (λ all make. c.in-Ok-outcome.ensures.bytes ids all (c.in-Ok.ensures.reach.1 all make)) c.in-Ok-outcome.ensures.health
+    c.in-Ok.ensures.reach.0 (λ all make. c.in-Ok-outcome.ensures.bytes ids all (c.in-Ok.ensures.reach.1 all make))
+    c.in-Ok-outcome.ensures.health
 
 pub returns-in-Err-outcome-clause-ends : goal.returns-in-Err-outcome-clause-ends
 returns-in-Err-outcome-clause-ends g c =
@@ -23,4 +24,5 @@ returns-in-Err-outcome-clause-ends g c =
     let answer : Result (Unit {0}) WriteStop = Err c.in-Err-outcome.stop in
     ends_passed (g.O.Objects.make_up objects ids facts) (g.O.Objects.agree objects ids facts) (g.O.Objects.tells objects ids facts)
     (λ all. IsPathText ids all c.args.id) g.W.Target.written g.W.Target.health c.args.target.now c.write_path-outcome.new.target answer
-    c.in-Ok.ensures.reach.0 (λ all make. c.in-Err-outcome.ensures.bytes ids all (c.in-Ok.ensures.reach.1 all make)) c.in-Err-outcome.ensures.health
+    c.in-Ok.ensures.reach.0 (λ all make. c.in-Err-outcome.ensures.bytes ids all (c.in-Ok.ensures.reach.1 all make))
+    c.in-Err-outcome.ensures.health

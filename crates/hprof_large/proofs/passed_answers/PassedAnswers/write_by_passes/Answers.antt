@@ -30,5 +30,6 @@ returns-clause-ends g c =
     ends_fewer (MadeUpWith Made ids None) Made (HaveUnion g.S.Target.written g.S.Target.health g.P.Parts.bytes self.objects)
     (TellsPass g.S.Target.written g.S.Target.health g.P.Parts.bytes g.S.Scratch.unreadable self.objects ids facts)
     (λ all. IsReport self.summaries.now.items ids all report) (λ refusal all. RefusesReport all report refusal)
-    g.W.Target.written g.W.Target.health c.args.target.now c.write_report_over.new.target (λ all made. (made, tt)) c.write_report_over.result
+    g.W.Target.written g.W.Target.health c.args.target.now c.write_report_over.new.target (λ all made. (made, tt))
+    c.write_report_over.result
     (c.write_report_over.ensures.ends self.summaries.now.items (held report self.summaries.now))
