@@ -1,4 +1,5 @@
 pub mod Lying
+pub mod Lengths
 pub mod Picked
 pub mod Sending
 pub mod Spelled

@@ -1,4 +1,5 @@
 pub mod Places
+pub mod Ahead
 pub mod RowsIn
 pub mod Picked
 pub mod Other

@@ -4,6 +4,7 @@
 //! Begin with [`Rows`], which takes rows in any order, and [`Runs`].
 #![tactic(auto)]
 
+mod ahead;
 mod file_scratch;
 mod firsts;
 mod header;
@@ -24,6 +25,7 @@ mod scratch;
 mod scratch_fault;
 mod scratch_writer;
 mod sorted_rows;
+mod spelling;
 
 pub use file_scratch::FileScratch;
 pub use firsts::Firsts;

@@ -1,7 +1,8 @@
 //! Rows sorted by key.
 
 ghost use Rattle.std.specs.Prelude.{◌≡◌, ◌↔◌, [], IsTrue};
-ghost use Rattle.hprof_runs.specs.Places.{HaveSortedKeys};
+ghost use Rattle.hprof_runs.specs.Places.{HaveSortedKeys, rows_lying};
+ghost use Rattle.hprof_runs.specs.Spelling.{AllFit, AllFit-prop};
 
 use crate::firsts::Firsts;
 use crate::others::Others;
@@ -14,17 +15,18 @@ pub struct SortedRows {
     bytes: Vec<u8>,
     places: Vec<Place>,
     ghost sorted: { HaveSortedKeys places.items },
+    ghost fit: { AllFit (rows_lying bytes.items places.items) } by { AllFit-prop (rows_lying bytes.items places.items) },
 }
 
 impl SortedRows {
     ghost use Rattle.hprof_runs.specs.Picked.{firsts_of, others_of};
     ghost use Rattle.hprof_runs.specs.Picking.{firsts_to_come, others_to_come};
-    ghost use Rattle.hprof_runs.specs.Places.{rows_lying};
     ghost use Rattle.hprof_runs.specs.RowsIn.{rows_in, sorted_in};
 
     /// Returns the rows that lie at places.
     pub(crate) fn of(bytes: Vec<u8>, places: Vec<Place>) -> Self
-        requires { HaveSortedKeys places.items }
+        requires sorted { HaveSortedKeys places.items }
+        requires fit { AllFit (rows_lying bytes.items places.items) }
         ensures { sorted_in result ≡ rows_lying bytes.items places.items }
     {
         SortedRows { bytes, places }
@@ -55,12 +57,7 @@ impl SortedRows {
     pub fn into_rows(self) -> Rows
         ensures { rows_in result ≡ [] }
     {
-        let SortedRows {
-            mut bytes,
-            mut places,
-        } = self;
-        bytes.clear();
-        places.clear();
-        Rows::of(bytes, places)
+        let SortedRows { bytes, places } = self;
+        Rows::emptied(bytes, places)
     }
 }
