@@ -1,3 +1,5 @@
+pub mod TwoLists
+pub mod CutRows
 pub mod Lying
 pub mod Picked
 pub mod Sending

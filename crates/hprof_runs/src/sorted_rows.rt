@@ -1,11 +1,12 @@
 //! Rows sorted by key.
 
-ghost use Rattle.std.specs.Prelude.{◌≡◌, ◌↔◌, [], IsTrue};
+ghost use Rattle.std.specs.Prelude.{◌≡◌, ◌↔◌, [], ℕ, List, IsTrue, MatchOption};
+ghost use Rattle.hprof_merge.specs.Rows.{Has};
 ghost use Rattle.hprof_runs.specs.Places.{HaveSortedKeys};
 
 use crate::firsts::Firsts;
 use crate::others::Others;
-use crate::place::Place;
+use crate::place::{Place, bytes_at};
 use crate::rows::Rows;
 
 /// Rows sorted by key, several of which may have one key.
@@ -35,6 +36,19 @@ impl SortedRows {
         ensures { IsTrue result ↔ (sorted_in self.now ≡ []) }
     {
         self.places.is_empty()
+    }
+
+    /// Returns the bytes of the first row with a key, by binary search.
+    pub fn find(&self, key: u64) -> Option<&[u8]>
+        ensures { MatchOption result ((bytes : List ℕ) → Has (sorted_in self.now) (key, bytes) → ⊥)
+            (λ bytes. Has (firsts_of (sorted_in self.now)) (key, bytes.now)) }
+    {
+        let index = self.places.partition_point(|place| place.key < key);
+        let place = self.places.get(index)?;
+        if place.key != key {
+            return None;
+        }
+        Some(bytes_at(&self.bytes, *place))
     }
 
     /// Returns a cursor over the first row of each key.
