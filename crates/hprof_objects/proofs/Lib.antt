@@ -23,7 +23,6 @@ pub mod MergedObjects
 pub mod OpeningFaults
 pub mod OneStretch
 mod WantedRows
-mod TwoPieces
 mod PickedRows
 mod PickedCuts
 mod PickedFront

@@ -1,7 +1,8 @@
-pub mod TwoLists
+pub mod TwoPieces
 pub mod CutRows
 pub mod Lying
 pub mod Picked
+pub mod Found
 pub mod Sending
 pub mod Spelled
 pub mod PickedCursors

@@ -44,7 +44,9 @@ impl SortedRows {
             (λ bytes. Has (firsts_of (sorted_in self.now)) (key, bytes.now)) }
     {
         let index = self.places.partition_point(|place| place.key < key);
-        let place = self.places.get(index)?;
+        let Some(place) = self.places.get(index) else {
+            return None;
+        };
         if place.key != key {
             return None;
         }
