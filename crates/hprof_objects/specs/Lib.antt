@@ -19,3 +19,5 @@ pub mod Wanted
 pub mod PickingSink
 pub mod Picks
 pub mod PickedCuts
+pub mod AnyCuts
+pub mod Seeking

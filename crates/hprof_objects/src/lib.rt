@@ -8,7 +8,9 @@
 //! reads only cuts in whose range a wanted identifier is. Otherwise it reads all objects.
 #![tactic(auto)]
 
+mod any_cut;
 mod cut;
+mod cut_reader;
 mod growing;
 mod identifying;
 mod keeping;
@@ -22,6 +24,7 @@ mod opening;
 mod picking;
 mod picking_sink;
 mod row_store;
+mod seeking;
 mod stored_objects;
 mod stretch;
 mod stretch_cursor;
