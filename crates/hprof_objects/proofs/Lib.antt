@@ -22,6 +22,9 @@ pub mod Stops
 pub mod MergedObjects
 pub mod OpeningFaults
 pub mod OneStretch
+mod GoneUp
+mod CutsOpened
+mod LookedUp
 mod WantedRows
 mod PickedRows
 mod PickedCuts

@@ -64,9 +64,12 @@ AreApart (cut ∷ cuts) = AreAbove (last_in cut) cuts
 abbrev pub CutCursor : Type 0 → Type 0 → Type 0
 CutCursor S R = OneOf (RunCursor S) (StretchCursor R)
 
--- it reads this scratch, or a part
-abbrev pub IsIn : {S R : Type 0} → S → CutCursor S R → Type 0
-IsIn scratch it = holds_either (λ run. scratch_of_run run ≡ scratch) (λ stretch. ⊤) it
+-- it is over that cut: in this scratch, or in a part
+abbrev pub IsOver : {S R : Type 0} → S → AnyCut → CutCursor S R → Type 0
+IsOver scratch (InPart cut) (First it) = ⊥
+IsOver scratch (InPart cut) (Second it) = ⊤
+IsOver scratch (InRun cut) (First it) = scratch_of_run it ≡ scratch
+IsOver scratch (InRun cut) (Second it) = ⊥
 
 -- it can be asked for the next object
 abbrev pub CutCanGoOn : {S R : Type 0} → (R → Health) → CutCursor S R → Type 0

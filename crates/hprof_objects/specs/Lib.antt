@@ -21,3 +21,4 @@ pub mod Picks
 pub mod PickedCuts
 pub mod AnyCuts
 pub mod Seeking
+pub mod Searched

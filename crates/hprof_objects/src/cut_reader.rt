@@ -3,7 +3,7 @@
 ghost use Rattle.std.specs.Prelude.{◌≡◌, List, IfOk, IfErr};
 ghost use Rattle.hprof_merge.specs.Rows.{ByteRow};
 ghost use Rattle.hprof_runs.specs.Runs.{scratch_of};
-ghost use Rattle.hprof_objects.specs.AnyCuts.{Comes, CutCanGoOn, CutComes, IsIn, TellsCut, stop_in};
+ghost use Rattle.hprof_objects.specs.AnyCuts.{Comes, CutCanGoOn, CutComes, IsOver, TellsCut, stop_in};
 ghost use Rattle.hprof_objects.specs.StretchCursor.{CanGoOn, OpensStretch, RefusesStretch};
 
 use crate::any_cut::AnyCut;
@@ -58,7 +58,7 @@ pub(crate) fn open_cut<'a, S: Scratch + Drop, R: Source + Drop, P: Parts<Reader 
         → Comes S.written (scratch_of reader.now.runs.now) reader.now.limits (P.bytes reader.now.parts.now) cut.now rows
         → CutComes S.written R.left R.health R.pulls cursor rows) }
     ensures can { IfOk result (CutCanGoOn R.health) }
-    ensures scratch { IfOk result (IsIn (scratch_of reader.now.runs.now)) }
+    ensures over { IfOk result (IsOver (scratch_of reader.now.runs.now) cut.now) }
     ensures tells { IfErr result (TellsCut S.written (scratch_of reader.now.runs.now) reader.now.limits (P.bytes reader.now.parts.now)
         S.unreadable cut.now) }
 {

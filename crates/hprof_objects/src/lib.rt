@@ -24,6 +24,7 @@ mod opening;
 mod picking;
 mod picking_sink;
 mod row_store;
+mod searched;
 mod seeking;
 mod stored_objects;
 mod stretch;
