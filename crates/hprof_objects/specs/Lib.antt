@@ -22,3 +22,5 @@ pub mod PickedCuts
 pub mod AnyCuts
 pub mod Seeking
 pub mod Searched
+pub mod SearchedLists
+pub mod Giving

@@ -11,6 +11,8 @@
 mod any_cut;
 mod cut;
 mod cut_reader;
+mod dividing;
+mod giving;
 mod growing;
 mod identifying;
 mod keeping;
