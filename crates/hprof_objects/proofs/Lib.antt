@@ -25,6 +25,7 @@ pub mod OneStretch
 mod GoneUp
 mod CutsOpened
 mod LookedUp
+mod GivenOne
 mod Apart
 mod WantedRows
 mod PickedRows
