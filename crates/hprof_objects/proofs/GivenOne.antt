@@ -150,6 +150,14 @@ unless_sink P (stops.Scratch fault) it = it
 unless_sink P (stops.Part part fault) it = it
 unless_sink P (stops.Sink fault) it = tt
 
+pub unless_more : {G : Type 0} (P Q : ObjectStop G → Type 0) (stop : ObjectStop G) → (P stop → Q stop) → UnlessOfSink P stop
+    → UnlessOfSink Q stop
+unless_more P Q stops.OutOfMemory more it = more it
+unless_more P Q (stops.TwoContents key) more it = more it
+unless_more P Q (stops.Scratch fault) more it = more it
+unless_more P Q (stops.Part part fault) more it = more it
+unless_more P Q (stops.Sink fault) more it = tt
+
 pub unless_refused : {A G : Type 0} (P : Type 0) (result : Result A (ObjectStop G)) → P → UnlessRefused P result
 unless_refused P (Ok done) it = it
 unless_refused P (Err stops.OutOfMemory) it = it

@@ -26,9 +26,11 @@ mod GoneUp
 mod CutsOpened
 mod LookedUp
 mod GivenOne
+mod GivenAll
 mod Apart
 mod WantedRows
 mod PickedRows
 mod PickedCuts
 mod PickedFront
 mod PickedMerge
+mod PickedAgreed

@@ -24,6 +24,7 @@ mod object_stop;
 mod open_cut;
 mod opening;
 mod picking;
+mod picking_agreed;
 mod picking_sink;
 mod row_store;
 mod searched;
