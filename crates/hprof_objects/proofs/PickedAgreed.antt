@@ -138,11 +138,12 @@ module _ {S : Type 0} (written : S → Option (List ℕ)) (scratch : S) (limits 
 
 -- ---- the rows of stored objects
 
+-- the cuts of the stretches, and those of the runs
+abbrev pub all_cuts : {S : Type 0} → StoredObjects S → List AnyCut
+all_cuts objects = map InPart objects.cuts.items ++ map InRun (cuts_of objects.runs)
+
 module _ {S : Type 0} (written : S → Option (List ℕ)) (health : S → Health) (limits : Limits) (told : List (Option (List ℕ)))
     (objects : StoredObjects S) where
-  abbrev pub all_cuts : List AnyCut
-  all_cuts = map InPart objects.cuts.items ++ map InRun (cuts_of objects.runs)
-
   abbrev scratch : S
   scratch = scratch_under objects
 
@@ -154,7 +155,7 @@ module _ {S : Type 0} (written : S → Option (List ℕ)) (health : S → Health
     others = holds.runs ++ holds.lists
 
     -- the rows of a cut are among those of the runs and the stretches
-    cut_rows : (cut : AnyCut) → Among all_cuts cut
+    cut_rows : (cut : AnyCut) → Among (all_cuts objects) cut
         → (rows : List ByteRow) × Comes written scratch limits told cut rows × ((row : ByteRow) → Has rows row → AnyHas others row)
     cut_rows cut among = elim (among_either (map InPart objects.cuts.items) (map InRun (cuts_of objects.runs)) cut among) [
       | inl there ↦
@@ -176,7 +177,7 @@ module _ {S : Type 0} (written : S → Option (List ℕ)) (health : S → Health
     ]
 
     -- each of their rows is in a cut
-    in_cut : (row : ByteRow) → AnyHas others row → IsInCut written scratch limits told all_cuts row
+    in_cut : (row : ByteRow) → AnyHas others row → IsInCut written scratch limits told (all_cuts objects) row
     in_cut row has = elim (either_has holds.runs holds.lists row has.0 has.1) [
       | inl there ↦
           let its = holds.are_runs in
@@ -193,23 +194,23 @@ module _ {S : Type 0} (written : S → Option (List ℕ)) (health : S → Health
       stored_in : (row : ByteRow) → AnyHas (sorted_in objects.rows ∷ others) row → Has all row
       stored_in row has = (union.same row).1 (holds.enough.only row has)
 
-      pub are_held : AreHeld written scratch limits told objects.rows all_cuts all
+      pub are_held : AreHeld written scratch limits told objects.rows (all_cuts objects) all
       are_held = record { ascends = union.ascends; only = only; every = every }
         where
-          only : (row : ByteRow) → IsThere written scratch limits told objects.rows all_cuts row → Has all row
+          only : (row : ByteRow) → IsThere written scratch limits told objects.rows (all_cuts objects) row → Has all row
           only row (inl has) = stored_in row (0, has)
           only row (inr lies) =
               let its = cut_rows lies.cut lies.among in
               let any = its.2 row (lies.lies its.0 its.1) in stored_in row (suc any.0, any.1)
 
           nowhere : (row : ByteRow) → AnyHas (sorted_in objects.rows ∷ others) row
-              → IsNowhere written scratch limits told objects.rows all_cuts row.0 → ⊥
+              → IsNowhere written scratch limits told objects.rows (all_cuts objects) row.0 → ⊥
           nowhere row has none = elim (first_has (sorted_in objects.rows) others row has.0 has.1) [
             | inl here ↦ none.0 row.1 here
             | inr behind ↦ let it = in_cut row behind in none.1 it.cut it.among it.rows it.comes row.1 it.has
           ]
 
-          every : (row : ByteRow) → Has all row → IsNowhere written scratch limits told objects.rows all_cuts row.0 → ⊥
+          every : (row : ByteRow) → Has all row → IsNowhere written scratch limits told objects.rows (all_cuts objects) row.0 → ⊥
           every row has none = elim (holds.enough.each row ((union.same row).0 has)) [
             | inl there ↦ nowhere row there none
             | inr two ↦ union_apart (objects_of reads) all row.0 union (record {
@@ -235,3 +236,93 @@ module _ {S : Type 0} (written : S → Option (List ℕ)) (health : S → Health
           picks_of (objects_of reads) all union steps refuses wanted old new {A = Unit {0}} (Err (stops.Part part fault)) picks
       picks_agreed steps refuses wanted old new (Err (stops.Sink fault)) picks =
           picks_of (objects_of reads) all union steps refuses wanted old new {A = Unit {0}} (Err (stops.Sink fault)) picks
+
+  -- ---- what a stop tells
+
+  run_of : (all : List ℕ) (cuts : List RunCut) (lists : List (List ByteRow)) → AreRunCuts all cuts lists → (cut : RunCut)
+      → Among (map InRun cuts) (InRun cut) → (rows : List ByteRow) × IsRunCut all cut rows
+  run_of all [] lists are cut among = absurd among
+  run_of all (first ∷ cuts) [] are cut among = absurd are
+  run_of all (first ∷ cuts) (rows ∷ lists) are cut (inl is) =
+      let same : first ≡ cut = cc in (rows, subst (λ (c : RunCut). IsRunCut all c rows) same are.0)
+  run_of all (first ∷ cuts) (rows ∷ lists) are cut (inr among) = run_of all cuts lists are.1 cut among
+
+  part_of : (reads : List PartRead) (cuts : List Cut) (lists : List (List ByteRow)) → AreCuts limits reads cuts lists → (cut : Cut)
+      → Among (map InPart cuts) (InPart cut) → (rows : List ByteRow) × IsCutOf limits reads cut rows
+  part_of reads [] lists are cut among = absurd among
+  part_of reads (first ∷ cuts) [] are cut among = absurd are
+  part_of reads (first ∷ cuts) (rows ∷ lists) are cut (inl is) =
+      let same : first ≡ cut = cc in (rows, subst (λ (c : Cut). IsCutOf limits reads c rows) same are.0)
+  part_of reads (first ∷ cuts) (rows ∷ lists) are cut (inr among) = part_of reads cuts lists are.1 cut among
+
+  not_in_run : (cuts : List RunCut) (cut : Cut) → Among (map InRun cuts) (InPart cut) → ⊥
+  not_in_run [] cut among = among
+  not_in_run (first ∷ cuts) cut (inl is) = absurd cc
+  not_in_run (first ∷ cuts) cut (inr among) = not_in_run cuts cut among
+
+  not_in_part : (cuts : List Cut) (cut : RunCut) → Among (map InPart cuts) (InRun cut) → ⊥
+  not_in_part [] cut among = among
+  not_in_part (first ∷ cuts) cut (inl is) = absurd cc
+  not_in_part (first ∷ cuts) cut (inr among) = not_in_part cuts cut among
+
+  module _ (G : Type 0) (unreadable : S → Type 0) where
+    damaged : (cut : AnyCut) → Among (all_cuts objects) cut
+        → TellsCut written scratch limits told {G = G} unreadable cut (stops.Scratch runs.Damaged) → (reads : List PartRead)
+        → HoldsObjects written health limits reads objects → ⊥
+    damaged (InPart cut) among tells reads held = tells
+    damaged (InRun cut) among tells reads held =
+        elim (among_either (map InPart objects.cuts.items) (map InRun (cuts_of objects.runs)) (InRun cut) among) [
+          | inl there ↦ not_in_part objects.cuts.items cut there
+          | inr there ↦
+              let its = held.are_runs in
+              let it = run_of its.all (cuts_of objects.runs) its.cut.lists its.cut.are cut there in tells.1 it.0 (its.all, its.told, it.1)
+        ]
+
+    changed : (cut : AnyCut) (part : ℕ) → Among (all_cuts objects) cut
+        → TellsCut written scratch limits told {G = G} unreadable cut (stops.Part part stretches.Changed) → (reads : List PartRead)
+        → HoldsObjects written health limits reads objects → IsSameAt limits told reads part → ⊥
+    changed (InRun cut) part among tells reads held same = tells
+    changed (InPart cut) part among tells reads held same =
+        elim (among_either (map InPart objects.cuts.items) (map InRun (cuts_of objects.runs)) (InPart cut) among) [
+          | inr there ↦ not_in_run (cuts_of objects.runs) cut there
+          | inl there ↦
+              let it = part_of reads objects.cuts.items held.cut.lists held.cut.are cut there in
+              tells.1 it.0 (reads, it.1, subst (IsSameAt limits told reads) tells.0 same)
+        ]
+
+    tells_change : (stop : ObjectStop G) → UnlessOfSink (StopsIn written scratch limits told unreadable (all_cuts objects)) stop
+        → TellsChange written health limits told objects stop
+    tells_change stops.OutOfMemory stopped = tt
+    tells_change (stops.TwoContents key) stopped = tt
+    tells_change (stops.Scratch runs.OutOfMemory) stopped = tt
+    tells_change (stops.Scratch runs.Read) stopped = tt
+    tells_change (stops.Scratch runs.Damaged) stopped = damaged stopped.cut stopped.among stopped.tells
+    tells_change (stops.Part part stretches.OutOfMemory) stopped = tt
+    tells_change (stops.Part part stretches.Read) stopped = tt
+    tells_change (stops.Part part stretches.Changed) stopped = changed stopped.cut part stopped.among stopped.tells
+    tells_change (stops.Sink fault) stopped = tt
+
+    pub agreed_change : {A : Type 0} (result : Result A (ObjectStop G))
+        → IfErr result (UnlessOfSink (StopsIn written scratch limits told unreadable (all_cuts objects)))
+        → IfErr result (TellsChange written health limits told objects)
+    agreed_change (Ok done) stopped = tt
+    agreed_change (Err stop) stopped = tells_change stop stopped
+
+    scratch_read : (cut : AnyCut) (fault : RunFault) → TellsCut written scratch limits told {G = G} unreadable cut (stops.Scratch fault)
+        → IfScratchFails {G = G} (stops.Scratch fault) (unreadable scratch)
+    scratch_read (InPart cut) fault tells = absurd tells
+    scratch_read (InRun cut) fault tells = tells.0
+
+    scratch_fails : (stop : ObjectStop G) → UnlessOfSink (StopsIn written scratch limits told unreadable (all_cuts objects)) stop
+        → IfScratchFails stop (unreadable scratch)
+    scratch_fails stops.OutOfMemory stopped = tt
+    scratch_fails (stops.TwoContents key) stopped = tt
+    scratch_fails (stops.Scratch fault) stopped = scratch_read stopped.cut fault stopped.tells
+    scratch_fails (stops.Part part fault) stopped = tt
+    scratch_fails (stops.Sink fault) stopped = tt
+
+    pub agreed_reads : {A : Type 0} (result : Result A (ObjectStop G))
+        → IfErr result (UnlessOfSink (StopsIn written scratch limits told unreadable (all_cuts objects)))
+        → IfErr result (λ stop. IfScratchFails stop (unreadable scratch))
+    agreed_reads (Ok done) stopped = tt
+    agreed_reads (Err stop) stopped = scratch_fails stop stopped
