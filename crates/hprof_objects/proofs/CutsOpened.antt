@@ -1,11 +1,10 @@
 -- A cut that is opened.
-use Rattle.std.proofs.Common.{◌≡◌, ℕ, List, Option, Some, sym, subst, refl}
-use Rattle.std.specs.Prelude.{⊤}
+use Rattle.std.proofs.Common.{◌≡◌, ℕ, List, Option, sym, subst, refl}
 use Rattle.hprof_devices.specs.declared.health.Health.{Health}
 use Rattle.hprof_stream.specs.declared.limits.Limits.{Limits}
 use Rattle.hprof_merge.specs.Rows.{ByteRow}
 use Rattle.hprof_objects.specs.declared.any_cut.AnyCut.{AnyCut}
-use Rattle.hprof_objects.specs.declared.any_cut.AnyCut.TheVariants.{InPart, InRun}
+use Rattle.hprof_objects.specs.declared.any_cut.AnyCut.TheVariants.{InPart}
 use Rattle.hprof_objects.specs.declared.cut.Cut.{Cut}
 use Rattle.hprof_objects.specs.declared.object_stop.ObjectStop.{ObjectStop}
 use Rattle.hprof_objects.specs.declared.stretch_cursor.StretchCursor.{StretchCursor}

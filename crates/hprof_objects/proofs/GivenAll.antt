@@ -1,23 +1,22 @@
 -- Giving the objects of wanted identifiers, one after another.
-use Rattle.std.proofs.Common.{◌≡◌, ◌<◌, ◌≤◌, ◌+◌, ◌⊎◌, ◌++◌, ℕ, true, false, List, [], ◌∷◌, Option, Some, None, Result, Ok, Err}
+use Rattle.std.proofs.Common.{◌≡◌, ◌<◌, ◌≤◌, ◌+◌, ◌++◌, ℕ, true, false, List, [], ◌∷◌, Option, Some, None, Ok, Err}
 use Rattle.std.proofs.Common.{slice_index_or, inl, inr, refl, sym, ap, subst, ◌∙◌, append_assoc, arith, eqb}
-use Rattle.std.specs.Prelude.{All, ⊤}
+use Rattle.std.specs.Prelude.{All}
 use Rattle.std.proofs.lemmas.Bool.Decides.{eqb_tells}
 use Rattle.hprof_devices.specs.declared.health.Health.{Health}
 use Rattle.hprof_stream.specs.declared.limits.Limits.{Limits}
 use Rattle.hprof_merge.specs.Rows.{ByteRow, Has, IsAscending}
 use Rattle.hprof_merge.specs.Run.{Runs}
-use Rattle.hprof_merge.proofs.Lists.{one_at_key}
 use Rattle.hprof_runs.specs.declared.sorted_rows.SortedRows.{SortedRows}
 use Rattle.hprof_runs.proofs.TwoPieces.{ascends_behind, below_behind, has_back, has_either, has_front}
 use Rattle.hprof_objects.specs.declared.any_cut.AnyCut.{AnyCut}
 use Rattle.hprof_objects.specs.declared.object_stop.ObjectStop.{ObjectStop}
 use Rattle.hprof_objects.specs.declared.object_stop.ObjectStop.TheVariants as stops
 use Rattle.hprof_objects.specs.declared.searched.Searched.{Searched}
-use Rattle.hprof_objects.specs.AnyCuts.{Among, AreApart, CutCursor}
-use Rattle.hprof_objects.specs.Giving.{AreHeld, GivesIf, IsNowhere, IsThere, PicksHeld}
+use Rattle.hprof_objects.specs.AnyCuts.{CutCursor}
+use Rattle.hprof_objects.specs.Giving.{GivesIf, IsNowhere, IsThere, PicksHeld}
 use Rattle.hprof_objects.specs.Picks.{PicksFirst, RefusesAmong}
-use Rattle.hprof_objects.specs.Searched.{ComesBehind, IsReady, KeepsFrom, OpenCanGoOn, StandsOpen}
+use Rattle.hprof_objects.specs.Searched.{IsReady, KeepsFrom, OpenCanGoOn, StandsOpen}
 use Rattle.hprof_objects.specs.SearchedLists.{IsFresh, cuts_in}
 use Rattle.hprof_objects.specs.Wanted.{AreFrom, Rises, is_among, wanted_rows}
 use Rattle.hprof_objects.proofs.GivenOne.{keeps_none, keeps_then}

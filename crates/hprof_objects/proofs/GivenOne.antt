@@ -1,7 +1,7 @@
 -- Giving the object of one identifier.
-use Rattle.std.proofs.Common.{◌≡◌, ◌<◌, ◌≤◌, ◌+◌, ◌⊎◌, ◌++◌, ℕ, zero, suc, Bool, true, false, List, [], ◌∷◌, length, drop, set, get_or}
-use Rattle.std.proofs.Common.{Option, Some, None, Result, Ok, Err, inl, inr, refl, sym, ap, subst, ◌∙◌, arith}
-use Rattle.std.specs.Prelude.{IfErr, OnOk, ⊤}
+use Rattle.std.proofs.Common.{◌≡◌, ◌<◌, ◌≤◌, ◌+◌, ◌⊎◌, ◌++◌, ℕ, zero, suc, List, [], ◌∷◌, length, drop, set, get_or}
+use Rattle.std.proofs.Common.{Option, Some, None, Result, Ok, Err, inl, inr, sym, ap, subst, ◌∙◌, arith}
+use Rattle.std.specs.Prelude.{IfErr, OnOk}
 use Rattle.std.proofs.Math.Seq.{drop-cons}
 use Rattle.std.proofs.lemmas.List.{drop-set-lt}
 use Rattle.hprof_stream.specs.declared.limits.Limits.{Limits}
@@ -11,10 +11,10 @@ use Rattle.hprof_objects.specs.declared.any_cut.AnyCut.TheVariants.{InPart, InRu
 use Rattle.hprof_objects.specs.declared.object_stop.ObjectStop.{ObjectStop}
 use Rattle.hprof_objects.specs.declared.object_stop.ObjectStop.TheVariants as stops
 use Rattle.hprof_objects.specs.declared.searched.Searched.{Searched}
-use Rattle.hprof_objects.specs.AnyCuts.{Among, TellsCut, last_in}
+use Rattle.hprof_objects.specs.AnyCuts.{Among, TellsCut}
 use Rattle.hprof_objects.specs.Giving.{GivesIf, GivesShown, UnlessOfSink}
 use Rattle.hprof_objects.specs.MergedObjects.{UnlessRefused}
-use Rattle.hprof_objects.specs.Searched.{KeepsFrom, LackFor, StopsIn}
+use Rattle.hprof_objects.specs.Searched.{KeepsFrom, StopsIn}
 use Rattle.hprof_objects.specs.SearchedLists.{cuts_in}
 use Rattle.hprof_objects.proofs.LookedUp.{among_back, among_either, among_front}
 

@@ -1,6 +1,6 @@
 -- Going on to a key.
 use Rattle.std.proofs.Common.{◌≡◌, ◌<◌, ℕ, List, [], ◌∷◌, ◌++◌, Option, refl, subst, sym, inl, inr}
-use Rattle.hprof_merge.specs.Rows.{ByteRow, Has}
+use Rattle.hprof_merge.specs.Rows.{ByteRow}
 use Rattle.hprof_merge.specs.Showing.{only}
 use Rattle.hprof_merge.proofs.Lists.{Has-append}
 use Rattle.hprof_merge.proofs.Showing.{only-some, shows_then}

@@ -1,11 +1,10 @@
 -- Picking stored objects, where no identifier has two contents.
-use Rattle.std.proofs.Common.{◌≡◌, ◌⊎◌, ◌++◌, ℕ, zero, suc, List, [], ◌∷◌, length, map, Option, Some, Result, Ok, Err, inl, inr, refl}
-use Rattle.std.proofs.Common.{sym, ap, subst, ◌∙◌}
-use Rattle.std.specs.Prelude.{IfErr, ⊤}
+use Rattle.std.proofs.Common.{◌≡◌, ◌++◌, ℕ, zero, suc, List, [], ◌∷◌, map, Option, Some, Result, Ok, Err, inl, inr, refl}
+use Rattle.std.proofs.Common.{sym, subst}
+use Rattle.std.specs.Prelude.{IfErr}
 use Rattle.hprof_devices.specs.declared.health.Health.{Health}
 use Rattle.hprof_stream.specs.declared.limits.Limits.{Limits}
 use Rattle.hprof_merge.specs.Rows.{ByteRow, Has}
-use Rattle.hprof_merge.specs.TwoContents.{HasTwoContents}
 use Rattle.hprof_merge.specs.Union.{AnyHas, IsUnion, rows_at}
 use Rattle.hprof_merge.proofs.Unions.{back_has, either_has, first_has, front_has, union_apart}
 use Rattle.hprof_runs.specs.declared.run_cut.RunCut.{RunCut}
@@ -13,8 +12,7 @@ use Rattle.hprof_runs.specs.declared.run_fault.RunFault.{RunFault}
 use Rattle.hprof_runs.specs.declared.run_fault.RunFault.TheVariants as runs
 use Rattle.hprof_runs.specs.RowsIn.{sorted_in}
 use Rattle.hprof_runs.specs.RunCuts.{AreRunCuts, IsRunCut, all_rows}
-use Rattle.hprof_runs.specs.RunFault.{IfDamaged}
-use Rattle.hprof_runs.specs.Runs.{cuts_of, scratch_of}
+use Rattle.hprof_runs.specs.Runs.{cuts_of}
 use Rattle.hprof_runs.proofs.TwoPieces.{has_back, has_either, has_front}
 use Rattle.hprof_objects.specs.declared.any_cut.AnyCut.{AnyCut}
 use Rattle.hprof_objects.specs.declared.any_cut.AnyCut.TheVariants.{InPart, InRun}
@@ -22,7 +20,6 @@ use Rattle.hprof_objects.specs.declared.cut.Cut.{Cut}
 use Rattle.hprof_objects.specs.declared.object_stop.ObjectStop.{ObjectStop}
 use Rattle.hprof_objects.specs.declared.object_stop.ObjectStop.TheVariants as stops
 use Rattle.hprof_objects.specs.declared.stored_objects.StoredObjects.{StoredObjects}
-use Rattle.hprof_objects.specs.declared.stretch_fault.StretchFault.{StretchFault}
 use Rattle.hprof_objects.specs.declared.stretch_fault.StretchFault.TheVariants as stretches
 use Rattle.hprof_objects.specs.AnyCuts.{Among, Comes, TellsCut}
 use Rattle.hprof_objects.specs.Cuts.{AreCuts, IsCutOf}
@@ -33,7 +30,6 @@ use Rattle.hprof_objects.specs.Picks.{Picks}
 use Rattle.hprof_objects.specs.ReadAgain.{IsSameAt}
 use Rattle.hprof_objects.specs.Searched.{StopsIn}
 use Rattle.hprof_objects.specs.StoredObjects.{AreToldAgain, HoldsObjects, objects_of, scratch_under}
-use Rattle.hprof_objects.specs.StretchFault.{ByFault}
 use Rattle.hprof_objects.proofs.LookedUp.{among_back, among_either, among_front}
 use Rattle.hprof_objects.proofs.PickedFront.{picks_of}
 

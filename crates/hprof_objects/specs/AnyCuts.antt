@@ -1,11 +1,11 @@
 -- Cuts of stretches and of runs.
-use Rattle.std.specs.Prelude.{◌≡◌, ◌⊎◌, ◌<◌, ◌≤◌, ◌++◌, ℕ, List, [], ◌∷◌, Option, Some, ⊤}
+use Rattle.std.specs.Prelude.{◌≡◌, ◌⊎◌, ◌<◌, ◌≤◌, ℕ, List, [], ◌∷◌, Option, Some, ⊤}
 use Rattle.hprof_devices.specs.declared.health.Health.{Health}
 use Rattle.hprof_stream.specs.declared.limits.Limits.{Limits}
 use Rattle.hprof_merge.specs.declared.one_of.OneOf.{OneOf}
 use Rattle.hprof_merge.specs.declared.one_of.OneOf.TheVariants.{First, Second}
 use Rattle.hprof_merge.specs.OneOf.{holds_either}
-use Rattle.hprof_merge.specs.Rows.{ByteRow, Has}
+use Rattle.hprof_merge.specs.Rows.{ByteRow}
 use Rattle.hprof_runs.specs.declared.run_cursor.RunCursor.{RunCursor}
 use Rattle.hprof_runs.specs.declared.run_fault.RunFault.{RunFault}
 use Rattle.hprof_runs.specs.Known.{comes_either}

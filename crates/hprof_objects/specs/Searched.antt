@@ -8,7 +8,7 @@ use Rattle.hprof_runs.specs.RunCursor.{run_shown}
 use Rattle.hprof_objects.specs.declared.any_cut.AnyCut.{AnyCut}
 use Rattle.hprof_objects.specs.declared.object_stop.ObjectStop.{ObjectStop}
 use Rattle.hprof_objects.specs.declared.searched.Searched.{Searched}
-use Rattle.hprof_objects.specs.AnyCuts.{Among, AreApart, Comes, CutCanGoOn, CutComes, CutCursor, IsOver, TellsCut, first_in, last_in}
+use Rattle.hprof_objects.specs.AnyCuts.{Among, AreApart, Comes, CutCanGoOn, CutComes, CutCursor, IsOver, TellsCut, last_in}
 use Rattle.hprof_objects.specs.StretchCursor.{stretch_shown}
 
 -- the row that is shown, if a cut is open

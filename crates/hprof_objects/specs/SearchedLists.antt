@@ -1,8 +1,8 @@
 -- Lists of cuts in which identifiers are looked up.
-use Rattle.std.specs.Prelude.{◌≡◌, ◌++◌, ℕ, All, List, [], ◌∷◌, None}
+use Rattle.std.specs.Prelude.{◌≡◌, ◌++◌, All, List, [], ◌∷◌, None}
 use Rattle.hprof_objects.specs.declared.any_cut.AnyCut.{AnyCut}
 use Rattle.hprof_objects.specs.declared.searched.Searched.{Searched}
-use Rattle.hprof_objects.specs.AnyCuts.{Among, AreApart}
+use Rattle.hprof_objects.specs.AnyCuts.{AreApart}
 
 -- the cuts of all lists
 abbrev pub cuts_in : {S R : Type 0} → List (Searched S R) → List AnyCut

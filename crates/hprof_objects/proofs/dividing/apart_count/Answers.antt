@@ -1,7 +1,7 @@
 use Rattle.std.proofs.Common.{◌≡◌, ◌+◌, ◌++◌, ◌∷◌, [], ℕ, List, length, take, ap, subst, sym, ◌∙◌, arith}
 use Rattle.std.proofs.lemmas.List.{take_more}
 use Rattle.hprof_objects.specs.declared.any_cut.AnyCut.{AnyCut}
-use Rattle.hprof_objects.specs.AnyCuts.{AreApart, first_in, last_in}
+use Rattle.hprof_objects.specs.AnyCuts.{AreApart}
 use Rattle.hprof_objects.proofs.Apart.{ApartTo, apart_all, apart_first, apart_more}
 use Rattle.hprof_objects.proofs.LookedUp.{first_is}
 use Rattle.hprof_objects.proofs.dividing.apart_count.Goals as goal

@@ -1,8 +1,8 @@
-use Rattle.std.proofs.Common.{◌≡◌, ◌<◌, [], List, length, take, drop, rules, refl, subst, sym, ap, arith}
+use Rattle.std.proofs.Common.{◌<◌, List, length, refl, subst, sym, ap, arith}
 use Rattle.std.proofs.lemmas.Bool.{eqb-false, eqb-true}
 use Rattle.std.proofs.lemmas.List.{length-drop, nil_from_length}
 use Rattle.hprof_objects.specs.declared.any_cut.AnyCut.{AnyCut}
-use Rattle.hprof_objects.proofs.Apart.{DividedSoFar, divided_all, divided_more, divided_none}
+use Rattle.hprof_objects.proofs.Apart.{DividedSoFar, divided_all, divided_more}
 use Rattle.hprof_objects.proofs.dividing.divide.Goals as goal
 
 pub loop-rest-smaller : goal.loop-rest-smaller

@@ -1,4 +1,4 @@
-use Rattle.std.proofs.Common.{inl, inr}
+use Rattle.std.proofs.Common.{inl}
 use Rattle.hprof_runs.specs.RowsIn.{sorted_in}
 use Rattle.hprof_runs.proofs.Picked.{firsts_has}
 use Rattle.hprof_objects.proofs.giving.give_one.Goals as goal

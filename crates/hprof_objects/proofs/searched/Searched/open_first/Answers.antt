@@ -1,4 +1,4 @@
-use Rattle.std.proofs.Common.{rules, sym, refl, ◌≡◌, true, List, Option, Some}
+use Rattle.std.proofs.Common.{rules, ◌≡◌, true}
 use Rattle.std.specs.Option.{is_some}
 use Rattle.hprof_runs.specs.Runs.{scratch_of}
 use Rattle.hprof_objects.proofs.LookedUp.{open_at, opened_at}
