@@ -1,8 +1,8 @@
 -- Lists of which no key has two contents have a union.
-use Rattle.std.proofs.Common.{◌≡◌, ◌<◌, ◌⊎◌, ℕ, suc, List, [], ◌∷◌, Option, inl, inr, refl, sym, ap, subst, ◌∙◌, arith}
-use Rattle.std.specs.Prelude.{◌↔◌}
+use Rattle.std.proofs.Common.{◌≡◌, ◌<◌, ◌⊎◌, ℕ, suc, true, false, List, [], ◌∷◌, Option, Result, Ok, Err, inl, inr, refl, sym, ap, subst, ◌∙◌, arith}
+use Rattle.std.specs.Prelude.{◌↔◌, OnOk}
 use Rattle.std.specs.Str.{bytes_eq}
-use Rattle.std.proofs.lemmas.Bool.{cases_order}
+use Rattle.std.proofs.lemmas.Bool.{cases_Bool, cases_order}
 use Rattle.std.proofs.lemmas.Slice.Eq.{bytes_eq-Decides}
 use Rattle.hprof_devices.specs.declared.health.Health.{Health}
 use Rattle.hprof_merge.specs.Rows.{ByteRow, Has, IsAscending}
@@ -106,7 +106,16 @@ insert_all (one ∷ rows) all up alike =
 -- two contents that are not different are one
 one_content : (lists : List (List ByteRow)) → ((key : ℕ) → HasTwoContents lists key → ⊥) → (key : ℕ) (one other : List ℕ)
     → AnyHas lists (key, one) → AnyHas lists (key, other) → one ≡ other
-one_content lists none key one other has has_other = ?
+one_content lists none key one other has has_other = elim (cases_Bool (bytes_eq one other)) [
+  | inl same ↦ (bytes_eq-Decides one other).0 same
+  | inr differ ↦ absurd (none key (record {
+    one = one;
+    other = other;
+    has_one = has;
+    has_other = has_other;
+    differ = λ e. let same = (bytes_eq-Decides one other).1 e in let never : true ≡ false = sym same ∙ differ in cc;
+  }))
+]
 
 unite : (lists : List (List ByteRow))
     → ((key : ℕ) (one other : List ℕ) → AnyHas lists (key, one) → AnyHas lists (key, other) → one ≡ other)
@@ -144,6 +153,11 @@ module _ {S P : Type 0} (written : S → Option (List ℕ)) (health : S → Heal
   where
     pub united : HaveOneContent written health bytes it → HaveUnion written health bytes it
     united one reads as_read = unite (objects_of reads) (one_content (objects_of reads) (one reads as_read))
+
+    pub united_ok : HaveOneContent written health bytes it → {A E : Type 0} (result : Result A E)
+        → OnOk result (HaveUnion written health bytes it)
+    united_ok one (Ok done) = united one
+    united_ok one (Err stop) = tt
 
     pub apart : HaveUnion written health bytes it → HaveOneContent written health bytes it
     apart union reads as_read key two =

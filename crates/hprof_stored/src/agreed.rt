@@ -4,6 +4,7 @@ ghost use Rattle.hprof_stored.specs.Agreed.{HaveOneContent};
 
 use crate::in_parts::InParts;
 use crate::pass_fault::PassFault;
+use hprof_devices::Target;
 use hprof_heap::Heap;
 use hprof_parts::Parts;
 use hprof_passes::{ObjectSink, Objects, PassStop};
@@ -12,7 +13,7 @@ use std::alloc::Global;
 
 /// The objects of parts, of which no identifier has two contents. Some of them are picked without a pass over all.
 #[derive(Drop)]
-pub struct Agreed<'a, S: Scratch + Drop, P: Parts> {
+pub struct Agreed<'a, S: Target, P: Parts> {
     objects: InParts<'a, S, P>,
     // No identifier has two contents.
     ghost agree: { HaveOneContent S.written S.health P.bytes objects },
