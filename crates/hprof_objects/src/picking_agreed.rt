@@ -21,6 +21,12 @@ use hprof_runs::Scratch;
 use hprof_stream::Limits;
 use std::alloc::Global;
 
+/// The most lists of cuts in which any number of identifiers is looked up.
+const FEW_LISTS: usize = 256;
+
+/// The most identifiers that are looked up in any number of lists of cuts.
+const FEW_WANTED: usize = 4_096;
+
 impl<S: Scratch + Drop> StoredObjects<S> {
     /// Gives a sink those of the objects whose identifiers are wanted, each once, in ascending order of identifier, with the bytes of its
     /// sub-record. The wanted identifiers ascend; one that no object has is passed over. No identifier has two contents.
@@ -28,6 +34,9 @@ impl<S: Scratch + Drop> StoredObjects<S> {
     /// An identifier is looked up among the objects in memory, and then in the cuts of the stretches and of the runs, until one has it. A
     /// cut is read if a wanted identifier is in its range, and once at most. The parts are those that were read, and the limits are those
     /// of the first reading; the reads of a part are counted anew for each cut.
+    ///
+    /// Each identifier may be looked up in each list of cuts that ascend. So all objects are read, as by `pick`, if there are more than 256
+    /// such lists and more than 4096 wanted identifiers: the work does not grow with the product of both.
     ///
     /// # Errors
     ///
@@ -59,6 +68,9 @@ impl<S: Scratch + Drop> StoredObjects<S> {
         let Ok(mut lists) = divide(alloc, &cuts) else {
             return Err(ObjectStop::OutOfMemory);
         };
+        if lists.len() > FEW_LISTS && wanted.len() > FEW_WANTED {
+            return self.pick(alloc, parts, limits, wanted, sink);
+        }
         let reader = CutReader {
             alloc,
             runs: &self.runs,
