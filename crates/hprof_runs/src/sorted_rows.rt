@@ -2,7 +2,7 @@
 
 ghost use Rattle.std.specs.Prelude.{◌≡◌, ◌↔◌, [], ℕ, List, IsTrue, MatchOption};
 ghost use Rattle.hprof_merge.specs.Rows.{Has};
-ghost use Rattle.hprof_runs.specs.Places.{HaveSortedKeys};
+ghost use Rattle.hprof_runs.specs.Places.{HaveSortedKeys, IsPointOf};
 
 use crate::firsts::Firsts;
 use crate::others::Others;
@@ -15,6 +15,14 @@ pub struct SortedRows {
     bytes: Vec<u8>,
     places: Vec<Place>,
     ghost sorted: { HaveSortedKeys places.items },
+}
+
+/// Returns the index of the first place whose key is not below this one, by binary search.
+fn first_from(places: &[Place], key: u64) -> usize
+    requires { HaveSortedKeys places.now }
+    ensures { IsPointOf key places.now result }
+{
+    places.partition_point(|place| place.key < key)
 }
 
 impl SortedRows {
@@ -43,7 +51,7 @@ impl SortedRows {
         ensures { MatchOption result ((bytes : List ℕ) → Has (sorted_in self.now) (key, bytes) → ⊥)
             (λ bytes. Has (firsts_of (sorted_in self.now)) (key, bytes.now)) }
     {
-        let index = self.places.partition_point(|place| place.key < key);
+        let index = first_from(&self.places, key);
         let Some(place) = self.places.get(index) else {
             return None;
         };
