@@ -29,7 +29,8 @@ module _ {S : Type 0} (written : S → Option (List ℕ)) (scratch : S) (limits 
       → TellsCut written scratch limits told unreadable any stop
   part_refuses G unreadable fault stop why refuses =
       subst (λ (c : AnyCut). TellsCut written scratch limits told unreadable c stop) (sym is)
-      (subst (λ (s : ObjectStop G). TellsInPart written scratch limits told (InPart cut) cut.stretch.part s) (sym why) (tells fault refuses))
+      (subst (λ (s : ObjectStop G). TellsInPart written scratch limits told (InPart cut) cut.stretch.part s) (sym why) (tells fault
+      refuses))
     where
       tells : (fault : StretchFault) → RefusesStretch limits told cut.stretch fault
           → TellsInPart written scratch limits told {G = G} (InPart cut) cut.stretch.part (part_stop cut.stretch.part fault)

@@ -23,7 +23,8 @@ use Rattle.hprof_objects.specs.declared.object_stop.ObjectStop.{ObjectStop}
 use Rattle.hprof_objects.specs.declared.searched.Searched.{Searched}
 use Rattle.hprof_objects.specs.declared.stretch_fault.StretchFault.{StretchFault}
 use Rattle.hprof_objects.specs.declared.stretch_fault.StretchFault.TheVariants as stretches
-use Rattle.hprof_objects.specs.AnyCuts.{Among, AreAbove, AreApart, Comes, CutCanGoOn, CutComes, CutCursor, IsOver, TellsCut, first_in, last_in, stop_in}
+use Rattle.hprof_objects.specs.AnyCuts.{Among, AreAbove, AreApart, Comes, CutCanGoOn, CutComes, CutCursor, IsOver}
+use Rattle.hprof_objects.specs.AnyCuts.{TellsCut, first_in, last_in, stop_in}
 use Rattle.hprof_objects.specs.Searched.{BeginFrom, IsOpenAt, IsReady, KeepsFrom, LackFor, OpenCanGoOn, PassesBelow, StandsIn, StandsOpen}
 use Rattle.hprof_objects.specs.Searched.{Finds, StopsIn, cut_shown}
 use Rattle.hprof_objects.specs.Seeking.{FailsBehind, IsFound}
@@ -169,7 +170,8 @@ module _ {S : Type 0} (written : S → Option (List ℕ)) (scratch : S) (limits 
       let it = comes.1 in
       let up = it.is.stands.ascend in
       let first = it.first in (
-        from_first (cut.first, first.0) first.1 (subst (λ (l : List ByteRow). IsAscending l) first.2 up) row (subst (λ (l : List ByteRow). Has l row) first.2 has),
+        from_first (cut.first, first.0) first.1 (subst (λ (l : List ByteRow). IsAscending l) first.2 up) row (subst (λ (l : List
+            ByteRow). Has l row) first.2 has),
         at_most_end rows cut.last it.last up row has,
       )
   comes_within (InRun cut) rows comes row has = comes.2.within row has
@@ -344,7 +346,8 @@ module _ {S R : Type 0} (written : S → Option (List ℕ)) (unreadable : S → 
       cut_refuses G (InRun cut) (First it) next (Second fault) fails over comes = absurd fails
       cut_refuses G (InRun cut) (Second it) next fault fails over comes = absurd over
 
-      pub stops_open : (G : Type 0) (key : ℕ) (old : List AnyCut) (cut : AnyCut) (it new : CutCursor S R) (fault : OneOf RunFault StretchFault)
+      pub stops_open : (G : Type 0) (key : ℕ) (old : List AnyCut) (cut : AnyCut) (it new : CutCursor S R) (fault : OneOf RunFault
+          StretchFault)
           (stop : ObjectStop G) → Among old cut → stop ≡ stop_in cut fault
           → StandsIn written left health pulls scratch limits told cut key it → FailsBehind cut_shown cut_goes cut_fails it fault new
           → StopsIn written scratch limits told unreadable old stop

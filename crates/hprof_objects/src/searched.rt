@@ -4,7 +4,8 @@ ghost use Rattle.std.specs.Prelude.{ℕ, ◌≡◌, ◌∷◌, List, IfOk, OnOk,
 ghost use Rattle.hprof_runs.specs.Runs.{scratch_of};
 ghost use Rattle.hprof_objects.specs.declared.any_cut.AnyCut.{AnyCut};
 ghost use Rattle.hprof_objects.specs.AnyCuts.{TellsCut};
-ghost use Rattle.hprof_objects.specs.Searched.{BeginFrom, Finds, Gives, IsOpenAt, IsReady, KeepsFrom, OpenCanGoOn, PassesBelow, StopsIn, open_shown};
+ghost use Rattle.hprof_objects.specs.Searched.{BeginFrom, Finds, Gives, IsOpenAt, IsReady, KeepsFrom};
+ghost use Rattle.hprof_objects.specs.Searched.{OpenCanGoOn, PassesBelow, StopsIn, open_shown};
 
 use crate::any_cut::AnyCut;
 use crate::cut_reader::{CutCursor, CutReader, cut_stop, open_cut};

@@ -1,5 +1,6 @@
 -- Lists of which no key has two contents have a union.
-use Rattle.std.proofs.Common.{◌≡◌, ◌<◌, ◌⊎◌, ℕ, suc, true, false, List, [], ◌∷◌, Option, Result, Ok, Err, inl, inr, refl, sym, ap, subst, ◌∙◌, arith}
+use Rattle.std.proofs.Common.{◌≡◌, ◌<◌, ◌⊎◌, ℕ, suc, true, false, List, [], ◌∷◌, Option, Result, Ok, Err}
+use Rattle.std.proofs.Common.{inl, inr, refl, sym, ap, subst, ◌∙◌, arith}
 use Rattle.std.specs.Prelude.{◌↔◌, OnOk}
 use Rattle.std.specs.Str.{bytes_eq}
 use Rattle.std.proofs.lemmas.Bool.{cases_Bool, cases_order}
@@ -127,7 +128,8 @@ unite [] alike =
     no_list row place has = has
 unite (rows ∷ lists) alike =
     let rest = unite lists (λ key one other has more. alike key one other (suc has.0, has.1) (suc more.0, more.1)) in
-    let joined = insert_all rows rest.0 rest.1.ascends (λ key one other has more. alike key one other (0, has) (place key other rest.1 more)) in (
+    let joined = insert_all rows rest.0 rest.1.ascends (λ key one other has more. alike key one other (0, has) (place key other rest.1
+    more)) in (
       joined.new,
       record {
         ascends = joined.ascends;

@@ -12,4 +12,5 @@ pub returns-in-Err-clause-tells : goal.returns-in-Err-clause-tells
 returns-in-Err-clause-tells g c =
     let reader = c.args.reader.now in
     part_refuses g.S.Target.written (scratch_of reader.runs.now) reader.limits (g.P.Parts.bytes reader.parts.now) c.args.cut.now
-    c.in-InPart.cut c.in-InPart.is g.row.F.Denot g.S.Scratch.unreadable c.in-Err.fault c.part_stop.result c.part_stop.ensures c.in-Err.ensures.fault
+    c.in-InPart.cut c.in-InPart.is g.row.F.Denot g.S.Scratch.unreadable c.in-Err.fault c.part_stop.result c.part_stop.ensures
+    c.in-Err.ensures.fault

@@ -33,7 +33,8 @@ returns-in-Ok-true-clause-ready g c =
     let is = ap (get_or lists now.index) c.index-lists-index.is in
     let next = c.seek.new.self in
     let lt : now.index < length lists = omega (arith, c.loop-index-test.true, now.auto.lists) in
-    on_ok c.give_shown.result (All-set (IsReady g.S.Target.written g.R.Source.left g.R.Source.health g.R.Source.pulls scratch reader.limits told id) lists now.index next c.in-Ok-true.ensures.ready now.invariant.ready)
+    on_ok c.give_shown.result (All-set (IsReady g.S.Target.written g.R.Source.left g.R.Source.health g.R.Source.pulls scratch
+    reader.limits told id) lists now.index next c.in-Ok-true.ensures.ready now.invariant.ready)
 
 pub returns-in-Ok-true-clause-keeps : goal.returns-in-Ok-true-clause-keeps
 returns-in-Ok-true-clause-keeps g c =
@@ -86,7 +87,8 @@ returns-in-Ok-true-clause-stops g c =
     let next = c.seek.new.self in
     let lt : now.index < length lists = omega (arith, c.loop-index-test.true, now.auto.lists) in
     shown_stops g.T.RowSink.steps g.T.RowSink.refuses (StopsIn g.S.Target.written scratch reader.limits told g.S.Scratch.unreadable
-    (cuts_in c.args.lists.now)) (open_shown (get_or (set lists now.index next) now.index c.index-lists-index-in-Ok-true.result).cursor) c.give_shown.result now.sink
+    (cuts_in c.args.lists.now)) (open_shown (get_or (set lists now.index next) now.index c.index-lists-index-in-Ok-true.result).cursor)
+    c.give_shown.result now.sink
     c.give_shown.new.sink c.give_shown.ensures.gives
 
 pub returns-in-Err-clause-keeps : goal.returns-in-Err-clause-keeps
@@ -113,7 +115,8 @@ returns-in-Err-clause-gives g c =
     let is = ap (get_or lists now.index) c.index-lists-index.is in
     let next = c.seek.new.self in
     let lt : now.index < length lists = omega (arith, c.loop-index-test.true, now.auto.lists) in
-    stopped_gives g.row.T-Fault.Denot g.S.Target.written scratch reader.limits told g.S.Scratch.unreadable (Unit {0}) g.T.RowSink.steps g.T.RowSink.refuses
+    stopped_gives g.row.T-Fault.Denot g.S.Target.written scratch reader.limits told g.S.Scratch.unreadable (Unit {0}) g.T.RowSink.steps
+    g.T.RowSink.refuses
     (LiesIn g.S.Target.written scratch reader.limits told (cuts_in c.args.lists.now))
     (AllLack g.S.Target.written scratch reader.limits told id (cuts_in c.args.lists.now)) id it.cuts.now c.in-Err.stop c.args.sink.now
     now.sink c.in-Err.ensures.stops now.invariant.same
@@ -157,7 +160,8 @@ loop-index-preserved g c =
     let lacks = subst (λ (b : Bool). Finds g.S.Target.written scratch reader.limits told id b it.cuts.now (open_shown next.cursor))
     c.in-Ok-false.field-0-test c.in-Ok-false.ensures.finds in
     record {
-      ready = All-set (IsReady g.S.Target.written g.R.Source.left g.R.Source.health g.R.Source.pulls scratch reader.limits told id) lists now.index next c.in-Ok-false.ensures.ready now.invariant.ready;
+      ready = All-set (IsReady g.S.Target.written g.R.Source.left g.R.Source.health g.R.Source.pulls scratch reader.limits told id) lists
+          now.index next c.in-Ok-false.ensures.ready now.invariant.ready;
       keeps = keeps;
       lacks = λ cut among. elim (now.invariant.lacks cut among) [
         | inl there ↦ elim (among_behind lists now.index it next lt is cut there) [

@@ -101,8 +101,10 @@ loop-id-preserved g c =
       ready = ready_then g.S.Target.written g.R.Source.left g.R.Source.health g.R.Source.pulls scratch reader.limits told id after old
           now.lists are c.give_one.new.lists rises c.in_default-give_one.ensures.ready c.in_default-give_one.ensures.keeps;
       gave = λ all held.
-          let only = λ (row : ByteRow) (there : IsThere g.S.Target.written scratch reader.limits told c.args.rows.now (cuts_in now.lists) row).
-          held.only row (there_before g.S.Target.written scratch reader.limits told c.args.rows.now id (cuts_in old) (cuts_in now.lists) keeps
+          let only = λ (row : ByteRow) (there : IsThere g.S.Target.written scratch reader.limits told c.args.rows.now (cuts_in now.lists)
+          row).
+          held.only row (there_before g.S.Target.written scratch reader.limits told c.args.rows.now id (cuts_in old) (cuts_in now.lists)
+          keeps
           row there) in
           let gave = subst (λ (l : List ℕ). GaveSoFar g.T.RowSink.steps c.args.wanted.now all l c.args.sink.now now.sink) is
           (now.invariant.gave all held) in

@@ -17,4 +17,5 @@ pub returns-in-Ok-clause-open : goal.returns-in-Ok-clause-open
 returns-in-Ok-clause-open g c =
     let reader = c.args.reader.now in
     opened_at g.S.Target.written g.R.Source.left g.R.Source.health g.R.Source.pulls (scratch_of reader.runs.now) reader.limits
-    (g.P.Parts.bytes reader.parts.now) c.args.id c.args.cut.now c.in-Ok.cursor c.in-Ok.ensures.can c.in-Ok.ensures.over c.in-Ok.ensures.comes
+    (g.P.Parts.bytes reader.parts.now) c.args.id c.args.cut.now c.in-Ok.cursor c.in-Ok.ensures.can c.in-Ok.ensures.over
+    c.in-Ok.ensures.comes

@@ -25,7 +25,8 @@ returns-then-first-id-clause-ready g c =
     let told = g.P.Parts.bytes reader.parts.now in
     let old = c.args.self.now in
     let new = c.pass_below.new.self in
-    ready_behind g.S.Target.written g.R.Source.left g.R.Source.health g.R.Source.pulls scratch reader.limits told c.args.id old new c.requires
+    ready_behind g.S.Target.written g.R.Source.left g.R.Source.health g.R.Source.pulls scratch reader.limits told c.args.id old new
+    c.requires
     c.pass_below.ensures.passes
 
 pub returns-then-first-id-clause-keeps : goal.returns-then-first-id-clause-keeps
@@ -40,7 +41,8 @@ returns-then-first-id-clause-finds g c =
     let old = c.args.self.now in
     let new = c.pass_below.new.self in
     let keeps = keeps_passed c.args.id old new c.pass_below.ensures.passes in
-    let ready = ready_behind g.S.Target.written g.R.Source.left g.R.Source.health g.R.Source.pulls scratch reader.limits told c.args.id old new
+    let ready = ready_behind g.S.Target.written g.R.Source.left g.R.Source.health g.R.Source.pulls scratch reader.limits told c.args.id
+    old new
     c.requires c.pass_below.ensures.passes in
     let first = first_is new.cuts.now c.in-Some.cut.now c.in-Some.ensures.value in
     finds_above g.S.Target.written g.S.Scratch.unreadable g.R.Source.left g.R.Source.health g.R.Source.pulls scratch reader.limits told
@@ -54,7 +56,8 @@ open_first-requires-clause-ready g c =
     let told = g.P.Parts.bytes reader.parts.now in
     let old = c.args.self.now in
     let new = c.pass_below.new.self in
-    ready_behind g.S.Target.written g.R.Source.left g.R.Source.health g.R.Source.pulls scratch reader.limits told c.args.id old new c.requires
+    ready_behind g.S.Target.written g.R.Source.left g.R.Source.health g.R.Source.pulls scratch reader.limits told c.args.id old new
+    c.requires
     c.pass_below.ensures.passes
 
 pub returns-in-Err-clause-keeps : goal.returns-in-Err-clause-keeps
@@ -80,13 +83,15 @@ returns-in-Ok-clause-ready g c =
     let told = g.P.Parts.bytes reader.parts.now in
     let old = c.args.self.now in
     let new = c.pass_below.new.self in
-    let ready = ready_behind g.S.Target.written g.R.Source.left g.R.Source.health g.R.Source.pulls scratch reader.limits told c.args.id old new
+    let ready = ready_behind g.S.Target.written g.R.Source.left g.R.Source.health g.R.Source.pulls scratch reader.limits told c.args.id
+    old new
     c.requires c.pass_below.ensures.passes in
     let first = first_is new.cuts.now c.in-Some.cut.now c.in-Some.ensures.value in
     let opened = is_open g.S.Target.written g.R.Source.left g.R.Source.health g.R.Source.pulls scratch reader.limits told c.args.id
     c.in-Some.cut.now c.open_first.new.self.cursor c.in-Some-cursor.cursor c.in_default-open_first.ensures.open c.in-Some-cursor.is in
     let up = c.in-Ok.ensures.shows in
-    let stands = stands_then g.S.Target.written g.S.Scratch.unreadable g.R.Source.left g.R.Source.health g.R.Source.pulls scratch reader.limits told c.args.id
+    let stands = stands_then g.S.Target.written g.S.Scratch.unreadable g.R.Source.left g.R.Source.health g.R.Source.pulls scratch
+    reader.limits told c.args.id
     c.in-Some.cut.now up.passed c.in-Some-cursor.cursor c.go_up_to.new.cursor up.shows up.below opened.1 in
     record {
       apart = subst (λ (l : List AnyCut). AreApart l) (sym c.open_first.ensures.cuts) ready.apart;
@@ -108,13 +113,15 @@ returns-in-Ok-clause-finds g c =
     let old = c.args.self.now in
     let new = c.pass_below.new.self in
     let keeps = keeps_passed c.args.id old new c.pass_below.ensures.passes in
-    let ready = ready_behind g.S.Target.written g.R.Source.left g.R.Source.health g.R.Source.pulls scratch reader.limits told c.args.id old new
+    let ready = ready_behind g.S.Target.written g.R.Source.left g.R.Source.health g.R.Source.pulls scratch reader.limits told c.args.id
+    old new
     c.requires c.pass_below.ensures.passes in
     let first = first_is new.cuts.now c.in-Some.cut.now c.in-Some.ensures.value in
     let opened = is_open g.S.Target.written g.R.Source.left g.R.Source.health g.R.Source.pulls scratch reader.limits told c.args.id
     c.in-Some.cut.now c.open_first.new.self.cursor c.in-Some-cursor.cursor c.in_default-open_first.ensures.open c.in-Some-cursor.is in
     let up = c.in-Ok.ensures.shows in
-    let stands = stands_then g.S.Target.written g.S.Scratch.unreadable g.R.Source.left g.R.Source.health g.R.Source.pulls scratch reader.limits told c.args.id
+    let stands = stands_then g.S.Target.written g.S.Scratch.unreadable g.R.Source.left g.R.Source.health g.R.Source.pulls scratch
+    reader.limits told c.args.id
     c.in-Some.cut.now up.passed c.in-Some-cursor.cursor c.go_up_to.new.cursor up.shows up.below opened.1 in
     finds_open g.S.Target.written g.S.Scratch.unreadable g.R.Source.left g.R.Source.health g.R.Source.pulls scratch reader.limits told
     c.args.id old.cuts.now new.cuts.now keeps c.in-Some.cut.now first.0 first.1 ready.apart c.pass_below.ensures.from c.in-Ok.found
