@@ -12,6 +12,7 @@ pub mod Spelling
 pub mod ScratchFault
 pub mod ScratchWriter
 pub mod RunOf
+pub mod RunCuts
 pub mod Runs
 pub mod RunFault
 pub mod RunBytes

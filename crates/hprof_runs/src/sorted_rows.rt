@@ -1,12 +1,13 @@
 //! Rows sorted by key.
 
-ghost use Rattle.std.specs.Prelude.{◌≡◌, ◌↔◌, [], IsTrue};
-ghost use Rattle.hprof_runs.specs.Places.{HaveSortedKeys, rows_lying};
+ghost use Rattle.std.specs.Prelude.{◌≡◌, ◌↔◌, [], ℕ, List, IsTrue, MatchOption};
+ghost use Rattle.hprof_merge.specs.Rows.{Has};
+ghost use Rattle.hprof_runs.specs.Places.{HaveSortedKeys, IsPointOf, rows_lying};
 ghost use Rattle.hprof_runs.specs.Spelling.{AllFit, AllFit-prop};
 
 use crate::firsts::Firsts;
 use crate::others::Others;
-use crate::place::Place;
+use crate::place::{Place, bytes_at};
 use crate::rows::Rows;
 
 /// Rows sorted by key, several of which may have one key.
@@ -16,6 +17,14 @@ pub struct SortedRows {
     places: Vec<Place>,
     ghost sorted: { HaveSortedKeys places.items },
     ghost fit: { AllFit (rows_lying bytes.items places.items) } by { AllFit-prop (rows_lying bytes.items places.items) },
+}
+
+/// Returns the index of the first place whose key is not below this one, by binary search.
+fn first_from(places: &[Place], key: u64) -> usize
+    requires { HaveSortedKeys places.now }
+    ensures { IsPointOf key places.now result }
+{
+    places.partition_point(|place| place.key < key)
 }
 
 impl SortedRows {
@@ -37,6 +46,21 @@ impl SortedRows {
         ensures { IsTrue result ↔ (sorted_in self.now ≡ []) }
     {
         self.places.is_empty()
+    }
+
+    /// Returns the bytes of the first row with a key, by binary search.
+    pub fn find(&self, key: u64) -> Option<&[u8]>
+        ensures { MatchOption result ((bytes : List ℕ) → Has (sorted_in self.now) (key, bytes) → ⊥)
+            (λ bytes. Has (firsts_of (sorted_in self.now)) (key, bytes.now)) }
+    {
+        let index = first_from(&self.places, key);
+        let Some(place) = self.places.get(index) else {
+            return None;
+        };
+        if place.key != key {
+            return None;
+        }
+        Some(bytes_at(&self.bytes, *place))
     }
 
     /// Returns a cursor over the first row of each key.
