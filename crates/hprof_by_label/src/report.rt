@@ -11,6 +11,7 @@ ghost use Rattle.hprof_passes.specs.Finding.{Finds};
 ghost use Rattle.hprof_naming.specs.ClassNames.{AreClassNames};
 ghost use Rattle.hprof_lines.specs.Passed.{EndsPassed};
 ghost use Rattle.hprof_lines.specs.Stopping.{LeavesTarget, WritesText};
+ghost use Rattle.hprof_retained.specs.KeptReferences.{AreKeptReferences};
 ghost use Rattle.hprof_retained.specs.Tree.{IsTreeOf, count_of};
 ghost use Rattle.hprof_by_label.specs.Labels.{AreNodeLabels, HaveSizes, place_count};
 ghost use Rattle.hprof_by_label.specs.RetainedText.{IsRetainedText, row_line};
@@ -26,8 +27,7 @@ use hprof_heap::{Heap, holds_of_heap};
 use hprof_lines::{stop_of_pass, write_line};
 use hprof_naming::ClassNames;
 use hprof_passes::{Objects, PassStop};
-use hprof_retained::{Retained, retained_over};
-use hprof_weak::weak_fields_over;
+use hprof_retained::{KeptReferences, Retained};
 use std::alloc::{AllocError, Global};
 
 /// Returns the line of a row. If memory runs out, the answer is `AllocError`.
@@ -104,22 +104,23 @@ fn labelled_tree<O: Objects>(
     alloc: Global,
     heap: &Heap,
     objects: &O,
+    references: &mut KeptReferences,
 ) -> Result<LabelledTree, PassStop<AllocError, O::Fault>>
+    requires references { AreKeptReferences (O.make_up objects.now (size_of heap.now) (facts_of heap.now))
+        (O.agree objects.now (size_of heap.now) (facts_of heap.now)) (size_of heap.now) references.old }
     ensures as_many { IfOk result (λ made. place_count made.labels ≡ count_of made.retained) }
     ensures made { Finds (O.make_up objects.now (size_of heap.now) (facts_of heap.now))
         (O.agree objects.now (size_of heap.now) (facts_of heap.now))
         (O.tells objects.now (size_of heap.now) (facts_of heap.now))
         (λ all made. IsTreeOf (size_of heap.now) all made.retained × AreNodeLabels all made.retained made.labels
         × HaveSizes (size_of heap.now) all made.retained made.labels) result }
+    ensures references { AreKeptReferences (O.make_up objects.now (size_of heap.now) (facts_of heap.now))
+        (O.agree objects.now (size_of heap.now) (facts_of heap.now)) (size_of heap.now) references.new }
 {
     let Ok(names) = ClassNames::of(alloc, heap) else {
         return Err(PassStop::Sink(AllocError));
     };
-    let weak = match weak_fields_over(alloc, heap, objects) {
-        Ok(weak) => weak,
-        Err(stop) => return Err(stop),
-    };
-    let retained = match retained_over(alloc, heap, objects, &weak) {
+    let retained = match references.take_retained(alloc, heap, objects) {
         Ok(retained) => retained,
         Err(stop) => return Err(stop),
     };
@@ -143,18 +144,25 @@ pub fn write_retained_over<O: Objects, W: Target>(
     alloc: Global,
     heap: &Heap,
     objects: &O,
+    references: &mut KeptReferences,
     target: &mut W,
 ) -> Result<(), PassStop<WriteStop, O::Fault>>
-    requires { W.health target.old ≡ Well }
-    ensures { EndsPassed (O.make_up objects.now (size_of heap.now) (facts_of heap.now))
+    requires references { AreKeptReferences (O.make_up objects.now (size_of heap.now) (facts_of heap.now))
+        (O.agree objects.now (size_of heap.now) (facts_of heap.now)) (size_of heap.now) references.old }
+    requires well { W.health target.old ≡ Well }
+    ensures ends { EndsPassed (O.make_up objects.now (size_of heap.now) (facts_of heap.now))
         (O.agree objects.now (size_of heap.now) (facts_of heap.now)) (O.tells objects.now (size_of heap.now) (facts_of heap.now))
         (IsRetainedText (size_of heap.now)) W.written W.health target.old target.new result }
+    ensures references { AreKeptReferences (O.make_up objects.now (size_of heap.now) (facts_of heap.now))
+        (O.agree objects.now (size_of heap.now) (facts_of heap.now)) (size_of heap.now) references.new }
 {
-    let LabelledTree { retained, labels } = match labelled_tree(alloc, heap, objects) {
+    let LabelledTree { retained, labels } = match labelled_tree(alloc, heap, objects, references) {
         Ok(made) => made,
         Err(stop) => return Err(stop_of_pass(stop)),
     };
-    match write_labels(alloc, &retained, &labels, target) {
+    let outcome = write_labels(alloc, &retained, &labels, target);
+    references.keep_retained(retained);
+    match outcome {
         Ok(()) => Ok(()),
         Err(stop) => Err(PassStop::Sink(stop)),
     }

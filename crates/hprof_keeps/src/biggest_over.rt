@@ -1,10 +1,12 @@
 //! The report `biggest` by passes over objects.
 
-ghost use Rattle.std.specs.Prelude.{◌≡◌, IfOk};
+ghost use Rattle.std.specs.Prelude.{◌≡◌, List, IfOk};
+ghost use Rattle.hprof_items.specs.FactValue.{FactValue};
 ghost use Rattle.hprof_devices.specs.declared.health.Health.TheVariants.{Well};
 ghost use Rattle.hprof_heap.specs.HeapFacts.{facts_of, size_of};
 ghost use Rattle.hprof_passes.specs.Finding.{Finds};
 ghost use Rattle.hprof_lines.specs.Passed.{EndsPassed};
+ghost use Rattle.hprof_retained.specs.KeptReferences.{AreKeptReferences};
 ghost use Rattle.hprof_lines.specs.Stopping.{LeavesTarget, WritesText};
 ghost use Rattle.hprof_describe.specs.Findings.{AreFindings, Findings};
 ghost use Rattle.hprof_keeps.specs.BiggestText.{IsBiggestText};
@@ -13,6 +15,7 @@ ghost use Rattle.hprof_keeps.specs.Kept.{ArePlaces, nodes_at};
 ghost use Rattle.hprof_keeps.specs.KeepsText.{above_lines};
 ghost use Rattle.hprof_keeps.specs.Order.{retained_in};
 ghost use Rattle.hprof_keeps.specs.PlaceTaken.{IsChosenTree};
+ghost use Rattle.hprof_keeps.specs.declared.choice.Choice.{Choice};
 
 use crate::choice::Choice;
 use crate::chosen_over::chosen_over;
@@ -24,8 +27,7 @@ use hprof_heap::Heap;
 use hprof_lines::stop_of_pass;
 use hprof_naming::ClassNames;
 use hprof_passes::{Objects, PassStop};
-use hprof_retained::{Retained, retained_over};
-use hprof_weak::weak_fields_over;
+use hprof_retained::{KeptReferences, Retained};
 use std::alloc::{AllocError, Global};
 
 /// A tree of dominators, and places in it.
@@ -39,24 +41,25 @@ pub(crate) struct ChosenTree {
 ///
 /// # Errors
 ///
-/// Those of `weak_fields_over`, `retained_over` and `chosen_over`.
+/// Those of `take_retained` and `chosen_over`.
 fn chosen_tree<O: Objects>(
     alloc: Global,
     heap: &Heap,
     objects: &O,
+    references: &mut KeptReferences,
     choice: Choice<'_>,
 ) -> Result<ChosenTree, PassStop<AllocError, O::Fault>>
-    requires { ClassesAscend choice }
+    requires references { AreKeptReferences (O.make_up objects.now (size_of heap.now) (facts_of heap.now))
+        (O.agree objects.now (size_of heap.now) (facts_of heap.now)) (size_of heap.now) references.old }
+    requires ascend { ClassesAscend choice }
     ensures places { IfOk result (λ made. ArePlaces made.retained made.places.items) }
     ensures made { Finds (O.make_up objects.now (size_of heap.now) (facts_of heap.now))
         (O.agree objects.now (size_of heap.now) (facts_of heap.now)) (O.tells objects.now (size_of heap.now) (facts_of heap.now))
         (λ all. IsChosenTree (size_of heap.now) all choice.entry) result }
+    ensures references { AreKeptReferences (O.make_up objects.now (size_of heap.now) (facts_of heap.now))
+        (O.agree objects.now (size_of heap.now) (facts_of heap.now)) (size_of heap.now) references.new }
 {
-    let weak = match weak_fields_over(alloc, heap, objects) {
-        Ok(weak) => weak,
-        Err(stop) => return Err(stop),
-    };
-    let retained = match retained_over(alloc, heap, objects, &weak) {
+    let retained = match references.take_retained(alloc, heap, objects) {
         Ok(retained) => retained,
         Err(stop) => return Err(stop),
     };
@@ -86,9 +89,40 @@ fn write_in_memory<W: Target>(
     write_nodes(alloc, heap, &classes, retained, "", places, target)
 }
 
+/// Writes the nodes of a choice from a tree of dominators.
+///
+/// # Errors
+///
+/// Those of [`write_biggest_over`].
+fn write_from_tree<O: Objects, W: Target>(
+    alloc: Global,
+    heap: &Heap,
+    objects: &O,
+    made: &ChosenTree,
+    target: &mut W,
+) -> Result<(), PassStop<WriteStop, O::Fault>>
+    requires agree { O.agree objects.now (size_of heap.now) (facts_of heap.now) }
+    requires places { ArePlaces made.now.retained made.now.places.items }
+    requires well { W.health target.old ≡ Well }
+    ensures { (choice : Choice) → ((all : List FactValue) → O.make_up objects.now (size_of heap.now) (facts_of heap.now) all
+        → IsChosenTree (size_of heap.now) all choice made.now)
+        → EndsPassed (O.make_up objects.now (size_of heap.now) (facts_of heap.now))
+        (O.agree objects.now (size_of heap.now) (facts_of heap.now)) (O.tells objects.now (size_of heap.now) (facts_of heap.now))
+        (λ all. IsBiggestText (size_of heap.now) all (IsChosen all choice)) W.written W.health target.old target.new result }
+{
+    let small = match named_heap(alloc, heap, objects, &made.retained, &made.places, &[]) {
+        Ok(small) => small,
+        Err(stop) => return Err(stop_of_pass(stop)),
+    };
+    match write_in_memory(alloc, &small, &made.retained, &made.places, target) {
+        Ok(()) => Ok(()),
+        Err(stop) => Err(PassStop::Sink(stop)),
+    }
+}
+
 /// Writes the report `biggest` on a choice of classes and objects, as [`write_biggest`](crate::write_biggest) does. The heap has all facts
-/// but the objects, which are gone through four or five times; then some are picked, one to four times. Memory holds the tree of
-/// dominators, and of the objects first those of all classes if the choice has class dumps, and then only these:
+/// but the objects, which are gone through four or five times if nothing is kept; then some are picked, one to four times. Memory holds
+/// the tree of dominators, and of the objects first those of all classes if the choice has class dumps, and then only these:
 ///
 /// - those of the choice that strong references reach;
 /// - those that the texts of strings and the names of threads among them are read from.
@@ -101,25 +135,26 @@ pub fn write_biggest_over<O: Objects, W: Target>(
     alloc: Global,
     heap: &Heap,
     objects: &O,
+    references: &mut KeptReferences,
     choice: Choice<'_>,
     target: &mut W,
 ) -> Result<(), PassStop<WriteStop, O::Fault>>
+    requires references { AreKeptReferences (O.make_up objects.now (size_of heap.now) (facts_of heap.now))
+        (O.agree objects.now (size_of heap.now) (facts_of heap.now)) (size_of heap.now) references.old }
     requires ascend { ClassesAscend choice }
     requires well { W.health target.old ≡ Well }
-    ensures { EndsPassed (O.make_up objects.now (size_of heap.now) (facts_of heap.now))
+    ensures ends { EndsPassed (O.make_up objects.now (size_of heap.now) (facts_of heap.now))
         (O.agree objects.now (size_of heap.now) (facts_of heap.now)) (O.tells objects.now (size_of heap.now) (facts_of heap.now))
         (λ all. IsBiggestText (size_of heap.now) all (IsChosen all choice.entry)) W.written W.health target.old target.new result }
+    ensures references { AreKeptReferences (O.make_up objects.now (size_of heap.now) (facts_of heap.now))
+        (O.agree objects.now (size_of heap.now) (facts_of heap.now)) (size_of heap.now) references.new }
 {
-    let ChosenTree { retained, places } = match chosen_tree(alloc, heap, objects, choice) {
+    let made = match chosen_tree(alloc, heap, objects, references, choice) {
         Ok(made) => made,
         Err(stop) => return Err(stop_of_pass(stop)),
     };
-    let small = match named_heap(alloc, heap, objects, &retained, &places, &[]) {
-        Ok(small) => small,
-        Err(stop) => return Err(stop_of_pass(stop)),
-    };
-    match write_in_memory(alloc, &small, &retained, &places, target) {
-        Ok(()) => Ok(()),
-        Err(stop) => Err(PassStop::Sink(stop)),
-    }
+    let outcome = write_from_tree(alloc, heap, objects, &made, target);
+    let ChosenTree { retained, .. } = made;
+    references.keep_retained(retained);
+    outcome
 }

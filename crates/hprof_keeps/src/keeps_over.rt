@@ -1,12 +1,14 @@
 //! The report `keeps` by passes over objects.
 
-ghost use Rattle.std.specs.Prelude.{◌≡◌};
+ghost use Rattle.std.specs.Prelude.{◌≡◌, List};
+ghost use Rattle.hprof_items.specs.FactValue.{FactValue};
 ghost use Rattle.hprof_devices.specs.declared.health.Health.TheVariants.{Well};
 ghost use Rattle.hprof_heap.specs.HeapFacts.{facts_of, size_of};
 ghost use Rattle.hprof_lines.specs.Passed.{EndsPassed};
 ghost use Rattle.hprof_lines.specs.Stopping.{LeavesTarget, WritesText};
+ghost use Rattle.hprof_retained.specs.KeptReferences.{AreKeptReferences};
 ghost use Rattle.hprof_describe.specs.Findings.{AreFindings, Findings};
-ghost use Rattle.hprof_keeps.specs.Kept.{HasPlaces, above_places, below_places, kept_text};
+ghost use Rattle.hprof_keeps.specs.Kept.{HasPlaces, IsKeptTree, above_places, below_places, kept_text};
 ghost use Rattle.hprof_keeps.specs.KeepsText.{IsKeepsText};
 
 use crate::keeps::write_kept;
@@ -19,7 +21,7 @@ use hprof_heap::Heap;
 use hprof_lines::stop_of_pass;
 use hprof_naming::ClassNames;
 use hprof_passes::{Objects, PassStop};
-use hprof_retained::Retained;
+use hprof_retained::{KeptReferences, Retained};
 use std::alloc::Global;
 
 /// Returns the places of the dominators that the report names.
@@ -61,9 +63,48 @@ fn write_in_memory<W: Target>(
     write_kept(alloc, heap, &classes, retained, id, kept, target)
 }
 
+/// Writes what is told of an identifier from a tree of dominators.
+///
+/// # Errors
+///
+/// Those of [`write_keeps_over`].
+fn write_from_tree<O: Objects, W: Target>(
+    alloc: Global,
+    heap: &Heap,
+    objects: &O,
+    made: &KeptTree,
+    id: u64,
+    target: &mut W,
+) -> Result<(), PassStop<WriteStop, O::Fault>>
+    requires agree { O.agree objects.now (size_of heap.now) (facts_of heap.now) }
+    requires made { (all : List FactValue) → O.make_up objects.now (size_of heap.now) (facts_of heap.now) all
+        → IsKeptTree (size_of heap.now) all id made.now }
+    requires places { HasPlaces made.now.retained made.now.kept }
+    requires well { W.health target.old ≡ Well }
+    ensures { EndsPassed (O.make_up objects.now (size_of heap.now) (facts_of heap.now))
+        (O.agree objects.now (size_of heap.now) (facts_of heap.now)) (O.tells objects.now (size_of heap.now) (facts_of heap.now))
+        (λ all. IsKeepsText (size_of heap.now) all id) W.written W.health target.old target.new result }
+{
+    let small = match named_heap(
+        alloc,
+        heap,
+        objects,
+        &made.retained,
+        above_of(&made.kept),
+        below_of(&made.kept),
+    ) {
+        Ok(small) => small,
+        Err(stop) => return Err(stop_of_pass(stop)),
+    };
+    match write_in_memory(alloc, &small, &made.retained, id, &made.kept, target) {
+        Ok(()) => Ok(()),
+        Err(stop) => Err(PassStop::Sink(stop)),
+    }
+}
+
 /// Writes the report `keeps` on an identifier, as [`write_keeps`](crate::write_keeps) does. The heap has all facts but the objects, which
-/// are gone through three to seven times, and of which some are picked, one to four times. Memory holds the tree of dominators, and a
-/// search if strong references do not reach the identifier or it is 0. Of the objects it then holds only these:
+/// are gone through three to seven times if nothing is kept, and of which some are picked, one to four times. Memory holds the tree of
+/// dominators, and a search if strong references do not reach the identifier or it is 0. Of the objects it then holds only these:
 ///
 /// - the dominators of the identifier, and those right below it;
 /// - those that the texts of strings and the names of threads among them are read from.
@@ -76,31 +117,25 @@ pub fn write_keeps_over<O: Objects, W: Target>(
     alloc: Global,
     heap: &Heap,
     objects: &O,
+    references: &mut KeptReferences,
     id: u64,
     target: &mut W,
 ) -> Result<(), PassStop<WriteStop, O::Fault>>
-    requires { W.health target.old ≡ Well }
-    ensures { EndsPassed (O.make_up objects.now (size_of heap.now) (facts_of heap.now))
+    requires references { AreKeptReferences (O.make_up objects.now (size_of heap.now) (facts_of heap.now))
+        (O.agree objects.now (size_of heap.now) (facts_of heap.now)) (size_of heap.now) references.old }
+    requires well { W.health target.old ≡ Well }
+    ensures ends { EndsPassed (O.make_up objects.now (size_of heap.now) (facts_of heap.now))
         (O.agree objects.now (size_of heap.now) (facts_of heap.now)) (O.tells objects.now (size_of heap.now) (facts_of heap.now))
         (λ all. IsKeepsText (size_of heap.now) all id) W.written W.health target.old target.new result }
+    ensures references { AreKeptReferences (O.make_up objects.now (size_of heap.now) (facts_of heap.now))
+        (O.agree objects.now (size_of heap.now) (facts_of heap.now)) (size_of heap.now) references.new }
 {
-    let KeptTree { retained, kept } = match kept_tree(alloc, heap, objects, id) {
+    let made = match kept_tree(alloc, heap, objects, references, id) {
         Ok(made) => made,
         Err(stop) => return Err(stop_of_pass(stop)),
     };
-    let small = match named_heap(
-        alloc,
-        heap,
-        objects,
-        &retained,
-        above_of(&kept),
-        below_of(&kept),
-    ) {
-        Ok(small) => small,
-        Err(stop) => return Err(stop_of_pass(stop)),
-    };
-    match write_in_memory(alloc, &small, &retained, id, &kept, target) {
-        Ok(()) => Ok(()),
-        Err(stop) => Err(PassStop::Sink(stop)),
-    }
+    let outcome = write_from_tree(alloc, heap, objects, &made, id, target);
+    let KeptTree { retained, .. } = made;
+    references.keep_retained(retained);
+    outcome
 }

@@ -7,6 +7,7 @@ ghost use Rattle.hprof_heap.specs.HeapFacts.{facts_of, size_of};
 ghost use Rattle.hprof_dominators.specs.Dominating.{IsReached};
 ghost use Rattle.hprof_passes.specs.Finding.{Finds};
 ghost use Rattle.hprof_reach.specs.Reaching.{IsDumped, IsStart, IsStepBy};
+ghost use Rattle.hprof_retained.specs.KeptReferences.{AreKeptReferences};
 ghost use Rattle.hprof_retained.specs.Retained.{IsHeld};
 ghost use Rattle.hprof_retained.specs.Tree.{IsTreeOf};
 ghost use Rattle.hprof_retained.specs.declared.retained.Retained.{Retained};
@@ -14,13 +15,10 @@ ghost use Rattle.hprof_keeps.specs.Kept.{HasPlaces, IsKept, IsKeptTree};
 
 use crate::kept::{Kept, KeptTree, held_kept, is_dumped, roots_kept};
 use crate::weakly::sum_in;
-use hprof_edges::LeftOut;
 use hprof_heap::Heap;
 use hprof_passes::{Objects, PassStop};
-use hprof_reach::reach_over;
-use hprof_retained::{Retained, retained_over, weakly_held_over};
+use hprof_retained::{KeptReferences, Retained, weakly_held_over};
 use hprof_small::small_heap;
-use hprof_weak::weak_fields_over;
 use std::alloc::{AllocError, Global};
 
 /// Returns whether an identifier has a class dump or an object dump, among the facts that objects make up with a heap.
@@ -53,16 +51,24 @@ fn is_reached_over<O: Objects>(
     alloc: Global,
     heap: &Heap,
     objects: &O,
+    references: &mut KeptReferences,
     id: u64,
 ) -> Result<bool, PassStop<AllocError, O::Fault>>
-    ensures { Finds (O.make_up objects.now (size_of heap.now) (facts_of heap.now))
+    requires references { AreKeptReferences (O.make_up objects.now (size_of heap.now) (facts_of heap.now))
+        (O.agree objects.now (size_of heap.now) (facts_of heap.now)) (size_of heap.now) references.old }
+    ensures told { Finds (O.make_up objects.now (size_of heap.now) (facts_of heap.now))
         (O.agree objects.now (size_of heap.now) (facts_of heap.now)) (O.tells objects.now (size_of heap.now) (facts_of heap.now))
         (λ all told. IsTrue told ↔ IsReached (IsStart all) (IsStepBy AnyEdge (size_of heap.now) all) id) result }
+    ensures references { AreKeptReferences (O.make_up objects.now (size_of heap.now) (facts_of heap.now))
+        (O.agree objects.now (size_of heap.now) (facts_of heap.now)) (size_of heap.now) references.new }
 {
-    match reach_over(alloc, heap, objects, &LeftOut::none(alloc)) {
-        Ok(reach) => Ok(reach.is_reached(id)),
-        Err(stop) => Err(stop),
-    }
+    let reach = match references.take_all(alloc, heap, objects) {
+        Ok(reach) => reach,
+        Err(stop) => return Err(stop),
+    };
+    let is_reached = reach.is_reached(id);
+    references.keep_all(reach);
+    Ok(is_reached)
 }
 
 /// Returns what is told of an identifier other than 0 that strong references do not reach.
@@ -74,8 +80,11 @@ fn otherwise_over<O: Objects>(
     alloc: Global,
     heap: &Heap,
     objects: &O,
+    references: &mut KeptReferences,
     id: u64,
 ) -> Result<Kept, PassStop<AllocError, O::Fault>>
+    requires references { AreKeptReferences (O.make_up objects.now (size_of heap.now) (facts_of heap.now))
+        (O.agree objects.now (size_of heap.now) (facts_of heap.now)) (size_of heap.now) references.old }
     requires some { id ≢ 0 }
     requires not_held { (all : List FactValue) → O.make_up objects.now (size_of heap.now) (facts_of heap.now) all
         → ¬ (IsHeld (size_of heap.now) all id) }
@@ -83,13 +92,15 @@ fn otherwise_over<O: Objects>(
         (O.agree objects.now (size_of heap.now) (facts_of heap.now)) (O.tells objects.now (size_of heap.now) (facts_of heap.now))
         (λ all kept. (retained : Retained) → IsKept (size_of heap.now) all retained id kept) result }
     ensures places { IfOk result (λ kept. (retained : Retained) → HasPlaces retained kept) }
+    ensures references { AreKeptReferences (O.make_up objects.now (size_of heap.now) (facts_of heap.now))
+        (O.agree objects.now (size_of heap.now) (facts_of heap.now)) (size_of heap.now) references.new }
 {
     match is_dumped_over(alloc, heap, objects, id) {
         Ok(true) => {}
         Ok(false) => return Ok(Kept::Nothing),
         Err(stop) => return Err(stop),
     }
-    match is_reached_over(alloc, heap, objects, id) {
+    match is_reached_over(alloc, heap, objects, references, id) {
         Ok(true) => Ok(Kept::Weakly),
         Ok(false) => Ok(Kept::Nowise),
         Err(stop) => Err(stop),
@@ -105,16 +116,21 @@ fn roots_over<O: Objects>(
     alloc: Global,
     heap: &Heap,
     objects: &O,
+    references: &mut KeptReferences,
     retained: &Retained,
 ) -> Result<Kept, PassStop<AllocError, O::Fault>>
-    requires { (all : List FactValue) → O.make_up objects.now (size_of heap.now) (facts_of heap.now) all
+    requires references { AreKeptReferences (O.make_up objects.now (size_of heap.now) (facts_of heap.now))
+        (O.agree objects.now (size_of heap.now) (facts_of heap.now)) (size_of heap.now) references.old }
+    requires tree { (all : List FactValue) → O.make_up objects.now (size_of heap.now) (facts_of heap.now) all
         → IsTreeOf (size_of heap.now) all retained.now }
     ensures kept { Finds (O.make_up objects.now (size_of heap.now) (facts_of heap.now))
         (O.agree objects.now (size_of heap.now) (facts_of heap.now)) (O.tells objects.now (size_of heap.now) (facts_of heap.now))
         (λ all. IsKept (size_of heap.now) all retained.now 0) result }
     ensures places { IfOk result (HasPlaces retained.now) }
+    ensures references { AreKeptReferences (O.make_up objects.now (size_of heap.now) (facts_of heap.now))
+        (O.agree objects.now (size_of heap.now) (facts_of heap.now)) (size_of heap.now) references.new }
 {
-    let weakly = match weakly_held_over(alloc, heap, objects, retained) {
+    let weakly = match weakly_held_over(alloc, heap, objects, references, retained) {
         Ok(weakly) => weakly,
         Err(stop) => return Err(stop),
     };
@@ -133,9 +149,12 @@ fn kept_in<O: Objects>(
     alloc: Global,
     heap: &Heap,
     objects: &O,
+    references: &mut KeptReferences,
     retained: &Retained,
     id: u64,
 ) -> Result<Kept, PassStop<AllocError, O::Fault>>
+    requires references { AreKeptReferences (O.make_up objects.now (size_of heap.now) (facts_of heap.now))
+        (O.agree objects.now (size_of heap.now) (facts_of heap.now)) (size_of heap.now) references.old }
     requires agree { O.agree objects.now (size_of heap.now) (facts_of heap.now) }
     requires tree { (all : List FactValue) → O.make_up objects.now (size_of heap.now) (facts_of heap.now) all
         → IsTreeOf (size_of heap.now) all retained.now }
@@ -143,13 +162,15 @@ fn kept_in<O: Objects>(
         (O.agree objects.now (size_of heap.now) (facts_of heap.now)) (O.tells objects.now (size_of heap.now) (facts_of heap.now))
         (λ all. IsKept (size_of heap.now) all retained.now id) result }
     ensures places { IfOk result (HasPlaces retained.now) }
+    ensures references { AreKeptReferences (O.make_up objects.now (size_of heap.now) (facts_of heap.now))
+        (O.agree objects.now (size_of heap.now) (facts_of heap.now)) (size_of heap.now) references.new }
 {
     if id == 0 {
-        return roots_over(alloc, heap, objects, retained);
+        return roots_over(alloc, heap, objects, references, retained);
     }
     let place = retained.place(id);
     if place == 0 {
-        return otherwise_over(alloc, heap, objects, id);
+        return otherwise_over(alloc, heap, objects, references, id);
     }
     match held_kept(alloc, retained, place) {
         Ok(kept) => Ok(kept),
@@ -162,27 +183,28 @@ fn kept_in<O: Objects>(
 ///
 /// # Errors
 ///
-/// Those of `weak_fields_over`, `retained_over`, `weakly_held_over`, `small_heap` and `reach_over`.
+/// Those of `take_retained`, `weakly_held_over`, `small_heap` and `reach_over`.
 pub(crate) fn kept_tree<O: Objects>(
     alloc: Global,
     heap: &Heap,
     objects: &O,
+    references: &mut KeptReferences,
     id: u64,
 ) -> Result<KeptTree, PassStop<AllocError, O::Fault>>
+    requires references { AreKeptReferences (O.make_up objects.now (size_of heap.now) (facts_of heap.now))
+        (O.agree objects.now (size_of heap.now) (facts_of heap.now)) (size_of heap.now) references.old }
     ensures made { Finds (O.make_up objects.now (size_of heap.now) (facts_of heap.now))
         (O.agree objects.now (size_of heap.now) (facts_of heap.now)) (O.tells objects.now (size_of heap.now) (facts_of heap.now))
         (λ all. IsKeptTree (size_of heap.now) all id) result }
     ensures places { IfOk result (λ made. HasPlaces made.retained made.kept) }
+    ensures references { AreKeptReferences (O.make_up objects.now (size_of heap.now) (facts_of heap.now))
+        (O.agree objects.now (size_of heap.now) (facts_of heap.now)) (size_of heap.now) references.new }
 {
-    let weak = match weak_fields_over(alloc, heap, objects) {
-        Ok(weak) => weak,
-        Err(stop) => return Err(stop),
-    };
-    let retained = match retained_over(alloc, heap, objects, &weak) {
+    let retained = match references.take_retained(alloc, heap, objects) {
         Ok(retained) => retained,
         Err(stop) => return Err(stop),
     };
-    match kept_in(alloc, heap, objects, &retained, id) {
+    match kept_in(alloc, heap, objects, references, &retained, id) {
         Ok(kept) => Ok(KeptTree { retained, kept }),
         Err(stop) => Err(stop),
     }

@@ -7,8 +7,8 @@ ghost use Rattle.hprof_stored.specs.StoredMaking.{CanBeReadAgain};
 ghost use Rattle.hprof_ask.specs.Asks.{PassesAnswersOn, fault_of_asking};
 ghost use Rattle.hprof_large.specs.AskingStored.{AsksStored, LetsAskStored};
 
+use crate::kept_answers::KeptAnswers;
 use crate::passed_answers::PassedAnswers;
-use crate::texts::KeptTexts;
 use hprof_ask::AskFault;
 use hprof_devices::{Flush, Source};
 use hprof_engine::{AllSummaries, Summaries, ToolFault};
@@ -24,7 +24,8 @@ use std::alloc::Global;
 
 /// Reads all parts, and then answers each line of the questions over the heap that the parts state together, up to the first line that ends
 /// the dialogue. Objects stay in the parts or go to scratch, as `keeping` says, and are read again for each answer: `parts` opens the same
-/// parts as the readers. The texts of reports on the whole heap are kept in memory.
+/// parts as the readers. The texts of reports on the whole heap are kept in memory,
+/// and so are the searches and the tree of dominators that reports want.
 ///
 /// All parts are read, and their objects are compared, before the first question is read. All answers so far are flushed before more
 /// questions are read, and at the end, also if the questions cannot be read on, if objects are lost or if memory runs out. If memory runs
@@ -89,7 +90,7 @@ pub fn ask_stored<R: Source, S: Scratch + Drop, P: Parts, Q: Asker<W>, W: Flush>
         objects,
         summaries: &summaries,
     };
-    let mut kept = KeptTexts::new(alloc);
+    let mut kept = KeptAnswers::new(alloc);
     match converse(alloc, &answers, &mut kept, questions, target) {
         Ok(()) => Ok(()),
         Err(stop) => Err(AskFault::Dialogue(stop)),

@@ -6,6 +6,7 @@ ghost use Rattle.hprof_devices.specs.declared.health.Health.TheVariants.{Well};
 ghost use Rattle.hprof_heap.specs.Heap.{heap_of};
 ghost use Rattle.hprof_heap.specs.HeapFacts.{facts_of, size_of};
 ghost use Rattle.hprof_lines.specs.Passed.{EndsPassed};
+ghost use Rattle.hprof_retained.specs.KeptReferences.{AreKeptReferences};
 ghost use Rattle.hprof_stream.specs.declared.summary.PartSummary.{PartSummary};
 ghost use Rattle.hprof_questions.specs.declared.report.Kinds.TheVariants as these;
 ghost use Rattle.hprof_questions.specs.declared.report.Report.TheVariants as reports;
@@ -23,6 +24,7 @@ use hprof_meaning::{classes_meant_over, write_objects_of_classes_over};
 use hprof_naming::{ClassNames, MeantLabel};
 use hprof_passes::{Objects, PassStop};
 use hprof_questions::{KindReport, Kinds};
+use hprof_retained::KeptReferences;
 use std::alloc::Global;
 
 /// Writes a report on the objects of a class or a type.
@@ -30,17 +32,24 @@ fn write_of_kind<O: Objects, W: Target>(
     alloc: Global,
     heap: &Heap,
     objects: &O,
+    references: &mut KeptReferences,
     report: KindReport,
     kind: Kind,
     target: &mut W,
 ) -> Result<(), PassStop<WriteStop, O::Fault>>
-    requires { W.health target.old ≡ Well }
-    ensures { EndsPassed (O.make_up objects.now (size_of heap.now) (facts_of heap.now))
+    requires references { AreKeptReferences (O.make_up objects.now (size_of heap.now) (facts_of heap.now))
+        (O.agree objects.now (size_of heap.now) (facts_of heap.now)) (size_of heap.now) references.old }
+    requires well { W.health target.old ≡ Well }
+    ensures ends { EndsPassed (O.make_up objects.now (size_of heap.now) (facts_of heap.now))
         (O.agree objects.now (size_of heap.now) (facts_of heap.now)) (O.tells objects.now (size_of heap.now) (facts_of heap.now))
         (λ all. IsKindReport (size_of heap.now) all report kind) W.written W.health target.old target.new result }
+    ensures references { AreKeptReferences (O.make_up objects.now (size_of heap.now) (facts_of heap.now))
+        (O.agree objects.now (size_of heap.now) (facts_of heap.now)) (size_of heap.now) references.new }
 {
     match report {
-        KindReport::Biggest => write_biggest_over(alloc, heap, objects, Choice::Of(kind), target),
+        KindReport::Biggest => {
+            write_biggest_over(alloc, heap, objects, references, Choice::Of(kind), target)
+        }
         KindReport::Objects => write_objects_over(alloc, heap, objects, kind, target),
     }
 }
@@ -50,16 +59,21 @@ fn write_of_classes<O: Objects, W: Target>(
     alloc: Global,
     heap: &Heap,
     objects: &O,
+    references: &mut KeptReferences,
     report: KindReport,
     name: &[u8],
     classes: &[u64],
     target: &mut W,
 ) -> Result<(), PassStop<WriteStop, O::Fault>>
+    requires references { AreKeptReferences (O.make_up objects.now (size_of heap.now) (facts_of heap.now))
+        (O.agree objects.now (size_of heap.now) (facts_of heap.now)) (size_of heap.now) references.old }
     requires ascend { IsStrictlyIncreasing classes.now }
     requires well { W.health target.old ≡ Well }
-    ensures { EndsPassed (O.make_up objects.now (size_of heap.now) (facts_of heap.now))
+    ensures ends { EndsPassed (O.make_up objects.now (size_of heap.now) (facts_of heap.now))
         (O.agree objects.now (size_of heap.now) (facts_of heap.now)) (O.tells objects.now (size_of heap.now) (facts_of heap.now))
         (λ all. IsReportOfClasses (size_of heap.now) all report name.now classes.now) W.written W.health target.old target.new result }
+    ensures references { AreKeptReferences (O.make_up objects.now (size_of heap.now) (facts_of heap.now))
+        (O.agree objects.now (size_of heap.now) (facts_of heap.now)) (size_of heap.now) references.new }
 {
     match report {
         KindReport::Biggest => {
@@ -68,7 +82,7 @@ fn write_of_classes<O: Objects, W: Target>(
                 classes,
                 with_class_dumps,
             };
-            write_biggest_over(alloc, heap, objects, choice, target)
+            write_biggest_over(alloc, heap, objects, references, choice, target)
         }
         KindReport::Objects => write_objects_of_classes_over(alloc, heap, objects, classes, target),
     }
@@ -87,16 +101,21 @@ fn write_kind_named<O: Objects, W: Target>(
     alloc: Global,
     heap: &Heap,
     objects: &O,
+    references: &mut KeptReferences,
     report: KindReport,
     name: &[u8],
     target: &mut W,
 ) -> Result<(), PassStop<WriteStop, O::Fault>>
-    requires { W.health target.old ≡ Well }
-    ensures { EndsOver (O.make_up objects.now (size_of heap.now) (facts_of heap.now))
+    requires references { AreKeptReferences (O.make_up objects.now (size_of heap.now) (facts_of heap.now))
+        (O.agree objects.now (size_of heap.now) (facts_of heap.now)) (size_of heap.now) references.old }
+    requires well { W.health target.old ≡ Well }
+    ensures ends { EndsOver (O.make_up objects.now (size_of heap.now) (facts_of heap.now))
         (O.agree objects.now (size_of heap.now) (facts_of heap.now)) (O.tells objects.now (size_of heap.now) (facts_of heap.now))
         (λ all. IsNamedKind (size_of heap.now) all report name.now)
         (λ refusal all. RefusesReport all (reports.Kind report (these.Named name.entry)) refusal)
         W.written W.health target.old target.new result }
+    ensures references { AreKeptReferences (O.make_up objects.now (size_of heap.now) (facts_of heap.now))
+        (O.agree objects.now (size_of heap.now) (facts_of heap.now)) (size_of heap.now) references.new }
 {
     let Ok(names) = ClassNames::of(alloc, heap) else {
         return Err(PassStop::Sink(WriteStop::OutOfMemory));
@@ -109,7 +128,9 @@ fn write_kind_named<O: Objects, W: Target>(
     if !is_answered(&classes, name) {
         return Err(PassStop::Sink(WriteStop::Refused(ProductRefusal::NoClass)));
     }
-    write_of_classes(alloc, heap, objects, report, name, &classes, target)
+    write_of_classes(
+        alloc, heap, objects, references, report, name, &classes, target,
+    )
 }
 
 /// Writes a report on the objects of a class or a type, or of the classes that a name means. If it is on a name that no class has, it is
@@ -118,19 +139,26 @@ pub(crate) fn write_kind<O: Objects, W: Target>(
     alloc: Global,
     heap: &Heap,
     objects: &O,
+    references: &mut KeptReferences,
     report: KindReport,
     kinds: Kinds<'_>,
     target: &mut W,
 ) -> Result<(), PassStop<WriteStop, O::Fault>>
-    requires { W.health target.old ≡ Well }
-    ensures { (summaries : List PartSummary) → EndsOver (O.make_up objects.now (size_of heap.now) (facts_of heap.now))
+    requires references { AreKeptReferences (O.make_up objects.now (size_of heap.now) (facts_of heap.now))
+        (O.agree objects.now (size_of heap.now) (facts_of heap.now)) (size_of heap.now) references.old }
+    requires well { W.health target.old ≡ Well }
+    ensures ends { (summaries : List PartSummary) → EndsOver (O.make_up objects.now (size_of heap.now) (facts_of heap.now))
         (O.agree objects.now (size_of heap.now) (facts_of heap.now)) (O.tells objects.now (size_of heap.now) (facts_of heap.now))
         (λ all. IsReportText (reports.Kind report kinds.entry) summaries (heap_with (heap_of heap.now) all))
         (λ refusal all. RefusesReport all (reports.Kind report kinds.entry) refusal)
         W.written W.health target.old target.new result }
+    ensures references { AreKeptReferences (O.make_up objects.now (size_of heap.now) (facts_of heap.now))
+        (O.agree objects.now (size_of heap.now) (facts_of heap.now)) (size_of heap.now) references.new }
 {
     match kinds {
-        Kinds::Of(kind) => write_of_kind(alloc, heap, objects, report, kind, target),
-        Kinds::Named(name) => write_kind_named(alloc, heap, objects, report, name, target),
+        Kinds::Of(kind) => { write_of_kind(alloc, heap, objects, references, report, kind, target) }
+        Kinds::Named(name) => {
+            write_kind_named(alloc, heap, objects, references, report, name, target)
+        }
     }
 }

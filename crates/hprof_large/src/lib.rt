@@ -6,6 +6,7 @@
 mod asking;
 mod checked;
 mod heap;
+mod kept_answers;
 mod kind;
 mod node;
 mod passed_answers;
@@ -14,6 +15,6 @@ mod stops;
 mod texts;
 
 pub use asking::ask_stored;
+pub use kept_answers::KeptAnswers;
 pub use passed_answers::PassedAnswers;
 pub use passed_report::PassedReport;
-pub use texts::KeptTexts;

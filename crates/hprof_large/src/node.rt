@@ -7,6 +7,7 @@ ghost use Rattle.hprof_heap.specs.HeapFacts.{facts_of, size_of};
 ghost use Rattle.hprof_lines.specs.Passed.{EndsPassed};
 ghost use Rattle.hprof_naming.specs.ClassNames.{AreClassNames};
 ghost use Rattle.hprof_meaning.specs.MeantClasses.{AreMeantDumps};
+ghost use Rattle.hprof_retained.specs.KeptReferences.{AreKeptReferences};
 ghost use Rattle.hprof_stream.specs.declared.summary.PartSummary.{PartSummary};
 ghost use Rattle.hprof_questions.specs.declared.report.Node.TheVariants as that;
 ghost use Rattle.hprof_questions.specs.declared.report.NodeReport.{NodeReport};
@@ -23,9 +24,10 @@ use hprof_meaning::{class_dumps_meant, write_classes_of_name};
 use hprof_naming::{ClassNames, MeantLabel};
 use hprof_passes::{Objects, PassStop};
 use hprof_questions::{Node, NodeReport};
-use hprof_reports::{write_object_over, write_path_over, write_refs_over, write_text_over};
+use hprof_reports::{write_object_over, write_refs_over, write_text_over};
+use hprof_retained::KeptReferences;
 use hprof_show::write_show_over;
-use hprof_why::write_why_over;
+use hprof_why::{write_path_over, write_why_over};
 use std::alloc::Global;
 
 /// Writes a report on an identifier.
@@ -33,24 +35,29 @@ fn write_on<O: Objects, W: Target>(
     alloc: Global,
     heap: &Heap,
     objects: &O,
+    references: &mut KeptReferences,
     report: NodeReport,
     id: u64,
     target: &mut W,
 ) -> Result<(), PassStop<WriteStop, O::Fault>>
-    requires { W.health target.old ≡ Well }
-    ensures { EndsPassed (O.make_up objects.now (size_of heap.now) (facts_of heap.now))
+    requires references { AreKeptReferences (O.make_up objects.now (size_of heap.now) (facts_of heap.now))
+        (O.agree objects.now (size_of heap.now) (facts_of heap.now)) (size_of heap.now) references.old }
+    requires well { W.health target.old ≡ Well }
+    ensures ends { EndsPassed (O.make_up objects.now (size_of heap.now) (facts_of heap.now))
         (O.agree objects.now (size_of heap.now) (facts_of heap.now)) (O.tells objects.now (size_of heap.now) (facts_of heap.now))
         (λ all. IsNodeReport (size_of heap.now) all report id) W.written W.health target.old target.new result }
+    ensures references { AreKeptReferences (O.make_up objects.now (size_of heap.now) (facts_of heap.now))
+        (O.agree objects.now (size_of heap.now) (facts_of heap.now)) (size_of heap.now) references.new }
 {
     match report {
         NodeReport::Show => write_show_over(alloc, heap, objects, id, target),
-        NodeReport::Why => write_why_over(alloc, heap, objects, id, target),
+        NodeReport::Why => write_why_over(alloc, heap, objects, references, id, target),
         NodeReport::Who => write_who_over(alloc, heap, objects, id, target),
-        NodeReport::Keeps => write_keeps_over(alloc, heap, objects, id, target),
+        NodeReport::Keeps => write_keeps_over(alloc, heap, objects, references, id, target),
         NodeReport::Text => write_text_over(alloc, heap, objects, id, target),
         NodeReport::Object => write_object_over(alloc, heap, objects, id, target),
         NodeReport::Refs => write_refs_over(alloc, heap, objects, id, target),
-        NodeReport::Path => write_path_over(alloc, heap, objects, id, target),
+        NodeReport::Path => write_path_over(alloc, heap, objects, references, id, target),
     }
 }
 
@@ -107,16 +114,21 @@ fn write_named<O: Objects, W: Target>(
     alloc: Global,
     heap: &Heap,
     objects: &O,
+    references: &mut KeptReferences,
     report: NodeReport,
     name: &[u8],
     target: &mut W,
 ) -> Result<(), PassStop<WriteStop, O::Fault>>
-    requires { W.health target.old ≡ Well }
-    ensures { EndsOver (O.make_up objects.now (size_of heap.now) (facts_of heap.now))
+    requires references { AreKeptReferences (O.make_up objects.now (size_of heap.now) (facts_of heap.now))
+        (O.agree objects.now (size_of heap.now) (facts_of heap.now)) (size_of heap.now) references.old }
+    requires well { W.health target.old ≡ Well }
+    ensures ends { EndsOver (O.make_up objects.now (size_of heap.now) (facts_of heap.now))
         (O.agree objects.now (size_of heap.now) (facts_of heap.now)) (O.tells objects.now (size_of heap.now) (facts_of heap.now))
         (λ all. IsNamedReport (size_of heap.now) all report name.now)
         (λ refusal all. RefusesReport all (reports.Node report (that.Named name.entry)) refusal)
         W.written W.health target.old target.new result }
+    ensures references { AreKeptReferences (O.make_up objects.now (size_of heap.now) (facts_of heap.now))
+        (O.agree objects.now (size_of heap.now) (facts_of heap.now)) (size_of heap.now) references.new }
 {
     holds_of_heap(heap);
     let Ok(names) = ClassNames::of(alloc, heap) else {
@@ -127,7 +139,7 @@ fn write_named<O: Objects, W: Target>(
         return Err(PassStop::Sink(WriteStop::OutOfMemory));
     };
     match only_one(&dumps) {
-        Some(id) => write_on(alloc, heap, objects, report, id, target),
+        Some(id) => write_on(alloc, heap, objects, references, report, id, target),
         None => write_which(alloc, heap, objects, &names, name, &dumps, target),
     }
 }
@@ -137,19 +149,24 @@ pub(crate) fn write_node<O: Objects, W: Target>(
     alloc: Global,
     heap: &Heap,
     objects: &O,
+    references: &mut KeptReferences,
     report: NodeReport,
     node: Node<'_>,
     target: &mut W,
 ) -> Result<(), PassStop<WriteStop, O::Fault>>
-    requires { W.health target.old ≡ Well }
-    ensures { (summaries : List PartSummary) → EndsOver (O.make_up objects.now (size_of heap.now) (facts_of heap.now))
+    requires references { AreKeptReferences (O.make_up objects.now (size_of heap.now) (facts_of heap.now))
+        (O.agree objects.now (size_of heap.now) (facts_of heap.now)) (size_of heap.now) references.old }
+    requires well { W.health target.old ≡ Well }
+    ensures ends { (summaries : List PartSummary) → EndsOver (O.make_up objects.now (size_of heap.now) (facts_of heap.now))
         (O.agree objects.now (size_of heap.now) (facts_of heap.now)) (O.tells objects.now (size_of heap.now) (facts_of heap.now))
         (λ all. IsReportText (reports.Node report node.entry) summaries (heap_with (heap_of heap.now) all))
         (λ refusal all. RefusesReport all (reports.Node report node.entry) refusal)
         W.written W.health target.old target.new result }
+    ensures references { AreKeptReferences (O.make_up objects.now (size_of heap.now) (facts_of heap.now))
+        (O.agree objects.now (size_of heap.now) (facts_of heap.now)) (size_of heap.now) references.new }
 {
     match node {
-        Node::Identifier(id) => write_on(alloc, heap, objects, report, id, target),
-        Node::Named(name) => write_named(alloc, heap, objects, report, name, target),
+        Node::Identifier(id) => { write_on(alloc, heap, objects, references, report, id, target) }
+        Node::Named(name) => { write_named(alloc, heap, objects, references, report, name, target) }
     }
 }

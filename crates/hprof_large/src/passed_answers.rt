@@ -4,6 +4,7 @@ ghost use Rattle.std.specs.Prelude.{◌≡◌, ℕ, List, IfErr, IfOk};
 ghost use Rattle.hprof_devices.specs.declared.health.Health.TheVariants.{Well};
 ghost use Rattle.hprof_rows.specs.HeapValue.{HeapValue};
 ghost use Rattle.hprof_heap.specs.HeapFacts.{facts_of, size_of};
+ghost use Rattle.hprof_retained.specs.KeptReferences.{AreKeptReferences};
 ghost use Rattle.hprof_stored.specs.InParts.{HaveUnion, MakeUp, TellsPass};
 ghost use Rattle.hprof_questions.specs.Answering.{LeavesWriter, TellsLoss, WritesAnswer};
 ghost use Rattle.hprof_ask.specs.HeapAnswers.{IsHeapAnswer, IsReply, IsReportReply};
@@ -14,18 +15,18 @@ ghost use Rattle.hprof_large.specs.Texts.{AreReports};
 ghost use Rattle.hprof_large.specs.Whole.{IsWholeHeap};
 
 use crate::heap::write_heap_report;
-use crate::passed_report::PassedReport;
+use crate::kept_answers::KeptAnswers;
+use crate::passed_report::write_report_over;
 use crate::stops::{answer_of, stop_of_pass_fault};
-use crate::texts::KeptTexts;
 use hprof_ask::{behind_reply, write_reply_without_report};
 use hprof_devices::{Device, Target, push_all};
 use hprof_engine::WriteStop;
 use hprof_heap::Heap;
 use hprof_lines::write_str;
-use hprof_making::PassProduct;
 use hprof_parts::Parts;
 use hprof_passes::PassStop;
 use hprof_questions::{Answers, DialogueStop, HeapReport, Question, Report};
+use hprof_retained::KeptReferences;
 use hprof_runs::Scratch;
 use hprof_stored::{InParts, PassFault};
 use hprof_stream::PartSummary;
@@ -56,25 +57,35 @@ fn write_bytes<W: Target>(bytes: &[u8], target: &mut W) -> Result<(), DialogueSt
 }
 
 impl<S: Scratch + Drop, P: Parts> PassedAnswers<'_, S, P> {
-    /// Writes a report on a class, an object, or objects, as [`PassedReport`] does.
+    /// Writes a report on a class, an object, or objects, as [`PassedReport`](crate::PassedReport) does.
     fn write_by_passes<W: Target>(
         &self,
         alloc: Global,
+        references: &mut KeptReferences,
         report: Report<'_>,
         target: &mut W,
     ) -> Result<(), PassStop<WriteStop, PassFault>>
-        requires { W.health target.old ≡ Well }
-        ensures { EndsOver (MakeUp S.written S.health P.bytes self.now.objects (size_of self.now.heap.now) (facts_of self.now.heap.now))
+        requires references { AreKeptReferences
+            (MakeUp S.written S.health P.bytes self.now.objects (size_of self.now.heap.now) (facts_of self.now.heap.now))
+            (HaveUnion S.written S.health P.bytes self.now.objects) (size_of self.now.heap.now) references.old }
+        requires well { W.health target.old ≡ Well }
+        ensures ends { EndsOver
+            (MakeUp S.written S.health P.bytes self.now.objects (size_of self.now.heap.now) (facts_of self.now.heap.now))
             (HaveUnion S.written S.health P.bytes self.now.objects)
             (TellsPass S.written S.health P.bytes S.unreadable self.now.objects (size_of self.now.heap.now) (facts_of self.now.heap.now))
             (λ all. IsReport self.now.summaries.now.items (size_of self.now.heap.now) all report.entry)
             (λ refusal all. RefusesReport all report.entry refusal) W.written W.health target.old target.new result }
+        ensures references { AreKeptReferences
+            (MakeUp S.written S.health P.bytes self.now.objects (size_of self.now.heap.now) (facts_of self.now.heap.now))
+            (HaveUnion S.written S.health P.bytes self.now.objects) (size_of self.now.heap.now) references.new }
     {
-        PassedReport { report }.write_over(
+        write_report_over(
             alloc,
             self.summaries,
             self.heap,
             &self.objects,
+            references,
+            report,
             None,
             target,
         )
@@ -84,18 +95,25 @@ impl<S: Scratch + Drop, P: Parts> PassedAnswers<'_, S, P> {
     fn write_report<W: Target>(
         &self,
         alloc: Global,
+        references: &mut KeptReferences,
         report: Report<'_>,
         target: &mut W,
     ) -> Result<(), DialogueStop>
-        requires { W.health target.old ≡ Well }
+        requires references { AreKeptReferences
+            (MakeUp S.written S.health P.bytes self.now.objects (size_of self.now.heap.now) (facts_of self.now.heap.now))
+            (HaveUnion S.written S.health P.bytes self.now.objects) (size_of self.now.heap.now) references.old }
+        requires well { W.health target.old ≡ Well }
         ensures bytes { (heap : HeapValue) → IsWholeHeap self.now.heap.now (MakeUp S.written S.health P.bytes self.now.objects) heap
             → (text : List ℕ) × IsReportReply self.now.summaries.now.items heap.ids heap.facts report.entry text
             × WritesAnswer (W.written target.old) (W.written target.new) result text }
         ensures health { LeavesWriter result (W.health target.new) }
         ensures lost { TellsLoss (IsLostBy (TellsPass S.written S.health P.bytes S.unreadable self.now.objects (size_of self.now.heap.now)
             (facts_of self.now.heap.now))) result }
+        ensures references { AreKeptReferences
+            (MakeUp S.written S.health P.bytes self.now.objects (size_of self.now.heap.now) (facts_of self.now.heap.now))
+            (HaveUnion S.written S.health P.bytes self.now.objects) (size_of self.now.heap.now) references.new }
     {
-        match self.write_by_passes(alloc, report, target) {
+        match self.write_by_passes(alloc, references, report, target) {
             Ok(()) => Ok(()),
             Err(PassStop::Lost(fault)) => Err(stop_of_pass_fault(fault)),
             Err(PassStop::Sink(WriteStop::Refused(_))) => answer_of(write_reply_without_report(
@@ -108,12 +126,23 @@ impl<S: Scratch + Drop, P: Parts> PassedAnswers<'_, S, P> {
     }
 
     /// Makes the text of a report on the whole heap.
-    fn make_text(&self, alloc: Global, report: HeapReport) -> Result<Vec<u8>, PassFault>
+    fn make_text(
+        &self,
+        alloc: Global,
+        references: &mut KeptReferences,
+        report: HeapReport,
+    ) -> Result<Vec<u8>, PassFault>
+        requires { AreKeptReferences
+            (MakeUp S.written S.health P.bytes self.now.objects (size_of self.now.heap.now) (facts_of self.now.heap.now))
+            (HaveUnion S.written S.health P.bytes self.now.objects) (size_of self.now.heap.now) references.old }
         ensures text { IfOk result (λ bytes. (heap : HeapValue)
             → IsWholeHeap self.now.heap.now (MakeUp S.written S.health P.bytes self.now.objects) heap
             → IsHeapReport self.now.summaries.now.items heap.ids heap.facts report bytes.items) }
         ensures lost { IfErr result (TellsPass S.written S.health P.bytes S.unreadable self.now.objects (size_of self.now.heap.now)
             (facts_of self.now.heap.now)) }
+        ensures references { AreKeptReferences
+            (MakeUp S.written S.health P.bytes self.now.objects (size_of self.now.heap.now) (facts_of self.now.heap.now))
+            (HaveUnion S.written S.health P.bytes self.now.objects) (size_of self.now.heap.now) references.new }
     {
         let mut target = Device::new(Vec::new(alloc));
         match write_heap_report(
@@ -121,6 +150,7 @@ impl<S: Scratch + Drop, P: Parts> PassedAnswers<'_, S, P> {
             self.summaries,
             self.heap,
             &self.objects,
+            references,
             report,
             None,
             &mut target,
@@ -136,31 +166,37 @@ impl<S: Scratch + Drop, P: Parts> PassedAnswers<'_, S, P> {
     fn write_kept<W: Target>(
         &self,
         alloc: Global,
-        kept: &mut KeptTexts,
+        kept: &mut KeptAnswers,
         report: HeapReport,
         target: &mut W,
     ) -> Result<(), DialogueStop>
         requires well { W.health target.old ≡ Well }
-        requires kept { (heap : HeapValue) → IsWholeHeap self.now.heap.now (MakeUp S.written S.health P.bytes self.now.objects) heap
-            → AreReports self.now.summaries.now.items heap.ids heap.facts kept.old }
+        requires texts { (heap : HeapValue) → IsWholeHeap self.now.heap.now (MakeUp S.written S.health P.bytes self.now.objects) heap
+            → AreReports self.now.summaries.now.items heap.ids heap.facts kept.old.texts }
+        requires references { AreKeptReferences
+            (MakeUp S.written S.health P.bytes self.now.objects (size_of self.now.heap.now) (facts_of self.now.heap.now))
+            (HaveUnion S.written S.health P.bytes self.now.objects) (size_of self.now.heap.now) kept.old.references }
         ensures bytes { (heap : HeapValue) → IsWholeHeap self.now.heap.now (MakeUp S.written S.health P.bytes self.now.objects) heap
             → (text : List ℕ) × IsHeapReport self.now.summaries.now.items heap.ids heap.facts report text
             × WritesAnswer (W.written target.old) (W.written target.new) result text }
         ensures health { LeavesWriter result (W.health target.new) }
         ensures lost { TellsLoss (IsLostBy (TellsPass S.written S.health P.bytes S.unreadable self.now.objects (size_of self.now.heap.now)
             (facts_of self.now.heap.now))) result }
-        ensures kept { (heap : HeapValue) → IsWholeHeap self.now.heap.now (MakeUp S.written S.health P.bytes self.now.objects) heap
-            → AreReports self.now.summaries.now.items heap.ids heap.facts kept.new }
+        ensures texts { (heap : HeapValue) → IsWholeHeap self.now.heap.now (MakeUp S.written S.health P.bytes self.now.objects) heap
+            → AreReports self.now.summaries.now.items heap.ids heap.facts kept.new.texts }
+        ensures references { AreKeptReferences
+            (MakeUp S.written S.health P.bytes self.now.objects (size_of self.now.heap.now) (facts_of self.now.heap.now))
+            (HaveUnion S.written S.health P.bytes self.now.objects) (size_of self.now.heap.now) kept.new.references }
     {
-        if let Some(bytes) = kept.find(report) {
+        if let Some(bytes) = kept.texts.find(report) {
             return write_bytes(bytes, target);
         }
-        let bytes = match self.make_text(alloc, report) {
+        let bytes = match self.make_text(alloc, &mut kept.references, report) {
             Ok(bytes) => bytes,
             Err(fault) => return Err(stop_of_pass_fault(fault)),
         };
         let outcome = write_bytes(&bytes, target);
-        kept.keep(report, bytes);
+        kept.texts.keep(report, bytes);
         outcome
     }
 
@@ -168,25 +204,33 @@ impl<S: Scratch + Drop, P: Parts> PassedAnswers<'_, S, P> {
     fn write_reply<W: Target>(
         &self,
         alloc: Global,
-        kept: &mut KeptTexts,
+        kept: &mut KeptAnswers,
         question: Question<'_>,
         target: &mut W,
     ) -> Result<(), DialogueStop>
         requires well { W.health target.old ≡ Well }
-        requires kept { (heap : HeapValue) → IsWholeHeap self.now.heap.now (MakeUp S.written S.health P.bytes self.now.objects) heap
-            → AreReports self.now.summaries.now.items heap.ids heap.facts kept.old }
+        requires texts { (heap : HeapValue) → IsWholeHeap self.now.heap.now (MakeUp S.written S.health P.bytes self.now.objects) heap
+            → AreReports self.now.summaries.now.items heap.ids heap.facts kept.old.texts }
+        requires references { AreKeptReferences
+            (MakeUp S.written S.health P.bytes self.now.objects (size_of self.now.heap.now) (facts_of self.now.heap.now))
+            (HaveUnion S.written S.health P.bytes self.now.objects) (size_of self.now.heap.now) kept.old.references }
         ensures bytes { (heap : HeapValue) → IsWholeHeap self.now.heap.now (MakeUp S.written S.health P.bytes self.now.objects) heap
             → (text : List ℕ) × IsReply self.now.summaries.now.items heap.ids heap.facts question.entry text
             × WritesAnswer (W.written target.old) (W.written target.new) result text }
         ensures health { LeavesWriter result (W.health target.new) }
         ensures lost { TellsLoss (IsLostBy (TellsPass S.written S.health P.bytes S.unreadable self.now.objects (size_of self.now.heap.now)
             (facts_of self.now.heap.now))) result }
-        ensures kept { (heap : HeapValue) → IsWholeHeap self.now.heap.now (MakeUp S.written S.health P.bytes self.now.objects) heap
-            → AreReports self.now.summaries.now.items heap.ids heap.facts kept.new }
+        ensures texts { (heap : HeapValue) → IsWholeHeap self.now.heap.now (MakeUp S.written S.health P.bytes self.now.objects) heap
+            → AreReports self.now.summaries.now.items heap.ids heap.facts kept.new.texts }
+        ensures references { AreKeptReferences
+            (MakeUp S.written S.health P.bytes self.now.objects (size_of self.now.heap.now) (facts_of self.now.heap.now))
+            (HaveUnion S.written S.health P.bytes self.now.objects) (size_of self.now.heap.now) kept.new.references }
     {
         match question {
             Question::Report(Report::Heap(report)) => self.write_kept(alloc, kept, report, target),
-            Question::Report(report) => self.write_report(alloc, report, target),
+            Question::Report(report) => {
+                self.write_report(alloc, &mut kept.references, report, target)
+            },
             _ => answer_of(write_reply_without_report(question, target)),
         }
     }
@@ -195,7 +239,8 @@ impl<S: Scratch + Drop, P: Parts> PassedAnswers<'_, S, P> {
 impl<S: Scratch + Drop, P: Parts> Answers for PassedAnswers<'_, S, P> {
     ghost use Rattle.hprof_heap.specs.HeapFacts.{facts_of, size_of};
     ghost use Rattle.hprof_rows.specs.HeapValue.{HeapValue};
-    ghost use Rattle.hprof_stored.specs.InParts.{MakeUp, TellsPass};
+    ghost use Rattle.hprof_retained.specs.KeptReferences.{AreKeptReferences};
+    ghost use Rattle.hprof_stored.specs.InParts.{HaveUnion, MakeUp, TellsPass};
     ghost use Rattle.hprof_ask.specs.HeapAnswers.{IsHeapAnswer};
     ghost use Rattle.hprof_ask.specs.OneHeapAnswer.{one_heap_answer};
     ghost use Rattle.hprof_large.specs.SomeAnswer.{some_answer_of_whole};
@@ -210,15 +255,17 @@ impl<S: Scratch + Drop, P: Parts> Answers for PassedAnswers<'_, S, P> {
     ghost loses = { λ it. IsLostBy (TellsPass S.written S.health P.bytes S.unreadable it.objects (size_of it.heap.now)
         (facts_of it.heap.now)) };
 
-    ghost keeps = { λ it kept. (heap : HeapValue) → IsWholeHeap it.heap.now (MakeUp S.written S.health P.bytes it.objects) heap
-        → AreReports it.summaries.now.items heap.ids heap.facts kept };
+    ghost keeps = { λ it kept. ((heap : HeapValue) → IsWholeHeap it.heap.now (MakeUp S.written S.health P.bytes it.objects) heap
+        → AreReports it.summaries.now.items heap.ids heap.facts kept.texts)
+        × AreKeptReferences (MakeUp S.written S.health P.bytes it.objects (size_of it.heap.now) (facts_of it.heap.now))
+        (HaveUnion S.written S.health P.bytes it.objects) (size_of it.heap.now) kept.references };
 
-    type Kept = KeptTexts;
+    type Kept = KeptAnswers;
 
     fn answer<W: Target>(
         &self,
         alloc: Global,
-        kept: &mut KeptTexts,
+        kept: &mut KeptAnswers,
         question: Question<'_>,
         target: &mut W,
     ) -> Result<(), DialogueStop> {

@@ -1,5 +1,16 @@
 //! Reports that are made of passes over objects.
 
+ghost use Rattle.std.specs.Prelude.{◌≡◌, List, IsSome};
+ghost use Rattle.hprof_devices.specs.declared.health.Health.TheVariants.{Well};
+ghost use Rattle.hprof_stream.specs.declared.summary.PartSummary.{PartSummary};
+ghost use Rattle.hprof_heap.specs.Heap.{heap_of};
+ghost use Rattle.hprof_heap.specs.HeapFacts.{facts_of, size_of};
+ghost use Rattle.hprof_histogram.specs.Known.{MadeUpWith};
+ghost use Rattle.hprof_retained.specs.KeptReferences.{AreKeptReferences};
+ghost use Rattle.hprof_making.specs.Over.{EndsOver, heap_with};
+ghost use Rattle.hprof_ask.specs.Report.{IsReportText, RefusesReport};
+ghost use Rattle.hprof_ask.specs.Summarised.{Holds};
+
 use crate::heap::write_heap_report;
 use crate::kind::write_kind;
 use crate::node::write_node;
@@ -11,6 +22,7 @@ use hprof_histogram::CountedKinds;
 use hprof_making::PassProduct;
 use hprof_passes::{Objects, PassStop};
 use hprof_questions::{HeapReport, Report};
+use hprof_retained::KeptReferences;
 use hprof_stream::PartSummary;
 use std::alloc::{AllocError, Global};
 
@@ -58,6 +70,47 @@ impl Summaries for PassedReport<'_> {
     ghost no_room = { λ it. no_room_for_none it.report };
 }
 
+/// Writes a report. The heap has all facts but the objects, whose counts by kind may be known. `kept` are the summaries that the report
+/// wants.
+///
+/// # Errors
+///
+/// Those of [`PassProduct::write_over`].
+pub(crate) fn write_report_over<O: Objects, W: Target>(
+    alloc: Global,
+    kept: &Vec<PartSummary>,
+    heap: &Heap,
+    objects: &O,
+    references: &mut KeptReferences,
+    report: Report<'_>,
+    known: Option<CountedKinds>,
+    target: &mut W,
+) -> Result<(), PassStop<WriteStop, O::Fault>>
+    requires references { AreKeptReferences (O.make_up objects.now (size_of heap.now) (facts_of heap.now))
+        (O.agree objects.now (size_of heap.now) (facts_of heap.now)) (size_of heap.now) references.old }
+    requires agree { IsSome known → O.agree objects.now (size_of heap.now) (facts_of heap.now) }
+    requires well { W.health target.old ≡ Well }
+    ensures ends { (summaries : List PartSummary) → Holds report.entry kept.now summaries
+        → EndsOver (MadeUpWith (O.make_up objects.now (size_of heap.now) (facts_of heap.now)) (size_of heap.now) known)
+        (O.agree objects.now (size_of heap.now) (facts_of heap.now)) (O.tells objects.now (size_of heap.now) (facts_of heap.now))
+        (λ all. IsReportText report.entry summaries (heap_with (heap_of heap.now) all))
+        (λ refusal all. RefusesReport all report.entry refusal) W.written W.health target.old target.new result }
+    ensures references { AreKeptReferences (O.make_up objects.now (size_of heap.now) (facts_of heap.now))
+        (O.agree objects.now (size_of heap.now) (facts_of heap.now)) (size_of heap.now) references.new }
+{
+    match report {
+        Report::Heap(report) => write_heap_report(
+            alloc, kept, heap, objects, references, report, known, target,
+        ),
+        Report::Kind(report, kinds) => {
+            write_kind(alloc, heap, objects, references, report, kinds, target)
+        }
+        Report::Node(report, node) => {
+            write_node(alloc, heap, objects, references, report, node, target)
+        }
+    }
+}
+
 impl PassProduct for PassedReport<'_> {
     ghost use Rattle.hprof_ask.specs.Report.{IsReportText, RefusesReport};
 
@@ -81,12 +134,16 @@ impl PassProduct for PassedReport<'_> {
         known: Option<CountedKinds>,
         target: &mut W,
     ) -> Result<(), PassStop<WriteStop, O::Fault>> {
-        match self.report {
-            Report::Heap(report) => {
-                write_heap_report(alloc, kept, heap, objects, report, known, target)
-            }
-            Report::Kind(report, kinds) => write_kind(alloc, heap, objects, report, kinds, target),
-            Report::Node(report, node) => write_node(alloc, heap, objects, report, node, target),
-        }
+        let mut references = KeptReferences::for_one();
+        write_report_over(
+            alloc,
+            kept,
+            heap,
+            objects,
+            &mut references,
+            self.report,
+            known,
+            target,
+        )
     }
 }

@@ -21,15 +21,15 @@ pub(crate) struct KeptText {
     pub(crate) bytes: Vec<u8>,
 }
 
-/// The texts of reports on the whole heap, each made when it was first asked for. They are no part of any answer.
+/// The texts of reports on the whole heap, each made when it was first asked for.
 #[derive(Drop)]
-pub struct KeptTexts {
+pub(crate) struct KeptTexts {
     pub(crate) texts: Vec<KeptText>,
 }
 
 impl KeptTexts {
     /// Returns what is kept before the first question: nothing. It allocates nothing.
-    pub fn new(alloc: Global) -> KeptTexts
+    pub(crate) fn new(alloc: Global) -> KeptTexts
         ensures { (summaries : List PartSummary) (ids : IdSize) (facts : List FactValue) → AreReports summaries ids facts result }
     {
         KeptTexts {

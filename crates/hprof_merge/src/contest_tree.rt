@@ -30,7 +30,7 @@ pub(crate) fn lesser(one: Option<(u64, usize)>, other: Option<(u64, usize)>) -> 
     }
 }
 
-/// Decides all nodes above a node that was changed.
+/// Decides all nodes above a node that was changed. It goes up until a node keeps its key: above that all are decided already.
 fn settle(nodes: &mut [Option<(u64, usize)>], count: usize, changed: usize)
     requires sized { length nodes.old ≡ 2 * count }
     requires changed { changed < length nodes.old }
@@ -42,7 +42,11 @@ fn settle(nodes: &mut [Option<(u64, usize)>], count: usize, changed: usize)
     let mut node = changed;
     while node > 1 {
         node /= 2;
-        nodes[node] = lesser(nodes[2 * node], nodes[2 * node + 1]);
+        let best = lesser(nodes[2 * node], nodes[2 * node + 1]);
+        if nodes[node] == best {
+            return;
+        }
+        nodes[node] = best;
     }
 }
 

@@ -22,9 +22,15 @@ pub mod Stops
 pub mod MergedObjects
 pub mod OpeningFaults
 pub mod OneStretch
+mod GoneUp
+mod CutsOpened
+mod LookedUp
+mod GivenOne
+mod GivenAll
+mod Apart
 mod WantedRows
-mod TwoPieces
 mod PickedRows
 mod PickedCuts
 mod PickedFront
 mod PickedMerge
+mod PickedAgreed

@@ -6,6 +6,7 @@ use Rattle.hprof_devices.specs.declared.health.Health.{Health}
 use Rattle.hprof_stream.specs.declared.limits.Limits.{Limits}
 use Rattle.hprof_merge.specs.Rows.{ByteRow, Has, IsAscending}
 use Rattle.hprof_merge.specs.Run.{Runs}
+use Rattle.hprof_runs.proofs.TwoPieces.{ascends_behind, from_first, has_back, has_front}
 use Rattle.hprof_objects.specs.declared.cut.Cut.{Cut}
 use Rattle.hprof_objects.specs.declared.object_stop.ObjectStop.{ObjectStop}
 use Rattle.hprof_objects.specs.declared.object_stop.ObjectStop.TheVariants as stops
@@ -23,7 +24,6 @@ use Rattle.hprof_objects.specs.StretchFault.{ByFault}
 use Rattle.hprof_objects.specs.StretchKnown.{StretchComes}
 use Rattle.hprof_objects.specs.Wanted.{is_among, wanted_rows}
 use Rattle.hprof_objects.proofs.PickedRows.{at_most_end, wanted_both}
-use Rattle.hprof_objects.proofs.TwoPieces.{ascends_behind, from_first, has_back, has_front}
 use Rattle.hprof_objects.proofs.WantedRows.{wanted-none, wanted-same}
 
 -- ---- one cut

@@ -6,6 +6,7 @@ use Rattle.hprof_devices.specs.declared.health.Health.{Health}
 use Rattle.hprof_stream.specs.declared.limits.Limits.{Limits}
 use Rattle.hprof_merge.specs.Rows.{ByteRow, Has, IsAscending}
 use Rattle.hprof_merge.specs.Union.{IsUnion, IsUnionBelow}
+use Rattle.hprof_runs.proofs.TwoPieces.{ascends_behind, ascends_front, below_behind, from_first, has_either, has_front}
 use Rattle.hprof_objects.specs.declared.cut.Cut.{Cut}
 use Rattle.hprof_objects.specs.declared.object_stop.ObjectStop.{ObjectStop}
 use Rattle.hprof_objects.specs.declared.object_stop.ObjectStop.TheVariants as stops
@@ -14,7 +15,6 @@ use Rattle.hprof_objects.specs.declared.stretch_fault.StretchFault.TheVariants a
 use Rattle.hprof_objects.specs.MergedObjects.{IfScratchFails, TellsChange}
 use Rattle.hprof_objects.specs.PickedCuts.{TellsCuts}
 use Rattle.hprof_objects.specs.Picks.{Picks, PicksFirst, PicksFront, PicksOf, RefusesAmong, RefusesWanted}
-use Rattle.hprof_objects.proofs.TwoPieces.{ascends_behind, ascends_front, below_behind, from_first, has_either, has_front}
 
 -- ---- the first rows of a union
 

@@ -7,6 +7,7 @@ use Rattle.hprof_merge.specs.Rows.{ByteRow, Has, IsAscending}
 use Rattle.hprof_merge.specs.Run.{Runs}
 use Rattle.hprof_merge.specs.Union.{IsUnion}
 use Rattle.hprof_merge.proofs.Lists.{append-last}
+use Rattle.hprof_runs.proofs.TwoPieces.{ascends_front}
 use Rattle.hprof_objects.specs.declared.object_stop.ObjectStop.{ObjectStop}
 use Rattle.hprof_objects.specs.declared.object_stop.ObjectStop.TheVariants as stops
 use Rattle.hprof_objects.specs.declared.picking_sink.PickingSink.{PickingSink}
@@ -15,7 +16,6 @@ use Rattle.hprof_objects.specs.Picks.{Picks, PicksBelow, RefusesWanted}
 use Rattle.hprof_objects.specs.PickingSink.{IsOver, IsWell, PicksRow, RefusesPicked, sink_under, wanted_under}
 use Rattle.hprof_objects.specs.Wanted.{is_among, wanted_rows}
 use Rattle.hprof_objects.proofs.PickedRows.{wanted_both, wanted_one}
-use Rattle.hprof_objects.proofs.TwoPieces.{ascends_front}
 
 module _ {T G : Type 0} (steps : T → ℕ → List ℕ → T → Type 0) (refuses : T → ℕ → List ℕ → G → T → Type 0) where
   -- ---- the sink under it stays the same one

@@ -5,6 +5,7 @@ use Rattle.hprof_devices.specs.declared.health.Health.{Health}
 use Rattle.hprof_merge.specs.Rows.{ByteRow, Has, IsAscending}
 use Rattle.hprof_merge.specs.Run.{Runs}
 use Rattle.hprof_merge.specs.Showing.{only}
+use Rattle.hprof_runs.proofs.TwoPieces.{has_back}
 use Rattle.hprof_objects.specs.declared.stretch_cursor.StretchCursor.{StretchCursor}
 use Rattle.hprof_objects.specs.declared.stretch_fault.StretchFault.{StretchFault}
 use Rattle.hprof_objects.specs.declared.stretch_fault.StretchFault.TheVariants as faults
@@ -17,7 +18,6 @@ use Rattle.hprof_objects.specs.StretchKnown.{StretchComes}
 use Rattle.hprof_objects.specs.Wanted.{is_among, wanted_rows}
 use Rattle.hprof_objects.specs.Stretches.{EndsAt}
 use Rattle.hprof_objects.proofs.Stretches.{at_most_last}
-use Rattle.hprof_objects.proofs.TwoPieces.{has_back}
 use Rattle.hprof_objects.proofs.WantedRows.{wanted-append, wanted-none}
 
 -- ---- runs

@@ -1,8 +1,8 @@
 -- The cuts of stretches, and which objects they have.
 use Rattle.std.specs.Prelude.{◌≡◌, ◌-◌, ℕ, List, [], ◌∷◌, ◌++◌, length, Option, Some, None, ⊤}
-use Rattle.std.specs.List.{flat_map}
 use Rattle.hprof_stream.specs.declared.limits.Limits.{Limits}
 use Rattle.hprof_merge.specs.Rows.{ByteRow}
+pub use Rattle.hprof_runs.specs.RunCuts.{all_rows}
 use Rattle.hprof_objects.specs.declared.cut.Cut.{Cut}
 use Rattle.hprof_objects.specs.declared.growing.Growing.{Growing}
 use Rattle.hprof_objects.specs.declared.growing.Piece.{Piece}
@@ -12,10 +12,6 @@ use Rattle.hprof_objects.specs.declared.open_cut.OpenCut.{OpenCut}
 use Rattle.hprof_objects.specs.declared.stretch.Stretch.{Stretch}
 use Rattle.hprof_objects.specs.PartsRead.{PartRead}
 use Rattle.hprof_objects.specs.Stretches.{BeginsAt, EndsAt, IsStretch, StandsIn}
-
--- the rows of lists, one list after another
-abbrev pub all_rows : List (List ByteRow) → List ByteRow
-all_rows lists = flat_map (λ rows. rows) lists
 
 -- ---- cuts
 

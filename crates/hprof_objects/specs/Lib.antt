@@ -19,3 +19,8 @@ pub mod Wanted
 pub mod PickingSink
 pub mod Picks
 pub mod PickedCuts
+pub mod AnyCuts
+pub mod Seeking
+pub mod Searched
+pub mod SearchedLists
+pub mod Giving

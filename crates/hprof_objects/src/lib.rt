@@ -5,10 +5,15 @@
 //!
 //! [`StoredObjects::pick`] gives a few objects by their identifiers. While a stretch that stays in its part is read, it is divided into
 //! cuts: a [`Cut`] begins in some piece of the part, and its first and last identifier are kept. If one stretch has all objects, `pick`
-//! reads only cuts in whose range a wanted identifier is. Otherwise it reads all objects.
+//! reads only cuts in whose range a wanted identifier is. Otherwise it reads all objects. Where it is known that no identifier has two
+//! contents, [`StoredObjects::pick_agreed`] reads only such cuts of all stretches, and of the runs in scratch.
 #![tactic(auto)]
 
+mod any_cut;
 mod cut;
+mod cut_reader;
+mod dividing;
+mod giving;
 mod growing;
 mod identifying;
 mod keeping;
@@ -20,8 +25,11 @@ mod object_stop;
 mod open_cut;
 mod opening;
 mod picking;
+mod picking_agreed;
 mod picking_sink;
 mod row_store;
+mod searched;
+mod seeking;
 mod stored_objects;
 mod stretch;
 mod stretch_cursor;

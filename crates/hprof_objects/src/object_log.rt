@@ -149,8 +149,7 @@ impl<S: Scratch + Drop> ObjectLog<S> {
         self.piece = piece_at(place);
     }
 
-    /// Ends the growing stretch, if there is one, and returns the objects as they are stored. Those in memory are sorted, as `Rows::sort`
-    /// does it.
+    /// Ends the growing stretch, if there is one, and returns the objects as they are stored. Those in memory are sorted.
     pub fn finish(self) -> StoredObjects<S>
         ensures holds { (limits : Limits) (parts : List PartRead) → HoldsParts S.written S.health limits parts self
             → HoldsObjects S.written S.health limits parts result }

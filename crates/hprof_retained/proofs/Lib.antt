@@ -1,3 +1,4 @@
+pub mod KeptFound
 pub mod StrongGraph
 pub mod HeapTree
 pub mod SizeFound

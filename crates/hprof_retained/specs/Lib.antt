@@ -4,3 +4,4 @@ pub mod Weakly
 pub mod Border
 pub mod Sizing
 pub mod WeaklyTaken
+pub mod KeptReferences

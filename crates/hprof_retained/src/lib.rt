@@ -6,6 +6,7 @@
 
 mod beyond;
 mod border;
+mod kept_references;
 pub mod laws;
 mod making;
 mod retained;
@@ -16,6 +17,7 @@ mod weakly_over;
 mod weakly_sink;
 
 pub use beyond::weakly_held;
+pub use kept_references::KeptReferences;
 pub use making::{retained_of, retained_over};
 pub use retained::Retained;
 pub use sizes::{bytes_of_dump, size_of_node};

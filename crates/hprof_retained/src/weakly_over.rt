@@ -10,17 +10,18 @@ ghost use Rattle.hprof_dominators.specs.Dominating.{IsReached};
 ghost use Rattle.hprof_passes.specs.Finding.{Finds};
 ghost use Rattle.hprof_reach.specs.Nodes.{IsClassNode};
 ghost use Rattle.hprof_reach.specs.Reaching.{IsReach, IsStart, IsStepBy};
+ghost use Rattle.hprof_retained.specs.KeptReferences.{AreKeptReferences};
 ghost use Rattle.hprof_retained.specs.Tree.{IsTreeOf, place_of};
 ghost use Rattle.hprof_retained.specs.Weakly.{AreWeaklyHeld};
 
 use crate::border::push_classes;
+use crate::kept_references::KeptReferences;
 use crate::retained::Retained;
 use crate::weakly::WeaklyHeld;
 use crate::weakly_sink::WeaklySink;
-use hprof_edges::LeftOut;
 use hprof_heap::{Heap, holds_of_heap};
 use hprof_passes::{Objects, PassStop};
-use hprof_reach::{Reach, reach_over, sort_once};
+use hprof_reach::{Reach, sort_once};
 use std::alloc::{AllocError, Global};
 
 /// Appends a node if a search reached it.
@@ -89,7 +90,7 @@ fn all_weakly(
 /// Returns the classes and objects that only weak references reach, of those that objects make up with a heap, as
 /// [`weakly_held`](crate::weakly_held) does. `retained` is the tree of dominators by strong references. The heap has all facts but objects.
 ///
-/// The objects are gone through three times.
+/// The objects are gone through once, and twice before if the search by references of any kind is not kept.
 ///
 /// # Errors
 ///
@@ -99,16 +100,21 @@ pub fn weakly_held_over<O: Objects>(
     alloc: Global,
     heap: &Heap,
     objects: &O,
+    references: &mut KeptReferences,
     retained: &Retained,
 ) -> Result<WeaklyHeld, PassStop<AllocError, O::Fault>>
-    requires { (all : List FactValue) → O.make_up objects.now (size_of heap.now) (facts_of heap.now) all
+    requires references { AreKeptReferences (O.make_up objects.now (size_of heap.now) (facts_of heap.now))
+        (O.agree objects.now (size_of heap.now) (facts_of heap.now)) (size_of heap.now) references.old }
+    requires tree { (all : List FactValue) → O.make_up objects.now (size_of heap.now) (facts_of heap.now) all
         → IsTreeOf (size_of heap.now) all retained.now }
-    ensures { Finds (O.make_up objects.now (size_of heap.now) (facts_of heap.now))
+    ensures held { Finds (O.make_up objects.now (size_of heap.now) (facts_of heap.now))
         (O.agree objects.now (size_of heap.now) (facts_of heap.now))
         (O.tells objects.now (size_of heap.now) (facts_of heap.now)) (λ all. AreWeaklyHeld (size_of heap.now) all) result }
+    ensures references { AreKeptReferences (O.make_up objects.now (size_of heap.now) (facts_of heap.now))
+        (O.agree objects.now (size_of heap.now) (facts_of heap.now)) (size_of heap.now) references.new }
 {
     holds_of_heap(heap);
-    let reach = match reach_over(alloc, heap, objects, &LeftOut::none(alloc)) {
+    let reach = match references.take_all(alloc, heap, objects) {
         Ok(reach) => reach,
         Err(stop) => return Err(stop),
     };
@@ -117,7 +123,9 @@ pub fn weakly_held_over<O: Objects>(
         Ok(()) => {}
         Err(stop) => return Err(stop),
     }
-    match all_weakly(alloc, heap, retained, &reach, sink) {
+    let weakly = all_weakly(alloc, heap, retained, &reach, sink);
+    references.keep_all(reach);
+    match weakly {
         Ok(weakly) => Ok(weakly),
         Err(fault) => Err(PassStop::Sink(fault)),
     }

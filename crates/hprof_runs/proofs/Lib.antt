@@ -1,5 +1,9 @@
+pub mod TwoPieces
+pub mod CutRows
 pub mod Lying
+pub mod Lengths
 pub mod Picked
+pub mod Found
 pub mod Sending
 pub mod Spelled
 pub mod PickedCursors

@@ -1,4 +1,5 @@
 pub mod Places
+pub mod Ahead
 pub mod RowsIn
 pub mod Picked
 pub mod Other
@@ -11,6 +12,7 @@ pub mod Spelling
 pub mod ScratchFault
 pub mod ScratchWriter
 pub mod RunOf
+pub mod RunCuts
 pub mod Runs
 pub mod RunFault
 pub mod RunBytes

@@ -2,7 +2,7 @@
 
 ghost use Rattle.std.specs.Prelude.{◌≡◌, ◌≤◌, ◌↔◌, length, IsTrue, IfOk, OnOk, IfErr};
 ghost use Rattle.std.specs.Option.{ForSome};
-ghost use Rattle.hprof_runs.specs.Spelling.{spelled_key, spelled_len};
+ghost use Rattle.hprof_runs.specs.Spelling.{spelled_content, spelled_key, spelled_len};
 
 use crate::run_bytes::RunBytes;
 use crate::run_fault::RunFault;
@@ -18,7 +18,7 @@ pub(crate) struct Header {
 }
 
 /// The number of bytes of a header.
-const HEADER_BYTES: usize = 12;
+pub(crate) const HEADER_BYTES: usize = 12;
 
 /// Returns the header that bytes begin with.
 #[inline(always)]
@@ -37,6 +37,19 @@ fn first_header(bytes: &[u8]) -> Header
         key: u64::from_be_bytes(*key),
         len: u32::from_be_bytes(*len),
     }
+}
+
+/// Returns the bytes of the row that bytes begin with, or as many of them as there are.
+#[inline(always)]
+pub(crate) fn first_content(bytes: &[u8]) -> &[u8]
+    ensures { result.now ≡ spelled_content bytes.now }
+{
+    if bytes.len() < HEADER_BYTES {
+        return &[];
+    }
+    let header = first_header(bytes);
+    let rest = &bytes[HEADER_BYTES..];
+    rest.get(..header.len as usize).unwrap_or(rest)
 }
 
 impl Header {

@@ -4,6 +4,8 @@
 //! Begin with [`Rows`], which takes rows in any order, and [`Runs`].
 #![tactic(auto)]
 
+mod ahead;
+mod cutting;
 mod file_scratch;
 mod firsts;
 mod header;
@@ -17,6 +19,7 @@ mod rows;
 mod run;
 mod run_bytes;
 mod run_cursor;
+mod run_cut;
 mod run_fault;
 mod run_writing;
 mod runs;
@@ -24,6 +27,7 @@ mod scratch;
 mod scratch_fault;
 mod scratch_writer;
 mod sorted_rows;
+mod spelling;
 
 pub use file_scratch::FileScratch;
 pub use firsts::Firsts;
@@ -33,6 +37,7 @@ pub use opening::{AnyRows, open_all};
 pub use others::Others;
 pub use rows::Rows;
 pub use run_cursor::RunCursor;
+pub use run_cut::RunCut;
 pub use run_fault::RunFault;
 pub use runs::Runs;
 pub use scratch::Scratch;

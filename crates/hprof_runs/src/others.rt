@@ -1,9 +1,9 @@
 //! One more row of each key with two contents.
 
-ghost use Rattle.std.specs.Prelude.{◌≡◌, drop, take, ⊤};
-ghost use Rattle.hprof_runs.specs.Other.{content_at, others_from};
+ghost use Rattle.std.specs.Prelude.{◌≡◌, ⊤};
+ghost use Rattle.hprof_runs.specs.Other.{others_from, some_content};
 ghost use Rattle.hprof_runs.specs.Picked.{differs_from, others_behind, others_of};
-ghost use Rattle.hprof_runs.specs.Places.{rows_lying};
+ghost use Rattle.hprof_runs.specs.Places.{content_at, rows_lying};
 
 use crate::place::{Place, bytes_at};
 use hprof_merge::{AscendingCursor, RowCursor};
@@ -19,7 +19,7 @@ pub struct Others<'a> {
 
 /// Returns whether there is a content, and the bytes at a place differ from it.
 fn differs(bytes: &[u8], content: Option<Place>, place: Place) -> bool
-    ensures { result ≡ differs_from (content_at bytes.now content) (take place.len (drop place.at bytes.now)) }
+    ensures { result ≡ differs_from (some_content bytes.now content) (content_at bytes.now place) }
 {
     match content {
         Some(first) => bytes_at(bytes, first) != bytes_at(bytes, place),
@@ -36,7 +36,7 @@ fn next_other<'a>(
     mut content: Option<Place>,
 ) -> (Option<Place>, &'a [Place])
     ensures { others_from bytes.now result.0 result.1.now
-        ≡ others_behind key (content_at bytes.now content) (rows_lying bytes.now places.now) }
+        ≡ others_behind key (some_content bytes.now content) (rows_lying bytes.now places.now) }
 {
     let mut rest = places;
     while let Some((place, behind)) = rest.split_first() {
@@ -45,7 +45,7 @@ fn next_other<'a>(
             key = place.key;
             content = Some(*place);
         } else if differs(bytes, content, *place) {
-            return (Some(Place::new(key, place.at, place.len)), rest);
+            return (Some(Place::new(key, place.at)), rest);
         }
     }
     (None, rest)

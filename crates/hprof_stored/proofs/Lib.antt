@@ -31,3 +31,4 @@ mod Saved
 mod SavedHeaps
 mod SalvageAgain
 mod PickedPass
+mod OneContent

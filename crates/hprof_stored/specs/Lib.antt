@@ -10,6 +10,8 @@ pub mod Dumping
 pub mod RowDecoder
 pub mod ObjectCounter
 pub mod InParts
+pub mod Agreed
+pub mod AgreedUnder
 pub mod StoredMaking
 pub mod SavedParts
 pub mod SalvagingStored

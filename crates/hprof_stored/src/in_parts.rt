@@ -54,6 +54,41 @@ fn pass_stop<E>(stop: ObjectStop<RowRefusal<E>>) -> PassStop<E, PassFault>
     }
 }
 
+impl<S: Scratch + Drop, P: Parts> InParts<'_, S, P> {
+    ghost use Rattle.std.specs.Prelude.{List, IfErr};
+    ghost use Rattle.std.specs.List.Sorted.{IsStrictlyIncreasing};
+    ghost use Rattle.hprof_items.specs.FactValue.{FactValue};
+    ghost use Rattle.hprof_heap.specs.HeapFacts.{facts_of, size_of};
+    ghost use Rattle.hprof_passes.specs.Passing.{IfLost, Passes, objects_among};
+    ghost use Rattle.hprof_passes.specs.Picked.{picked};
+    ghost use Rattle.hprof_stored.specs.InParts.{HaveUnion, MakeUp, TellsPass};
+
+    /// Gives a sink those of the objects whose identifiers are wanted, as `pick` does. No identifier has two contents.
+    pub(crate) fn pick_agreed<T: ObjectSink>(
+        &self,
+        alloc: Global,
+        heap: &Heap,
+        wanted: &[u64],
+        sink: &mut T,
+    ) -> Result<(), PassStop<T::Fault, PassFault>>
+        requires agree { HaveUnion S.written S.health P.bytes self.now }
+        requires ascend { IsStrictlyIncreasing wanted.now }
+        ensures given { (all : List FactValue) → MakeUp S.written S.health P.bytes self.now (size_of heap.now) (facts_of heap.now) all
+            → Passes T.takes T.refuses (size_of heap.now) (picked wanted.now (objects_among all)) result sink.old sink.new }
+        ensures tells { IfErr result (IfLost (TellsPass S.written S.health P.bytes S.unreadable self.now (size_of heap.now)
+            (facts_of heap.now))) }
+    {
+        let mut rows = RowDecoder::new(id_size(heap), sink);
+        match self
+            .objects
+            .pick_agreed(alloc, self.parts, self.limits, wanted, &mut rows)
+        {
+            Ok(()) => Ok(()),
+            Err(stop) => Err(pass_stop(stop)),
+        }
+    }
+}
+
 impl<S: Scratch + Drop, P: Parts> Objects for InParts<'_, S, P> {
     ghost use Rattle.hprof_stored.specs.InParts.{HaveUnion, MakeUp, TellsPass};
 

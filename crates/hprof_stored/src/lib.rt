@@ -4,6 +4,7 @@
 //! Begin with [`join_stored`] or [`salvage_stored`], or with [`read_stored`] and [`InParts`].
 #![tactic(auto)]
 
+mod agreed;
 mod dumping;
 mod finding;
 mod in_parts;
@@ -24,6 +25,7 @@ mod stored_sink;
 mod sub_buffer;
 mod watched_sink;
 
+pub use agreed::Agreed;
 pub use dumping::{write_front, write_stored_dump};
 pub use finding::find_conflict;
 pub use in_parts::InParts;

@@ -4,6 +4,7 @@ ghost use Rattle.std.specs.Prelude.{List, All, IfOk};
 ghost use Rattle.hprof_items.specs.FactValue.{FactValue};
 ghost use Rattle.hprof_heap.specs.HeapFacts.{facts_of, size_of};
 ghost use Rattle.hprof_passes.specs.Finding.{Finds};
+ghost use Rattle.hprof_retained.specs.KeptReferences.{AreKeptReferences};
 ghost use Rattle.hprof_retained.specs.Retained.{IsSumOver};
 ghost use Rattle.hprof_retained.specs.Tree.{IsTreeOf};
 ghost use Rattle.hprof_retained.specs.Weakly.{IsWeaklyHeld};
@@ -18,8 +19,7 @@ use hprof_heap::Heap;
 use hprof_keeps::{WeakSum, sum_in};
 use hprof_naming::ClassNames;
 use hprof_passes::{Objects, PassStop};
-use hprof_retained::{Retained, retained_over, weakly_held_over};
-use hprof_weak::weak_fields_over;
+use hprof_retained::{KeptReferences, Retained, weakly_held_over};
 use std::alloc::{AllocError, Global};
 
 /// All that the report is written from but the words for nodes.
@@ -35,37 +35,25 @@ pub(crate) struct FoundOut {
     pub(crate) told: Vec<Told>,
 }
 
-/// Returns the tree of dominators of the strong references that objects make up with a heap.
-fn tree_by_passes<O: Objects>(
-    alloc: Global,
-    heap: &Heap,
-    objects: &O,
-) -> Result<Retained, PassStop<AllocError, O::Fault>>
-    ensures { Finds (O.make_up objects.now (size_of heap.now) (facts_of heap.now))
-        (O.agree objects.now (size_of heap.now) (facts_of heap.now)) (O.tells objects.now (size_of heap.now) (facts_of heap.now))
-        (λ all. IsTreeOf (size_of heap.now) all) result }
-{
-    let weak = match weak_fields_over(alloc, heap, objects) {
-        Ok(weak) => weak,
-        Err(stop) => return Err(stop),
-    };
-    retained_over(alloc, heap, objects, &weak)
-}
-
 /// Adds up the nodes that objects make up with a heap and that only weak references reach.
 fn weak_sum_over<O: Objects>(
     alloc: Global,
     heap: &Heap,
     objects: &O,
+    references: &mut KeptReferences,
     retained: &Retained,
 ) -> Result<WeakSum, PassStop<AllocError, O::Fault>>
-    requires { (all : List FactValue) → O.make_up objects.now (size_of heap.now) (facts_of heap.now) all
+    requires references { AreKeptReferences (O.make_up objects.now (size_of heap.now) (facts_of heap.now))
+        (O.agree objects.now (size_of heap.now) (facts_of heap.now)) (size_of heap.now) references.old }
+    requires tree { (all : List FactValue) → O.make_up objects.now (size_of heap.now) (facts_of heap.now) all
         → IsTreeOf (size_of heap.now) all retained.now }
-    ensures { Finds (O.make_up objects.now (size_of heap.now) (facts_of heap.now))
+    ensures sum { Finds (O.make_up objects.now (size_of heap.now) (facts_of heap.now))
         (O.agree objects.now (size_of heap.now) (facts_of heap.now)) (O.tells objects.now (size_of heap.now) (facts_of heap.now))
         (λ all sum. IsSumOver (size_of heap.now) all (IsWeaklyHeld (size_of heap.now) all) (sum_of sum)) result }
+    ensures references { AreKeptReferences (O.make_up objects.now (size_of heap.now) (facts_of heap.now))
+        (O.agree objects.now (size_of heap.now) (facts_of heap.now)) (size_of heap.now) references.new }
 {
-    match weakly_held_over(alloc, heap, objects, retained) {
+    match weakly_held_over(alloc, heap, objects, references, retained) {
         Ok(weakly) => Ok(sum_in(&weakly)),
         Err(stop) => Err(stop),
     }
@@ -114,22 +102,27 @@ fn told_over<O: Objects>(
 ///
 /// # Errors
 ///
-/// Those of `weak_fields_over`, `retained_over`, `weakly_held_over`, `labels_over` and `small_heap`.
+/// Those of `take_retained`, `weakly_held_over`, `labels_over` and `small_heap`.
 pub(crate) fn found_out_over<O: Objects>(
     alloc: Global,
     heap: &Heap,
     objects: &O,
+    references: &mut KeptReferences,
 ) -> Result<FoundOut, PassStop<AllocError, O::Fault>>
+    requires references { AreKeptReferences (O.make_up objects.now (size_of heap.now) (facts_of heap.now))
+        (O.agree objects.now (size_of heap.now) (facts_of heap.now)) (size_of heap.now) references.old }
     ensures fit { IfOk result (λ found. All (Fits found.retained) found.told.items) }
     ensures found { Finds (O.make_up objects.now (size_of heap.now) (facts_of heap.now))
         (O.agree objects.now (size_of heap.now) (facts_of heap.now)) (O.tells objects.now (size_of heap.now) (facts_of heap.now))
         (λ all. AreFoundOut (size_of heap.now) all) result }
+    ensures references { AreKeptReferences (O.make_up objects.now (size_of heap.now) (facts_of heap.now))
+        (O.agree objects.now (size_of heap.now) (facts_of heap.now)) (size_of heap.now) references.new }
 {
-    let retained = match tree_by_passes(alloc, heap, objects) {
+    let retained = match references.take_retained(alloc, heap, objects) {
         Ok(retained) => retained,
         Err(stop) => return Err(stop),
     };
-    let weakly = match weak_sum_over(alloc, heap, objects, &retained) {
+    let weakly = match weak_sum_over(alloc, heap, objects, references, &retained) {
         Ok(weakly) => weakly,
         Err(stop) => return Err(stop),
     };

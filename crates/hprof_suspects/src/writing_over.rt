@@ -1,15 +1,17 @@
 //! The report `suspects` by passes over objects.
 
-ghost use Rattle.std.specs.Prelude.{◌≡◌, All, IfOk, string_bytes};
+ghost use Rattle.std.specs.Prelude.{◌≡◌, List, All, IfOk, string_bytes};
+ghost use Rattle.hprof_items.specs.FactValue.{FactValue};
 ghost use Rattle.hprof_devices.specs.declared.health.Health.TheVariants.{Well};
 ghost use Rattle.hprof_heap.specs.HeapFacts.{facts_of, size_of};
 ghost use Rattle.hprof_describe.specs.Findings.{AreFindings, Findings};
 ghost use Rattle.hprof_lines.specs.Passed.{EndsPassed};
 ghost use Rattle.hprof_lines.specs.Stopping.{LeavesTarget, WritesText};
 ghost use Rattle.hprof_passes.specs.Finding.{Finds};
+ghost use Rattle.hprof_retained.specs.KeptReferences.{AreKeptReferences};
 ghost use Rattle.hprof_suspects.specs.SuspectsText.{IsSuspectsText};
 ghost use Rattle.hprof_suspects.specs.Told.{Fits, report_text};
-ghost use Rattle.hprof_suspects.specs.ToldHeaps.{IsToldHeap, named_nodes};
+ghost use Rattle.hprof_suspects.specs.ToldHeaps.{AreFoundOut, IsToldHeap, named_nodes};
 
 use crate::found_out::{FoundOut, found_out_over};
 use crate::named::nodes_named;
@@ -20,6 +22,7 @@ use hprof_heap::Heap;
 use hprof_lines::{stop_of_pass, write_line};
 use hprof_naming::ClassNames;
 use hprof_passes::{Objects, PassStop};
+use hprof_retained::KeptReferences;
 use hprof_words::words_heap;
 use std::alloc::{AllocError, Global};
 
@@ -81,9 +84,40 @@ fn write_found<W: Target>(
     write_line(text, target)
 }
 
+/// Writes the report from all that it is written from but the words for nodes.
+///
+/// # Errors
+///
+/// Those of [`write_suspects_over`].
+fn write_from_found<O: Objects, W: Target>(
+    alloc: Global,
+    heap: &Heap,
+    objects: &O,
+    found: &FoundOut,
+    target: &mut W,
+) -> Result<(), PassStop<WriteStop, O::Fault>>
+    requires agree { O.agree objects.now (size_of heap.now) (facts_of heap.now) }
+    requires found { (all : List FactValue) → O.make_up objects.now (size_of heap.now) (facts_of heap.now) all
+        → AreFoundOut (size_of heap.now) all found.now }
+    requires fit { All (Fits found.now.retained) found.now.told.items }
+    requires well { W.health target.old ≡ Well }
+    ensures { EndsPassed (O.make_up objects.now (size_of heap.now) (facts_of heap.now))
+        (O.agree objects.now (size_of heap.now) (facts_of heap.now)) (O.tells objects.now (size_of heap.now) (facts_of heap.now))
+        (λ all. IsSuspectsText (size_of heap.now) all) W.written W.health target.old target.new result }
+{
+    let small = match told_heap(alloc, heap, objects, found) {
+        Ok(small) => small,
+        Err(stop) => return Err(stop_of_pass(stop)),
+    };
+    match write_found(alloc, &small, found, target) {
+        Ok(()) => Ok(()),
+        Err(stop) => Err(PassStop::Sink(stop)),
+    }
+}
+
 /// Writes the report `suspects`, as [`write_suspects`](crate::write_suspects) does. The heap has all facts but the objects, which are gone
-/// through seven or eight times; some are picked, two to four times. Memory holds the identifiers of all nodes, the numbers of what each
-/// refers to, and the tree of dominators; and of the objects only these:
+/// through seven or eight times if nothing is kept; some are picked, two to four times. Memory holds the identifiers of all nodes, the
+/// numbers of what each refers to, and the tree of dominators; and of the objects only these:
 ///
 /// - the instances of `java.lang.Class`;
 /// - the suspects and the objects above them;
@@ -97,23 +131,24 @@ pub fn write_suspects_over<O: Objects, W: Target>(
     alloc: Global,
     heap: &Heap,
     objects: &O,
+    references: &mut KeptReferences,
     target: &mut W,
 ) -> Result<(), PassStop<WriteStop, O::Fault>>
-    requires { W.health target.old ≡ Well }
-    ensures { EndsPassed (O.make_up objects.now (size_of heap.now) (facts_of heap.now))
+    requires references { AreKeptReferences (O.make_up objects.now (size_of heap.now) (facts_of heap.now))
+        (O.agree objects.now (size_of heap.now) (facts_of heap.now)) (size_of heap.now) references.old }
+    requires well { W.health target.old ≡ Well }
+    ensures ends { EndsPassed (O.make_up objects.now (size_of heap.now) (facts_of heap.now))
         (O.agree objects.now (size_of heap.now) (facts_of heap.now)) (O.tells objects.now (size_of heap.now) (facts_of heap.now))
         (λ all. IsSuspectsText (size_of heap.now) all) W.written W.health target.old target.new result }
+    ensures references { AreKeptReferences (O.make_up objects.now (size_of heap.now) (facts_of heap.now))
+        (O.agree objects.now (size_of heap.now) (facts_of heap.now)) (size_of heap.now) references.new }
 {
-    let found = match found_out_over(alloc, heap, objects) {
+    let found = match found_out_over(alloc, heap, objects, references) {
         Ok(found) => found,
         Err(stop) => return Err(stop_of_pass(stop)),
     };
-    let small = match told_heap(alloc, heap, objects, &found) {
-        Ok(small) => small,
-        Err(stop) => return Err(stop_of_pass(stop)),
-    };
-    match write_found(alloc, &small, &found, target) {
-        Ok(()) => Ok(()),
-        Err(stop) => Err(PassStop::Sink(stop)),
-    }
+    let outcome = write_from_found(alloc, heap, objects, &found, target);
+    let FoundOut { retained, .. } = found;
+    references.keep_retained(retained);
+    outcome
 }

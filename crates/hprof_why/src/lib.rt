@@ -8,6 +8,7 @@ mod fronts;
 pub mod laws;
 mod parts;
 mod path;
+mod path_over;
 mod reached;
 mod told_path;
 mod walk;
@@ -15,5 +16,6 @@ mod why_objects;
 mod why_over;
 mod why_report;
 
+pub use path_over::write_path_over;
 pub use why_over::write_why_over;
 pub use why_report::write_why;

@@ -7,6 +7,7 @@ ghost use Rattle.hprof_edges.specs.LeftOut.{IsKept, IsLeftOut, fields_in};
 ghost use Rattle.hprof_heap.specs.HeapFacts.{facts_of, size_of};
 ghost use Rattle.hprof_passes.specs.Finding.{Finds};
 ghost use Rattle.hprof_reach.specs.Reaching.{IsReach, IsReachBy};
+ghost use Rattle.hprof_retained.specs.KeptReferences.{AreKeptReferences};
 ghost use Rattle.hprof_weak.specs.Weak.{IsWeak};
 ghost use Rattle.hprof_why.specs.Paths.{IsReached, IsWithoutStrong};
 
@@ -14,8 +15,8 @@ use crate::path::{Path, path_by_all, path_to};
 use hprof_edges::LeftOut;
 use hprof_heap::Heap;
 use hprof_passes::{Objects, PassStop};
-use hprof_reach::{Reach, reach_over};
-use hprof_weak::weak_fields_over;
+use hprof_reach::Reach;
+use hprof_retained::KeptReferences;
 use std::alloc::{AllocError, Global};
 
 /// How an identifier is reached from GC roots.
@@ -82,18 +83,24 @@ fn reached_without_strong_over<O: Objects>(
     alloc: Global,
     heap: &Heap,
     objects: &O,
+    references: &mut KeptReferences,
     id: u64,
 ) -> Result<Reached, PassStop<AllocError, O::Fault>>
-    ensures { Finds (O.make_up objects.now (size_of heap.now) (facts_of heap.now))
+    requires references { AreKeptReferences (O.make_up objects.now (size_of heap.now) (facts_of heap.now))
+        (O.agree objects.now (size_of heap.now) (facts_of heap.now)) (size_of heap.now) references.old }
+    ensures reached { Finds (O.make_up objects.now (size_of heap.now) (facts_of heap.now))
         (O.agree objects.now (size_of heap.now) (facts_of heap.now)) (O.tells objects.now (size_of heap.now) (facts_of heap.now))
         (λ all. IsWithoutStrong (size_of heap.now) all id) result }
+    ensures references { AreKeptReferences (O.make_up objects.now (size_of heap.now) (facts_of heap.now))
+        (O.agree objects.now (size_of heap.now) (facts_of heap.now)) (size_of heap.now) references.new }
 {
-    let none = LeftOut::none(alloc);
-    let all = match reach_over(alloc, heap, objects, &none) {
+    let all = match references.take_all(alloc, heap, objects) {
         Ok(all) => all,
         Err(stop) => return Err(stop),
     };
-    match path_to(alloc, &all, id) {
+    let path = path_to(alloc, &all, id);
+    references.keep_all(all);
+    match path {
         Ok(Some(path)) => Ok(Reached::Weakly(path)),
         Ok(None) => Ok(Reached::Nowise),
         Err(fault) => Err(PassStop::Sink(fault)),
@@ -101,7 +108,7 @@ fn reached_without_strong_over<O: Objects>(
 }
 
 /// Returns how an identifier is reached by the edges that objects make up with a heap. The heap has all facts but the objects, which are
-/// gone through two to five times.
+/// gone through two to five times if no search is kept.
 ///
 /// # Errors
 ///
@@ -110,26 +117,26 @@ pub(crate) fn reached_over<O: Objects>(
     alloc: Global,
     heap: &Heap,
     objects: &O,
+    references: &mut KeptReferences,
     id: u64,
 ) -> Result<Reached, PassStop<AllocError, O::Fault>>
-    ensures { Finds (O.make_up objects.now (size_of heap.now) (facts_of heap.now))
+    requires references { AreKeptReferences (O.make_up objects.now (size_of heap.now) (facts_of heap.now))
+        (O.agree objects.now (size_of heap.now) (facts_of heap.now)) (size_of heap.now) references.old }
+    ensures reached { Finds (O.make_up objects.now (size_of heap.now) (facts_of heap.now))
         (O.agree objects.now (size_of heap.now) (facts_of heap.now)) (O.tells objects.now (size_of heap.now) (facts_of heap.now))
         (λ all. IsReached (size_of heap.now) all id) result }
+    ensures references { AreKeptReferences (O.make_up objects.now (size_of heap.now) (facts_of heap.now))
+        (O.agree objects.now (size_of heap.now) (facts_of heap.now)) (size_of heap.now) references.new }
 {
-    let weak = match weak_fields_over(alloc, heap, objects) {
-        Ok(weak) => weak,
-        Err(stop) => return Err(stop),
-    };
-    let strong = match reach_over(alloc, heap, objects, &weak) {
+    let strong = match references.take_strong(alloc, heap, objects) {
         Ok(strong) => strong,
         Err(stop) => return Err(stop),
     };
-    match path_to(alloc, &strong, id) {
+    let path = path_to(alloc, &strong, id);
+    references.keep_strong(strong);
+    match path {
         Ok(Some(path)) => Ok(Reached::Strongly(path)),
-        Ok(None) => {
-            drop(strong);
-            reached_without_strong_over(alloc, heap, objects, id)
-        }
+        Ok(None) => reached_without_strong_over(alloc, heap, objects, references, id),
         Err(fault) => Err(PassStop::Sink(fault)),
     }
 }

@@ -6,6 +6,7 @@ ghost use Rattle.hprof_heap.specs.HeapFacts.{facts_of, size_of};
 ghost use Rattle.hprof_lines.specs.Passed.{EndsPassed};
 ghost use Rattle.hprof_lines.specs.Stopping.{LeavesTarget, WritesText};
 ghost use Rattle.hprof_passes.specs.Finding.{Finds};
+ghost use Rattle.hprof_retained.specs.KeptReferences.{AreKeptReferences};
 ghost use Rattle.hprof_why.specs.Paths.{TellsFound};
 ghost use Rattle.hprof_why.specs.WhyObjects.{IsWhyHeap, path_nodes};
 ghost use Rattle.hprof_why.specs.WhyText.{ArePathFindings, IsWhyText, PathFindings};
@@ -19,6 +20,7 @@ use hprof_heap::Heap;
 use hprof_holders::HeapTables;
 use hprof_lines::stop_of_pass;
 use hprof_passes::{Objects, PassStop};
+use hprof_retained::KeptReferences;
 use hprof_words::words_heap;
 use std::alloc::{AllocError, Global};
 
@@ -63,8 +65,8 @@ fn write_in_memory<W: Target>(
 }
 
 /// Writes the report `why` on an identifier, as [`write_why`](crate::write_why) does. The heap has all facts but the objects, which are
-/// gone through two to five times; then some are picked, one to three times. Memory holds the identifiers of all nodes and the numbers of
-/// what each refers to, and then, of the objects, only these:
+/// gone through two to five times if no search is kept; then some are picked, one to three times. Memory holds the identifiers of all nodes
+/// and the numbers of what each refers to, and then, of the objects, only these:
 ///
 /// - the object itself, and those on the path;
 /// - those of the threads of the roots of the first one;
@@ -78,15 +80,20 @@ pub fn write_why_over<O: Objects, W: Target>(
     alloc: Global,
     heap: &Heap,
     objects: &O,
+    references: &mut KeptReferences,
     id: u64,
     target: &mut W,
 ) -> Result<(), PassStop<WriteStop, O::Fault>>
-    requires { W.health target.old ≡ Well }
-    ensures { EndsPassed (O.make_up objects.now (size_of heap.now) (facts_of heap.now))
+    requires references { AreKeptReferences (O.make_up objects.now (size_of heap.now) (facts_of heap.now))
+        (O.agree objects.now (size_of heap.now) (facts_of heap.now)) (size_of heap.now) references.old }
+    requires well { W.health target.old ≡ Well }
+    ensures ends { EndsPassed (O.make_up objects.now (size_of heap.now) (facts_of heap.now))
         (O.agree objects.now (size_of heap.now) (facts_of heap.now)) (O.tells objects.now (size_of heap.now) (facts_of heap.now))
         (λ all. IsWhyText (size_of heap.now) all id) W.written W.health target.old target.new result }
+    ensures references { AreKeptReferences (O.make_up objects.now (size_of heap.now) (facts_of heap.now))
+        (O.agree objects.now (size_of heap.now) (facts_of heap.now)) (size_of heap.now) references.new }
 {
-    let reached = match reached_over(alloc, heap, objects, id) {
+    let reached = match reached_over(alloc, heap, objects, references, id) {
         Ok(reached) => reached,
         Err(stop) => return Err(stop_of_pass(stop)),
     };

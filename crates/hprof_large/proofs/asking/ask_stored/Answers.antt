@@ -8,6 +8,7 @@ use Rattle.hprof_engine.specs.declared.tool_fault.ToolFault.{ToolFault}
 use Rattle.hprof_engine.specs.Joining.{AreReadOut, Tell}
 use Rattle.hprof_engine.specs.Summaries.{AreSummaries, HoldsFirst}
 use Rattle.hprof_engine.proofs.Answers.{summaries_held}
+use Rattle.hprof_retained.proofs.KeptFound.{nothing_kept}
 use Rattle.hprof_stored.specs.InParts.{HaveUnion, MakeUp, TellsPass}
 use Rattle.hprof_stored.specs.Storing.{HaveObject}
 use Rattle.hprof_stored.proofs.StoredReads.{some_readers}
@@ -121,6 +122,17 @@ converse-requires-clause-leave g c = λ bytes is after consumes lines opened all
     (TellsPass g.S.Target.written g.S.Target.health g.P.Parts.bytes g.S.Scratch.unreadable it (size_of stored.heap) (facts_of stored.heap))
     told (parts_of g then told tell) c.read_stored.new.kept.items (summaries_of g then told tell) bytes
     (g.W.Target.written c.args.target.now) (g.W.Target.written after) all whole agree summaries are) flushes
+
+-- nothing is kept yet
+pub converse-requires-clause-kept : goal.converse-requires-clause-kept
+converse-requires-clause-kept g c =
+    let heap = c.in-Ok-read_stored.stored.heap in
+    let it = c.new-objects.result in (
+      λ whole is. c.new-kept.ensures.texts c.read_stored.new.kept.items whole.ids whole.facts,
+      nothing_kept (MakeUp g.S.Target.written g.S.Target.health g.P.Parts.bytes it (size_of heap) (facts_of heap))
+          (HaveUnion g.S.Target.written g.S.Target.health g.P.Parts.bytes it) (size_of heap) c.new-kept.result.references
+          c.new-kept.ensures.references,
+    )
 
 -- the dialogue came to its end
 pub returns-in-Ok-converse-clause-asks : goal.returns-in-Ok-converse-clause-asks

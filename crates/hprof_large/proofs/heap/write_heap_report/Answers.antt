@@ -9,8 +9,8 @@ use Rattle.hprof_ask.specs.Report.{IsHeapReport}
 use Rattle.hprof_large.proofs.FewerMade.{passed_fewer}
 use Rattle.hprof_large.proofs.heap.write_heap_report.Goals as goal
 
-pub returns-in-Check : goal.returns-in-Check
-returns-in-Check g c =
+pub returns-in-Check-clause-ends : goal.returns-in-Check-clause-ends
+returns-in-Check-clause-ends g c =
     let ids = size_of c.args.heap.now in
     let facts = facts_of c.args.heap.now in
     let objects = c.args.objects.now in
@@ -24,8 +24,8 @@ returns-in-Check g c =
     (passed_fewer MakeUp Made agree tells (IsText heaps.Check) g.W.Target.written g.W.Target.health c.args.target.now
     c.write_check.new.target (λ all made. made.0) c.write_check.result c.write_check.ensures)
 
-pub returns-in-Histogram : goal.returns-in-Histogram
-returns-in-Histogram g c =
+pub returns-in-Histogram-clause-ends : goal.returns-in-Histogram-clause-ends
+returns-in-Histogram-clause-ends g c =
     let ids = size_of c.args.heap.now in
     let facts = facts_of c.args.heap.now in
     let objects = c.args.objects.now in
@@ -38,8 +38,8 @@ returns-in-Histogram g c =
     c.write_histogram_over.new.target c.write_histogram_over.result) (sym c.in-Histogram.is)
     c.write_histogram_over.ensures
 
-pub returns-in-Classes : goal.returns-in-Classes
-returns-in-Classes g c =
+pub returns-in-Classes-clause-ends : goal.returns-in-Classes-clause-ends
+returns-in-Classes-clause-ends g c =
     let ids = size_of c.args.heap.now in
     let facts = facts_of c.args.heap.now in
     let objects = c.args.objects.now in
@@ -52,8 +52,8 @@ returns-in-Classes g c =
     c.write_classes_over.new.target c.write_classes_over.result) (sym c.in-Classes.is)
     c.write_classes_over.ensures
 
-pub returns-in-Threads : goal.returns-in-Threads
-returns-in-Threads g c =
+pub returns-in-Threads-clause-ends : goal.returns-in-Threads-clause-ends
+returns-in-Threads-clause-ends g c =
     let ids = size_of c.args.heap.now in
     let facts = facts_of c.args.heap.now in
     let objects = c.args.objects.now in
@@ -67,8 +67,8 @@ returns-in-Threads g c =
     (passed_fewer MakeUp Made agree tells (IsText heaps.Threads) g.W.Target.written g.W.Target.health c.args.target.now
     c.write_threads_over.new.target (λ all made. made.0) c.write_threads_over.result c.write_threads_over.ensures)
 
-pub returns-in-Suspects : goal.returns-in-Suspects
-returns-in-Suspects g c =
+pub returns-in-Suspects-clause-ends : goal.returns-in-Suspects-clause-ends
+returns-in-Suspects-clause-ends g c =
     let ids = size_of c.args.heap.now in
     let facts = facts_of c.args.heap.now in
     let objects = c.args.objects.now in
@@ -80,10 +80,10 @@ returns-in-Suspects g c =
     subst (λ (report : HeapReport). EndsPassed Made agree tells (IsText report) g.W.Target.written g.W.Target.health c.args.target.now
     c.write_suspects_over.new.target c.write_suspects_over.result) (sym c.in-Suspects.is)
     (passed_fewer MakeUp Made agree tells (IsText heaps.Suspects) g.W.Target.written g.W.Target.health c.args.target.now
-    c.write_suspects_over.new.target (λ all made. made.0) c.write_suspects_over.result c.write_suspects_over.ensures)
+    c.write_suspects_over.new.target (λ all made. made.0) c.write_suspects_over.result c.write_suspects_over.ensures.ends)
 
-pub returns-in-Retained : goal.returns-in-Retained
-returns-in-Retained g c =
+pub returns-in-Retained-clause-ends : goal.returns-in-Retained-clause-ends
+returns-in-Retained-clause-ends g c =
     let ids = size_of c.args.heap.now in
     let facts = facts_of c.args.heap.now in
     let objects = c.args.objects.now in
@@ -95,4 +95,4 @@ returns-in-Retained g c =
     subst (λ (report : HeapReport). EndsPassed Made agree tells (IsText report) g.W.Target.written g.W.Target.health c.args.target.now
     c.write_retained_over.new.target c.write_retained_over.result) (sym c.in-Retained.is)
     (passed_fewer MakeUp Made agree tells (IsText heaps.Retained) g.W.Target.written g.W.Target.health c.args.target.now
-    c.write_retained_over.new.target (λ all made. made.0) c.write_retained_over.result c.write_retained_over.ensures)
+    c.write_retained_over.new.target (λ all made. made.0) c.write_retained_over.result c.write_retained_over.ensures.ends)

@@ -9,8 +9,8 @@ use Rattle.hprof_making.proofs.Passed.{ends_over}
 use Rattle.hprof_large.proofs.NamedKind.{named_kind, none_meant, stops_before}
 use Rattle.hprof_large.proofs.kind.write_kind_named.Goals as goal
 
-pub returns-in-Err : goal.returns-in-Err
-returns-in-Err g c =
+pub returns-in-Err-clause-ends : goal.returns-in-Err-clause-ends
+returns-in-Err-clause-ends g c =
     let ids = size_of c.args.heap.now in
     let facts = facts_of c.args.heap.now in
     let objects = c.args.objects.now in
@@ -21,8 +21,8 @@ returns-in-Err g c =
     (c.in-Err.ensures.meant c.args.name.now c.of-meant.ensures)
 
 -- no class has the name
-pub returns-then-not-is_answered : goal.returns-then-not-is_answered
-returns-then-not-is_answered g c =
+pub returns-then-not-is_answered-clause-ends : goal.returns-then-not-is_answered-clause-ends
+returns-then-not-is_answered-clause-ends g c =
     let meant = c.in-Ok-classes_meant_over.ensures.meant c.args.name.now c.of-meant.ensures in
     let none = none_meant c.deref.result.now (λ answered. let no : false ≡ true = c.if-not-is_answered.ensures.1 answered in absurd cc) in (
       meant.0,
@@ -34,8 +34,8 @@ pub write_of_classes-requires-clause-ascend : goal.write_of_classes-requires-cla
 write_of_classes-requires-clause-ascend g c = subst IsStrictlyIncreasing (sym c.deref-2.ensures.value)
     (c.in-Ok-classes_meant_over.ensures.ascend c.args.name.now c.of-meant.ensures)
 
-pub returns : goal.returns
-returns g c =
+pub returns-clause-ends : goal.returns-clause-ends
+returns-clause-ends g c =
     let ids = size_of c.args.heap.now in
     let facts = facts_of c.args.heap.now in
     let objects = c.args.objects.now in
@@ -49,4 +49,4 @@ returns g c =
     (subst (AreMeantClasses all name) (sym c.deref-2.ensures.value) (meant.1 all make))
     (λ e. c.if-not-is_answered.ensures.0 refl (c.deref.ensures.value ∙ sym c.deref-2.ensures.value ∙ e)) is)
     (λ refusal all. RefusesReport all (reports.Kind c.args.report (Named c.args.name)) refusal) c.write_of_classes.result
-    c.write_of_classes.ensures
+    c.write_of_classes.ensures.ends

@@ -12,8 +12,8 @@ use Rattle.hprof_large.proofs.NamedKind.{ends_same}
 use Rattle.hprof_large.proofs.kind.write_of_classes.Goals as goal
 
 -- class dumps are chosen exactly if the name is that of the class of all classes
-pub returns-in-Biggest : goal.returns-in-Biggest
-returns-in-Biggest g c =
+pub returns-in-Biggest-clause-ends : goal.returns-in-Biggest-clause-ends
+returns-in-Biggest-clause-ends g c =
     let ids = size_of c.args.heap.now in
     let facts = facts_of c.args.heap.now in
     let objects = c.args.objects.now in
@@ -30,10 +30,10 @@ returns-in-Biggest g c =
     (λ all. IsReportOfClasses ids all Biggest name classes) g.W.Target.written g.W.Target.health c.args.target.now
     c.write_biggest_over.new.target
     (λ all text is. biggest_of_name ids all name classes with c.names_classes-with_class_dumps.ensures text is)
-    c.write_biggest_over.result c.write_biggest_over.ensures)
+    c.write_biggest_over.result c.write_biggest_over.ensures.ends)
 
-pub returns-in-Objects : goal.returns-in-Objects
-returns-in-Objects g c =
+pub returns-in-Objects-clause-ends : goal.returns-in-Objects-clause-ends
+returns-in-Objects-clause-ends g c =
     let ids = size_of c.args.heap.now in
     let facts = facts_of c.args.heap.now in
     let objects = c.args.objects.now in

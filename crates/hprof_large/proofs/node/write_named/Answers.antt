@@ -7,8 +7,8 @@ use Rattle.hprof_making.proofs.Passed.{ends_over}
 use Rattle.hprof_large.proofs.NamedDumps.{dumps_of_whole, report_of_one}
 use Rattle.hprof_large.proofs.node.write_named.Goals as goal
 
-pub returns-in-Some : goal.returns-in-Some
-returns-in-Some g c =
+pub returns-in-Some-clause-ends : goal.returns-in-Some-clause-ends
+returns-in-Some-clause-ends g c =
     let ids = size_of c.args.heap.now in
     let facts = facts_of c.args.heap.now in
     let objects = c.args.objects.now in
@@ -23,7 +23,7 @@ returns-in-Some g c =
     (λ all text make is. report_of_one ids all report name dumps id (sym c.deref.ensures.value ∙ c.in-Some.ensures)
     (dumps_of_whole ids facts all (g.met.O.Objects.whole objects ids facts all make) c.holds_of_heap.ensures.fit
     c.holds_of_heap.ensures.ordered name dumps are) text is)
-    (λ refusal all. RefusesReport all (reports.Node report (that.Named c.args.name)) refusal) c.write_on.result c.write_on.ensures
+    (λ refusal all. RefusesReport all (reports.Node report (that.Named c.args.name)) refusal) c.write_on.result c.write_on.ensures.ends
 
-pub returns : goal.returns
-returns g c = c.write_which.ensures c.args.report
+pub returns-clause-ends : goal.returns-clause-ends
+returns-clause-ends g c = c.write_which.ensures c.args.report

@@ -8,9 +8,9 @@ use Rattle.hprof_making.specs.Over.{EndsOver, heap_with}
 use Rattle.hprof_making.proofs.Passed.{ends_over}
 use Rattle.hprof_large.proofs.node.write_node.Goals as goal
 
-pub returns-in-Identifier : goal.returns-in-Identifier
+pub returns-in-Identifier-clause-ends : goal.returns-in-Identifier-clause-ends
 unfolding facts_of size_of
-returns-in-Identifier g c = λ summaries.
+returns-in-Identifier-clause-ends g c = λ summaries.
     let ids = size_of c.args.heap.now in
     let facts = facts_of c.args.heap.now in
     let objects = c.args.objects.now in
@@ -22,11 +22,11 @@ returns-in-Identifier g c = λ summaries.
     (λ all text make is. subst
     (λ (n : Node). IsReportText (reports.Node report n) summaries (heap_with (heap_of c.args.heap.now) all) text)
     (sym c.in-Identifier.is) is)
-    (λ refusal all. RefusesReport all (reports.Node report c.args.node) refusal) c.write_on.result c.write_on.ensures
+    (λ refusal all. RefusesReport all (reports.Node report c.args.node) refusal) c.write_on.result c.write_on.ensures.ends
 
-pub returns-in-Named : goal.returns-in-Named
+pub returns-in-Named-clause-ends : goal.returns-in-Named-clause-ends
 unfolding facts_of size_of
-returns-in-Named g c = λ summaries.
+returns-in-Named-clause-ends g c = λ summaries.
     let ids = size_of c.args.heap.now in
     let facts = facts_of c.args.heap.now in
     let objects = c.args.objects.now in
@@ -35,4 +35,4 @@ returns-in-Named g c = λ summaries.
     (g.O.Objects.tells objects ids facts)
     (λ all. IsReportText (reports.Node report n) summaries (heap_with (heap_of c.args.heap.now) all))
     (λ refusal all. RefusesReport all (reports.Node report n) refusal) g.W.Target.written g.W.Target.health c.args.target.now
-    c.write_named.new.target c.write_named.result) (sym c.in-Named.is) c.write_named.ensures
+    c.write_named.new.target c.write_named.result) (sym c.in-Named.is) c.write_named.ensures.ends

@@ -7,8 +7,8 @@ use Rattle.hprof_why.specs.WhyText.{IsWhyText}
 use Rattle.hprof_why.proofs.WhyHeaps.{why_over}
 use Rattle.hprof_why.proofs.why_over.write_why_over.Goals as goal
 
-pub returns-in-Ok-write_in_memory : goal.returns-in-Ok-write_in_memory
-returns-in-Ok-write_in_memory g c =
+pub returns-in-Ok-write_in_memory-clause-ends : goal.returns-in-Ok-write_in_memory-clause-ends
+returns-in-Ok-write_in_memory-clause-ends g c =
     let ids = size_of c.args.heap.now in
     let facts = facts_of c.args.heap.now in
     let objects = c.args.objects.now in
@@ -17,14 +17,14 @@ returns-in-Ok-write_in_memory g c =
     let answer : Result (Unit {0}) WriteStop = Ok c.in-Ok-write_in_memory.field-0 in
     ends_passed (g.O.Objects.make_up objects ids facts) (g.O.Objects.agree objects ids facts) (g.O.Objects.tells objects ids facts)
     (λ all. IsWhyText ids all c.args.id) g.W.Target.written g.W.Target.health c.args.target.now c.write_in_memory.new.target answer
-    c.in-Ok.ensures.0
+    c.in-Ok.ensures.reached.0
     (λ all make. why_over ids facts all (g.met.O.Objects.whole objects ids facts all make) c.in-Ok-why_heap.small c.args.id
-    c.in-Ok.reached (WritesText old new answer) (c.in-Ok.ensures.1 all make) (c.in-Ok-why_heap.ensures.1 all make)
+    c.in-Ok.reached (WritesText old new answer) (c.in-Ok.ensures.reached.1 all make) (c.in-Ok-why_heap.ensures.1 all make)
     c.in-Ok-write_in_memory.ensures.bytes)
     c.in-Ok-write_in_memory.ensures.health
 
-pub returns : goal.returns
-returns g c =
+pub returns-clause-ends : goal.returns-clause-ends
+returns-clause-ends g c =
     let ids = size_of c.args.heap.now in
     let facts = facts_of c.args.heap.now in
     let objects = c.args.objects.now in
@@ -33,8 +33,8 @@ returns g c =
     let answer : Result (Unit {0}) WriteStop = Err c.in-Err-write_in_memory.stop in
     ends_passed (g.O.Objects.make_up objects ids facts) (g.O.Objects.agree objects ids facts) (g.O.Objects.tells objects ids facts)
     (λ all. IsWhyText ids all c.args.id) g.W.Target.written g.W.Target.health c.args.target.now c.write_in_memory.new.target answer
-    c.in-Ok.ensures.0
+    c.in-Ok.ensures.reached.0
     (λ all make. why_over ids facts all (g.met.O.Objects.whole objects ids facts all make) c.in-Ok-why_heap.small c.args.id
-    c.in-Ok.reached (WritesText old new answer) (c.in-Ok.ensures.1 all make) (c.in-Ok-why_heap.ensures.1 all make)
+    c.in-Ok.reached (WritesText old new answer) (c.in-Ok.ensures.reached.1 all make) (c.in-Ok-why_heap.ensures.1 all make)
     c.in-Err-write_in_memory.ensures.bytes)
     c.in-Err-write_in_memory.ensures.health

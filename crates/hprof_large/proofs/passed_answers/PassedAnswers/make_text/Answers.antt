@@ -10,7 +10,7 @@ use Rattle.hprof_large.proofs.passed_answers.PassedAnswers.make_text.Goals as go
 pub returns-in-Ok-clause-text : goal.returns-in-Ok-clause-text
 returns-in-Ok-clause-text g c = λ whole is.
     let self = c.args.self.now in
-    let it = c.in-Ok.ensures.1 whole.facts (is.made_up, tt) in
+    let it = c.in-Ok.ensures.ends.1 whole.facts (is.made_up, tt) in
     let same : c.into_inner.result.items ≡ it.0 =
     ap (λ (v : Vec ℕ Global). v.items) c.into_inner.ensures ∙ it.2
     ∙ ap (λ (v : Vec ℕ Global). v.items ++ it.0) c.new-target.ensures.inner

@@ -19,9 +19,9 @@ held : (report : Report) (kept : Vec PartSummary Global) → Holds report kept k
 held (reports.Heap heaps.Check) kept = refl
 held other kept = tt
 
-pub returns : goal.returns
+pub returns-clause-ends : goal.returns-clause-ends
 unfolding facts_of size_of
-returns g c =
+returns-clause-ends g c =
     let self = c.args.self.now in
     let ids = size_of self.heap.now in
     let facts = facts_of self.heap.now in
@@ -30,5 +30,6 @@ returns g c =
     ends_fewer (MadeUpWith Made ids None) Made (HaveUnion g.S.Target.written g.S.Target.health g.P.Parts.bytes self.objects)
     (TellsPass g.S.Target.written g.S.Target.health g.P.Parts.bytes g.S.Scratch.unreadable self.objects ids facts)
     (λ all. IsReport self.summaries.now.items ids all report) (λ refusal all. RefusesReport all report refusal)
-    g.W.Target.written g.W.Target.health c.args.target.now c.write_over.new.target (λ all made. (made, tt)) c.write_over.result
-    (c.write_over.ensures self.summaries.now.items (held report self.summaries.now))
+    g.W.Target.written g.W.Target.health c.args.target.now c.write_report_over.new.target (λ all made. (made, tt))
+    c.write_report_over.result
+    (c.write_report_over.ensures.ends self.summaries.now.items (held report self.summaries.now))

@@ -33,7 +33,8 @@ returns-in-Report g c =
           );
       health = c.write_report.ensures.health;
       lost = c.write_report.ensures.lost;
-      kept = c.requires.kept;
+      texts = c.requires.texts;
+      references = c.write_report.ensures.references;
     }
 
 -- no report is written
@@ -58,5 +59,6 @@ returns-in_default g c =
           (leaves_writer wrote.result health wrote.ensures.health);
       lost = subst (λ (r : Result (Unit {0}) DialogueStop). TellsLoss Loses r) (sym c.answer_of.ensures)
           (loses_nothing Loses wrote.result);
-      kept = c.requires.kept;
+      texts = c.requires.texts;
+      references = c.requires.references;
     }

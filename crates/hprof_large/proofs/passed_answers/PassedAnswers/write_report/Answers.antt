@@ -17,7 +17,7 @@ returns-in-Ok-clause-bytes g c =
     (λ ids facts all make. make.whole) self.summaries.now.items g.W.Target.written g.W.Target.health c.args.target.now
     c.write_by_passes.new.target (HaveUnion g.S.Target.written g.S.Target.health g.P.Parts.bytes self.objects)
     (TellsPass g.S.Target.written g.S.Target.health g.P.Parts.bytes g.S.Scratch.unreadable self.objects (size_of self.heap.now)
-    (facts_of self.heap.now)) c.args.report c.requires c.in-Ok.field-0 c.in-Ok.ensures
+    (facts_of self.heap.now)) c.args.report c.requires.well c.in-Ok.field-0 c.in-Ok.ensures.ends
 
 pub returns-in-Err-Lost-clause-bytes : goal.returns-in-Err-Lost-clause-bytes
 returns-in-Err-Lost-clause-bytes g c =
@@ -27,8 +27,8 @@ returns-in-Err-Lost-clause-bytes g c =
     (λ ids facts all make. make.whole) self.summaries.now.items g.W.Target.written g.W.Target.health c.args.target.now
     c.write_by_passes.new.target (HaveUnion g.S.Target.written g.S.Target.health g.P.Parts.bytes self.objects)
     (TellsPass g.S.Target.written g.S.Target.health g.P.Parts.bytes g.S.Scratch.unreadable self.objects (size_of self.heap.now)
-    (facts_of self.heap.now)) c.args.report c.requires it.field-0 it.fault c.stop_of_pass_fault.result it.field-0-is
-    c.stop_of_pass_fault.ensures it.ensures).0
+    (facts_of self.heap.now)) c.args.report c.requires.well it.field-0 it.fault c.stop_of_pass_fault.result it.field-0-is
+    c.stop_of_pass_fault.ensures it.ensures.ends).0
 
 pub returns-in-Err-Sink-Write-clause-bytes : goal.returns-in-Err-Sink-Write-clause-bytes
 returns-in-Err-Sink-Write-clause-bytes g c =
@@ -38,8 +38,8 @@ returns-in-Err-Sink-Write-clause-bytes g c =
     (λ ids facts all make. make.whole) self.summaries.now.items g.W.Target.written g.W.Target.health c.args.target.now
     c.write_by_passes.new.target (HaveUnion g.S.Target.written g.S.Target.health g.P.Parts.bytes self.objects)
     (TellsPass g.S.Target.written g.S.Target.health g.P.Parts.bytes g.S.Scratch.unreadable self.objects (size_of self.heap.now)
-    (facts_of self.heap.now)) c.args.report c.requires it.field-0 (writes.Write it.fault)
-    (it.field-0-is ∙ ap (λ (stop : WriteStop). Sink stop) it.field-0-0-is) (λ refusal e. absurd cc) it.ensures).0
+    (facts_of self.heap.now)) c.args.report c.requires.well it.field-0 (writes.Write it.fault)
+    (it.field-0-is ∙ ap (λ (stop : WriteStop). Sink stop) it.field-0-0-is) (λ refusal e. absurd cc) it.ensures.ends).0
 
 pub returns-in-Err-Sink-OutOfMemory-clause-bytes : goal.returns-in-Err-Sink-OutOfMemory-clause-bytes
 returns-in-Err-Sink-OutOfMemory-clause-bytes g c =
@@ -49,8 +49,8 @@ returns-in-Err-Sink-OutOfMemory-clause-bytes g c =
     (λ ids facts all make. make.whole) self.summaries.now.items g.W.Target.written g.W.Target.health c.args.target.now
     c.write_by_passes.new.target (HaveUnion g.S.Target.written g.S.Target.health g.P.Parts.bytes self.objects)
     (TellsPass g.S.Target.written g.S.Target.health g.P.Parts.bytes g.S.Scratch.unreadable self.objects (size_of self.heap.now)
-    (facts_of self.heap.now)) c.args.report c.requires it.field-0 writes.OutOfMemory
-    (it.field-0-is ∙ ap (λ (stop : WriteStop). Sink stop) it.field-0-0-is) (λ refusal e. absurd cc) it.ensures).0
+    (facts_of self.heap.now)) c.args.report c.requires.well it.field-0 writes.OutOfMemory
+    (it.field-0-is ∙ ap (λ (stop : WriteStop). Sink stop) it.field-0-0-is) (λ refusal e. absurd cc) it.ensures.ends).0
 
 -- no class has the name
 pub returns-in-Err-Sink-Refused-clause-bytes : goal.returns-in-Err-Sink-Refused-clause-bytes
@@ -61,8 +61,8 @@ returns-in-Err-Sink-Refused-clause-bytes g c = λ whole is.
     (λ ids facts all make. make.whole) self.summaries.now.items g.W.Target.written g.W.Target.health c.args.target.now
     c.write_by_passes.new.target (HaveUnion g.S.Target.written g.S.Target.health g.P.Parts.bytes self.objects)
     (TellsPass g.S.Target.written g.S.Target.health g.P.Parts.bytes g.S.Scratch.unreadable self.objects (size_of self.heap.now)
-    (facts_of self.heap.now)) c.args.report c.requires it.field-0 it.field-0-0-0
-    (it.field-0-is ∙ ap (λ (stop : WriteStop). Sink stop) it.field-0-0-is) it.ensures in
+    (facts_of self.heap.now)) c.args.report c.requires.well it.field-0 it.field-0-0-0
+    (it.field-0-is ∙ ap (λ (stop : WriteStop). Sink stop) it.field-0-0-is) it.ensures.ends in
     let text = codes "no class has this name\n" in
     let wrote = c.write_reply_without_report in
     let new = g.W.Target.written wrote.new.target in (

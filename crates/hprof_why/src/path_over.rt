@@ -4,20 +4,20 @@ ghost use Rattle.std.specs.Prelude.{◌≡◌};
 ghost use Rattle.hprof_devices.specs.declared.health.Health.TheVariants.{Well};
 ghost use Rattle.hprof_heap.specs.HeapFacts.{facts_of, size_of};
 ghost use Rattle.hprof_lines.specs.Passed.{EndsPassed};
+ghost use Rattle.hprof_retained.specs.KeptReferences.{AreKeptReferences};
 ghost use Rattle.hprof_reports.specs.PathText.{IsPathText};
 
-use crate::path::write_path;
 use hprof_devices::Target;
-use hprof_edges::LeftOut;
 use hprof_engine::WriteStop;
 use hprof_heap::Heap;
 use hprof_lines::stop_of_pass;
 use hprof_passes::{Objects, PassStop};
-use hprof_reach::reach_over;
+use hprof_reports::write_path;
+use hprof_retained::KeptReferences;
 use std::alloc::Global;
 
-/// Writes the report `path` on an identifier, as [`write_path`] does. The heap has all facts but the objects, which are gone through twice.
-/// Memory holds the identifiers of all nodes and the numbers of what each refers to, and no object.
+/// Writes the report `path` on an identifier, as [`write_path`] does. The heap has all facts but the objects, which are gone through twice
+/// if the search is not kept. Memory holds the identifiers of all nodes and the numbers of what each refers to, and no object.
 ///
 /// # Errors
 ///
@@ -27,20 +27,26 @@ pub fn write_path_over<O: Objects, W: Target>(
     alloc: Global,
     heap: &Heap,
     objects: &O,
+    references: &mut KeptReferences,
     id: u64,
     target: &mut W,
 ) -> Result<(), PassStop<WriteStop, O::Fault>>
-    requires { W.health target.old ≡ Well }
-    ensures { EndsPassed (O.make_up objects.now (size_of heap.now) (facts_of heap.now))
+    requires references { AreKeptReferences (O.make_up objects.now (size_of heap.now) (facts_of heap.now))
+        (O.agree objects.now (size_of heap.now) (facts_of heap.now)) (size_of heap.now) references.old }
+    requires well { W.health target.old ≡ Well }
+    ensures ends { EndsPassed (O.make_up objects.now (size_of heap.now) (facts_of heap.now))
         (O.agree objects.now (size_of heap.now) (facts_of heap.now)) (O.tells objects.now (size_of heap.now) (facts_of heap.now))
         (λ all. IsPathText (size_of heap.now) all id) W.written W.health target.old target.new result }
+    ensures references { AreKeptReferences (O.make_up objects.now (size_of heap.now) (facts_of heap.now))
+        (O.agree objects.now (size_of heap.now) (facts_of heap.now)) (size_of heap.now) references.new }
 {
-    let none = LeftOut::none(alloc);
-    let reach = match reach_over(alloc, heap, objects, &none) {
+    let reach = match references.take_all(alloc, heap, objects) {
         Ok(reach) => reach,
         Err(stop) => return Err(stop_of_pass(stop)),
     };
-    match write_path(alloc, &reach, id, target) {
+    let outcome = write_path(alloc, &reach, id, target);
+    references.keep_all(reach);
+    match outcome {
         Ok(()) => Ok(()),
         Err(stop) => Err(PassStop::Sink(stop)),
     }

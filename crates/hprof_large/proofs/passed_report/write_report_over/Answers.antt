@@ -9,11 +9,11 @@ use Rattle.hprof_ask.specs.Summarised.{Holds}
 use Rattle.hprof_ask.proofs.Ends.{of_kept}
 use Rattle.hprof_making.specs.Over.{EndsOver, heap_with}
 use Rattle.hprof_making.proofs.Passed.{ends_fewer, ends_over}
-use Rattle.hprof_large.proofs.passed_report.PassedReportPassProduct.write_over.Goals as goal
+use Rattle.hprof_large.proofs.passed_report.write_report_over.Goals as goal
 
-pub returns-in-Heap : goal.returns-in-Heap
+pub returns-in-Heap-clause-ends : goal.returns-in-Heap-clause-ends
 unfolding facts_of size_of
-returns-in-Heap g c = λ summaries holds.
+returns-in-Heap-clause-ends g c = λ summaries holds.
     let ids = size_of c.args.heap.now in
     let facts = facts_of c.args.heap.now in
     let objects = c.args.objects.now in
@@ -30,11 +30,11 @@ returns-in-Heap g c = λ summaries holds.
     g.W.Target.written g.W.Target.health c.args.target.now c.write_heap_report.new.target
     (λ all text make is. of_kept report c.args.kept.now held summaries ids all text c.deref.ensures.value
     (subst (λ (r : Report). Holds r c.args.kept.now summaries) c.in-Heap.is holds) is)
-    (λ refusal all. RefusesReport all report refusal) c.write_heap_report.result c.write_heap_report.ensures)
+    (λ refusal all. RefusesReport all report refusal) c.write_heap_report.result c.write_heap_report.ensures.ends)
 
-pub returns-in-Kind : goal.returns-in-Kind
+pub returns-in-Kind-clause-ends : goal.returns-in-Kind-clause-ends
 unfolding facts_of size_of
-returns-in-Kind g c = λ summaries holds.
+returns-in-Kind-clause-ends g c = λ summaries holds.
     let ids = size_of c.args.heap.now in
     let facts = facts_of c.args.heap.now in
     let objects = c.args.objects.now in
@@ -49,11 +49,11 @@ returns-in-Kind g c = λ summaries holds.
     g.W.Target.written g.W.Target.health c.args.target.now c.write_kind.new.target c.write_kind.result) (sym c.in-Kind.is)
     (ends_fewer MakeUp Made agree tells (λ all. IsReportText report summaries (whole all)) (λ refusal all. RefusesReport all report refusal)
     g.W.Target.written g.W.Target.health c.args.target.now c.write_kind.new.target (λ all made. made.0) c.write_kind.result
-    (c.write_kind.ensures summaries))
+    (c.write_kind.ensures.ends summaries))
 
-pub returns-in-Node : goal.returns-in-Node
+pub returns-in-Node-clause-ends : goal.returns-in-Node-clause-ends
 unfolding facts_of size_of
-returns-in-Node g c = λ summaries holds.
+returns-in-Node-clause-ends g c = λ summaries holds.
     let ids = size_of c.args.heap.now in
     let facts = facts_of c.args.heap.now in
     let objects = c.args.objects.now in
@@ -68,4 +68,4 @@ returns-in-Node g c = λ summaries holds.
     g.W.Target.written g.W.Target.health c.args.target.now c.write_node.new.target c.write_node.result) (sym c.in-Node.is)
     (ends_fewer MakeUp Made agree tells (λ all. IsReportText report summaries (whole all)) (λ refusal all. RefusesReport all report refusal)
     g.W.Target.written g.W.Target.health c.args.target.now c.write_node.new.target (λ all made. made.0) c.write_node.result
-    (c.write_node.ensures summaries))
+    (c.write_node.ensures.ends summaries))

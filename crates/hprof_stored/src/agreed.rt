@@ -1,0 +1,81 @@
+//! The objects of parts, of which no identifier has two contents.
+
+ghost use Rattle.hprof_stored.specs.Agreed.{HaveOneContent};
+
+use crate::in_parts::InParts;
+use crate::pass_fault::PassFault;
+use hprof_devices::Target;
+use hprof_heap::Heap;
+use hprof_parts::Parts;
+use hprof_passes::{ObjectSink, Objects, PassStop};
+use hprof_runs::Scratch;
+use std::alloc::Global;
+
+/// The objects of parts, of which no identifier has two contents. Some of them are picked without a pass over all.
+#[derive(Drop)]
+pub struct Agreed<'a, S: Target, P: Parts> {
+    objects: InParts<'a, S, P>,
+    // No identifier has two contents.
+    ghost agree: { HaveOneContent S.written S.health P.bytes objects },
+}
+
+impl<'a, S: Scratch + Drop, P: Parts> Agreed<'a, S, P> {
+    ghost use Rattle.std.specs.Prelude.{◌≡◌, IfErr, IfOk};
+    ghost use Rattle.hprof_heap.specs.HeapFacts.{facts_of, size_of};
+    ghost use Rattle.hprof_stored.specs.AgreedUnder.{agreed_under};
+    ghost use Rattle.hprof_stored.specs.InParts.{TellsPass};
+
+    /// Counts the objects of parts, and returns them if that tells that no identifier has two contents.
+    ///
+    /// # Errors
+    ///
+    /// Those of `count`.
+    pub fn new(alloc: Global, heap: &Heap, objects: InParts<'a, S, P>) -> Result<Self, PassFault>
+        ensures objects { IfOk result (λ agreed. agreed_under agreed ≡ objects.entry) }
+        ensures tells { IfErr result (TellsPass S.written S.health P.bytes S.unreadable objects.entry (size_of heap.now)
+            (facts_of heap.now)) }
+    {
+        match objects.count(alloc, heap) {
+            Ok(_) => Ok(Agreed { objects }),
+            Err(fault) => Err(fault),
+        }
+    }
+}
+
+impl<S: Scratch + Drop, P: Parts> Objects for Agreed<'_, S, P> {
+    ghost use Rattle.hprof_stored.specs.AgreedUnder.{agreed_under};
+    ghost use Rattle.hprof_stored.specs.InParts.{HaveUnion, MakeUp, TellsPass};
+
+    ghost make_up = { λ it ids facts all. MakeUp S.written S.health P.bytes (agreed_under it) ids facts all };
+
+    ghost agree = { λ it ids facts. HaveUnion S.written S.health P.bytes (agreed_under it) };
+
+    ghost tells = { λ it ids facts fault. TellsPass S.written S.health P.bytes S.unreadable (agreed_under it) ids facts fault };
+
+    type Fault = PassFault;
+
+    fn pass<T: ObjectSink>(
+        &self,
+        alloc: Global,
+        heap: &Heap,
+        sink: &mut T,
+    ) -> Result<(), PassStop<T::Fault, PassFault>> {
+        self.objects.pass(alloc, heap, sink)
+    }
+
+    fn pick<T: ObjectSink>(
+        &self,
+        alloc: Global,
+        heap: &Heap,
+        wanted: &[u64],
+        sink: &mut T,
+    ) -> Result<(), PassStop<T::Fault, PassFault>> {
+        self.objects.pick_agreed(alloc, heap, wanted, sink)
+    }
+
+    fn count(&self, alloc: Global, heap: &Heap) -> Result<u64, PassFault> {
+        self.objects.count(alloc, heap)
+    }
+
+    ghost whole = { λ it ids facts all make. make.whole };
+}
