@@ -49,6 +49,14 @@ pass_stop (stops.Part part fault) = passes.Lost (faults.Part part fault)
 pass_stop (stops.Sink rows.NoObject) = passes.Lost faults.NoObject
 pass_stop (stops.Sink (rows.Sink fault)) = passes.Sink fault
 
+-- why the objects cannot be counted, where a merge into a counter stopped
+abbrev pub count_stop : {E : Type 0} → ObjectStop E → PassFault
+count_stop stops.OutOfMemory = faults.OutOfMemory
+count_stop (stops.TwoContents id) = faults.TwoContents id
+count_stop (stops.Scratch fault) = faults.Scratch fault
+count_stop (stops.Part part fault) = faults.Part part fault
+count_stop (stops.Sink fault) = faults.TooMany
+
 module _ {S P : Type 0} (written : S → Option (List ℕ)) (health : S → Health) (bytes : P → List (Option (List ℕ))) where
   -- these parts were read, each is as it was, and the scratch tells its bytes
   abbrev pub AreAsRead : InParts S P → List PartRead → Type 0
@@ -57,6 +65,11 @@ module _ {S P : Type 0} (written : S → Option (List ℕ)) (health : S → Heal
   -- no identifier has two contents: the objects of the parts have a union
   abbrev pub HaveUnion : InParts S P → Type 0
   HaveUnion it = (reads : List PartRead) → AreAsRead it reads → (rows : List ByteRow) × IsUnion (objects_of reads) rows
+
+  -- the union has so many objects
+  abbrev pub AreSoMany : InParts S P → ℕ → Type 0
+  AreSoMany it count = (reads : List PartRead) → AreAsRead it reads → (rows : List ByteRow) → IsUnion (objects_of reads) rows
+      → count ≡ length rows
 
   -- the objects of the parts, each once, stand behind these facts, and all of them are the facts of a heap
   pub record MakeUp (it : InParts S P) (ids : IdSize) (facts all : List FactValue) : Type 0 where

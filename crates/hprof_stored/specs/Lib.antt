@@ -8,7 +8,7 @@ pub mod WatchedLaws
 pub mod Reading
 pub mod Dumping
 pub mod RowDecoder
-pub mod ObjectCounter
+pub mod RowCounter
 pub mod InParts
 pub mod Agreed
 pub mod AgreedUnder

@@ -1,6 +1,7 @@
 //! The objects of parts, of which no identifier has two contents.
 
 ghost use Rattle.hprof_stored.specs.Agreed.{HaveOneContent};
+ghost use Rattle.hprof_stored.specs.InParts.{AreSoMany};
 
 use crate::in_parts::InParts;
 use crate::pass_fault::PassFault;
@@ -15,28 +16,36 @@ use std::alloc::Global;
 #[derive(Drop)]
 pub struct Agreed<'a, S: Target, P: Parts> {
     objects: InParts<'a, S, P>,
+    /// The number of objects.
+    count: u64,
     // No identifier has two contents.
     ghost agree: { HaveOneContent S.written S.health P.bytes objects },
+    ghost counted: { AreSoMany S.written S.health P.bytes objects count },
 }
 
 impl<'a, S: Scratch + Drop, P: Parts> Agreed<'a, S, P> {
-    ghost use Rattle.std.specs.Prelude.{◌≡◌, IfErr, IfOk};
-    ghost use Rattle.hprof_heap.specs.HeapFacts.{facts_of, size_of};
+    ghost use Rattle.std.specs.Prelude.{◌≡◌, List, IfErr, IfOk, OnOk};
+    ghost use Rattle.hprof_values.specs.declared.ids.IdSize.{IdSize};
+    ghost use Rattle.hprof_items.specs.FactValue.{FactValue};
     ghost use Rattle.hprof_stored.specs.AgreedUnder.{agreed_under};
-    ghost use Rattle.hprof_stored.specs.InParts.{TellsPass};
+    ghost use Rattle.hprof_stored.specs.InParts.{HaveUnion, TellsPass};
 
     /// Counts the objects of parts, and returns them if that tells that no identifier has two contents.
     ///
     /// # Errors
     ///
-    /// Those of `count`.
-    pub fn new(alloc: Global, heap: &Heap, objects: InParts<'a, S, P>) -> Result<Self, PassFault>
+    /// - `OutOfMemory`: memory ran out.
+    /// - `TwoContents`: the least identifier of which objects have two contents.
+    /// - `Scratch`, `Part`: objects cannot be read again, or a part is not there.
+    /// - `TooMany`: there are 2^64 or more.
+    pub fn new(alloc: Global, objects: InParts<'a, S, P>) -> Result<Self, PassFault>
         ensures objects { IfOk result (λ agreed. agreed_under agreed ≡ objects.entry) }
-        ensures tells { IfErr result (TellsPass S.written S.health P.bytes S.unreadable objects.entry (size_of heap.now)
-            (facts_of heap.now)) }
+        ensures agree { OnOk result (HaveUnion S.written S.health P.bytes objects.entry) }
+        ensures tells { IfErr result (λ fault. (ids : IdSize) (facts : List FactValue)
+            → TellsPass S.written S.health P.bytes S.unreadable objects.entry ids facts fault) }
     {
-        match objects.count(alloc, heap) {
-            Ok(_) => Ok(Agreed { objects }),
+        match objects.count_all(alloc) {
+            Ok(count) => Ok(Agreed { objects, count }),
             Err(fault) => Err(fault),
         }
     }
@@ -73,8 +82,8 @@ impl<S: Scratch + Drop, P: Parts> Objects for Agreed<'_, S, P> {
         self.objects.pick_agreed(alloc, heap, wanted, sink)
     }
 
-    fn count(&self, alloc: Global, heap: &Heap) -> Result<u64, PassFault> {
-        self.objects.count(alloc, heap)
+    fn count(&self, _alloc: Global, _heap: &Heap) -> Result<u64, PassFault> {
+        Ok(self.count)
     }
 
     ghost whole = { λ it ids facts all make. make.whole };

@@ -1,10 +1,10 @@
 //! The objects of parts, which stay in the parts, in memory and in scratch.
 
 ghost use Rattle.std.specs.Prelude.{◌≡◌};
-ghost use Rattle.hprof_stored.specs.InParts.{pass_stop};
+ghost use Rattle.hprof_stored.specs.InParts.{count_stop, pass_stop};
 
-use crate::object_counter::{CountFull, ObjectCounter};
 use crate::pass_fault::PassFault;
+use crate::row_counter::{CountFull, RowCounter};
 use crate::row_decoder::{RowDecoder, RowRefusal};
 use hprof_heap::{Heap, id_size};
 use hprof_objects::{ObjectStop, StoredObjects};
@@ -89,6 +89,53 @@ impl<S: Scratch + Drop, P: Parts> InParts<'_, S, P> {
     }
 }
 
+/// Returns why the objects cannot be counted, where a merge into a counter stopped.
+fn count_stop(stop: ObjectStop<CountFull>) -> PassFault
+    ensures { result ≡ count_stop stop }
+{
+    match stop {
+        ObjectStop::OutOfMemory => PassFault::OutOfMemory,
+        ObjectStop::TwoContents(id) => PassFault::TwoContents(id),
+        ObjectStop::Scratch(fault) => PassFault::Scratch(fault),
+        ObjectStop::Part { part, fault } => PassFault::Part { part, fault },
+        ObjectStop::Sink(CountFull) => PassFault::TooMany,
+    }
+}
+
+impl<S: Scratch + Drop, P: Parts> InParts<'_, S, P> {
+    ghost use Rattle.std.specs.Prelude.{List, IfErr, IfOk, OnOk};
+    ghost use Rattle.hprof_values.specs.declared.ids.IdSize.{IdSize};
+    ghost use Rattle.hprof_items.specs.FactValue.{FactValue};
+    ghost use Rattle.hprof_stored.specs.InParts.{AreSoMany, HaveUnion, TellsPass};
+
+    /// Returns the number of objects. If one stretch has them all, nothing is read.
+    ///
+    /// # Errors
+    ///
+    /// - `OutOfMemory`: memory ran out.
+    /// - `TwoContents`: the least identifier of which objects have two contents.
+    /// - `Scratch`, `Part`: objects cannot be read again, or a part is not there.
+    /// - `TooMany`: there are 2^64 or more.
+    pub(crate) fn count_all(&self, alloc: Global) -> Result<u64, PassFault>
+        ensures count { IfOk result (AreSoMany S.written S.health P.bytes self.now) }
+        ensures agree { OnOk result (HaveUnion S.written S.health P.bytes self.now) }
+        ensures tells { IfErr result (λ fault. (ids : IdSize) (facts : List FactValue)
+            → TellsPass S.written S.health P.bytes S.unreadable self.now ids facts fault) }
+    {
+        if let Some(count) = self.objects.count_in_one_stretch() {
+            return Ok(count);
+        }
+        let mut counter = RowCounter { count: 0 };
+        match self
+            .objects
+            .merge(alloc, self.parts, self.limits, &mut counter)
+        {
+            Ok(()) => Ok(counter.count),
+            Err(stop) => Err(count_stop(stop)),
+        }
+    }
+}
+
 impl<S: Scratch + Drop, P: Parts> Objects for InParts<'_, S, P> {
     ghost use Rattle.hprof_stored.specs.InParts.{HaveUnion, MakeUp, TellsPass};
 
@@ -133,16 +180,8 @@ impl<S: Scratch + Drop, P: Parts> Objects for InParts<'_, S, P> {
         }
     }
 
-    fn count(&self, alloc: Global, heap: &Heap) -> Result<u64, PassFault> {
-        if let Some(count) = self.objects.count_in_one_stretch() {
-            return Ok(count);
-        }
-        let mut counter = ObjectCounter { count: 0 };
-        match self.pass(alloc, heap, &mut counter) {
-            Ok(()) => Ok(counter.count),
-            Err(PassStop::Sink(CountFull)) => Err(PassFault::TooMany),
-            Err(PassStop::Lost(fault)) => Err(fault),
-        }
+    fn count(&self, alloc: Global, _heap: &Heap) -> Result<u64, PassFault> {
+        self.count_all(alloc)
     }
 
     ghost whole = { λ it ids facts all make. make.whole };
