@@ -14,18 +14,17 @@ use hprof_devices::{Flush, Source};
 use hprof_engine::{AllSummaries, Summaries, ToolFault};
 use hprof_objects::Keeping;
 use hprof_parts::Parts;
-use hprof_passes::Objects;
 use hprof_questions::{Asker, converse};
 use hprof_runs::Scratch;
 use hprof_stored::laws::stored_objects_are_those_of_the_parts;
-use hprof_stored::{InParts, StoredHeap, read_stored};
+use hprof_stored::{Agreed, InParts, StoredHeap, read_stored};
 use hprof_stream::Limits;
 use std::alloc::Global;
 
 /// Reads all parts, and then answers each line of the questions over the heap that the parts state together, up to the first line that ends
 /// the dialogue. Objects stay in the parts or go to scratch, as `keeping` says, and are read again for each answer: `parts` opens the same
-/// parts as the readers. The texts of reports on the whole heap are kept in memory,
-/// and so are the searches and the tree of dominators that reports want.
+/// parts as the readers. An answer that needs a few of them reads those. The texts of reports on the whole heap are kept in memory, and so
+/// are the searches and the tree of dominators that reports want.
 ///
 /// All parts are read, and their objects are compared, before the first question is read. All answers so far are flushed before more
 /// questions are read, and at the end, also if the questions cannot be read on, if objects are lost or if memory runs out. If memory runs
@@ -82,9 +81,10 @@ pub fn ask_stored<R: Source, S: Scratch + Drop, P: Parts, Q: Asker<W>, W: Flush>
     let objects = objects.finish();
     let objects = InParts::new(&objects, parts, limits);
     // Two contents of one identifier are found before the first question.
-    if let Err(fault) = objects.count(alloc, &heap) {
-        return Err(AskFault::Parts(ToolFault::from(fault)));
-    }
+    let objects = match Agreed::new(alloc, objects) {
+        Ok(agreed) => agreed,
+        Err(fault) => return Err(AskFault::Parts(ToolFault::from(fault))),
+    };
     let answers = PassedAnswers {
         heap: &heap,
         objects,

@@ -1,11 +1,10 @@
-//! Answers to questions about a heap whose objects stay in the parts.
+//! Answers to questions about a heap whose objects are gone through anew for each answer.
 
 ghost use Rattle.std.specs.Prelude.{◌≡◌, ℕ, List, IfErr, IfOk};
 ghost use Rattle.hprof_devices.specs.declared.health.Health.TheVariants.{Well};
 ghost use Rattle.hprof_rows.specs.HeapValue.{HeapValue};
 ghost use Rattle.hprof_heap.specs.HeapFacts.{facts_of, size_of};
 ghost use Rattle.hprof_retained.specs.KeptReferences.{AreKeptReferences};
-ghost use Rattle.hprof_stored.specs.InParts.{HaveUnion, MakeUp, TellsPass};
 ghost use Rattle.hprof_questions.specs.Answering.{LeavesWriter, TellsLoss, WritesAnswer};
 ghost use Rattle.hprof_ask.specs.HeapAnswers.{IsHeapAnswer, IsReply, IsReportReply};
 ghost use Rattle.hprof_ask.specs.Report.{IsHeapReport, IsReport, RefusesReport};
@@ -23,22 +22,20 @@ use hprof_devices::{Device, Target, push_all};
 use hprof_engine::WriteStop;
 use hprof_heap::Heap;
 use hprof_lines::write_str;
-use hprof_parts::Parts;
-use hprof_passes::PassStop;
+use hprof_passes::{Objects, PassStop};
 use hprof_questions::{Answers, DialogueStop, HeapReport, Question, Report};
 use hprof_retained::KeptReferences;
-use hprof_runs::Scratch;
-use hprof_stored::{InParts, PassFault};
+use hprof_stored::PassFault;
 use hprof_stream::PartSummary;
 use std::alloc::Global;
 
 /// A heap whose objects are gone through anew for each answer, and the summaries of its parts.
 #[derive(Drop)]
-pub struct PassedAnswers<'a, S, P> {
+pub struct PassedAnswers<'a, O> {
     /// All facts of the heap but objects.
     pub heap: &'a Heap,
     /// The objects.
-    pub objects: InParts<'a, S, P>,
+    pub objects: O,
     /// The summaries of the parts.
     pub summaries: &'a Vec<PartSummary>,
 }
@@ -56,7 +53,7 @@ fn write_bytes<W: Target>(bytes: &[u8], target: &mut W) -> Result<(), DialogueSt
     }
 }
 
-impl<S: Scratch + Drop, P: Parts> PassedAnswers<'_, S, P> {
+impl<O: Objects<Fault = PassFault> + Drop> PassedAnswers<'_, O> {
     /// Writes a report on a class, an object, or objects, as [`PassedReport`](crate::PassedReport) does.
     fn write_by_passes<W: Target>(
         &self,
@@ -66,18 +63,18 @@ impl<S: Scratch + Drop, P: Parts> PassedAnswers<'_, S, P> {
         target: &mut W,
     ) -> Result<(), PassStop<WriteStop, PassFault>>
         requires references { AreKeptReferences
-            (MakeUp S.written S.health P.bytes self.now.objects (size_of self.now.heap.now) (facts_of self.now.heap.now))
-            (HaveUnion S.written S.health P.bytes self.now.objects) (size_of self.now.heap.now) references.old }
+            (O.make_up self.now.objects (size_of self.now.heap.now) (facts_of self.now.heap.now))
+            (O.agree self.now.objects (size_of self.now.heap.now) (facts_of self.now.heap.now)) (size_of self.now.heap.now) references.old }
         requires well { W.health target.old ≡ Well }
         ensures ends { EndsOver
-            (MakeUp S.written S.health P.bytes self.now.objects (size_of self.now.heap.now) (facts_of self.now.heap.now))
-            (HaveUnion S.written S.health P.bytes self.now.objects)
-            (TellsPass S.written S.health P.bytes S.unreadable self.now.objects (size_of self.now.heap.now) (facts_of self.now.heap.now))
+            (O.make_up self.now.objects (size_of self.now.heap.now) (facts_of self.now.heap.now))
+            (O.agree self.now.objects (size_of self.now.heap.now) (facts_of self.now.heap.now))
+            (O.tells self.now.objects (size_of self.now.heap.now) (facts_of self.now.heap.now))
             (λ all. IsReport self.now.summaries.now.items (size_of self.now.heap.now) all report.entry)
             (λ refusal all. RefusesReport all report.entry refusal) W.written W.health target.old target.new result }
         ensures references { AreKeptReferences
-            (MakeUp S.written S.health P.bytes self.now.objects (size_of self.now.heap.now) (facts_of self.now.heap.now))
-            (HaveUnion S.written S.health P.bytes self.now.objects) (size_of self.now.heap.now) references.new }
+            (O.make_up self.now.objects (size_of self.now.heap.now) (facts_of self.now.heap.now))
+            (O.agree self.now.objects (size_of self.now.heap.now) (facts_of self.now.heap.now)) (size_of self.now.heap.now) references.new }
     {
         write_report_over(
             alloc,
@@ -100,18 +97,17 @@ impl<S: Scratch + Drop, P: Parts> PassedAnswers<'_, S, P> {
         target: &mut W,
     ) -> Result<(), DialogueStop>
         requires references { AreKeptReferences
-            (MakeUp S.written S.health P.bytes self.now.objects (size_of self.now.heap.now) (facts_of self.now.heap.now))
-            (HaveUnion S.written S.health P.bytes self.now.objects) (size_of self.now.heap.now) references.old }
+            (O.make_up self.now.objects (size_of self.now.heap.now) (facts_of self.now.heap.now))
+            (O.agree self.now.objects (size_of self.now.heap.now) (facts_of self.now.heap.now)) (size_of self.now.heap.now) references.old }
         requires well { W.health target.old ≡ Well }
-        ensures bytes { (heap : HeapValue) → IsWholeHeap self.now.heap.now (MakeUp S.written S.health P.bytes self.now.objects) heap
+        ensures bytes { (heap : HeapValue) → IsWholeHeap self.now.heap.now (O.make_up self.now.objects) heap
             → (text : List ℕ) × IsReportReply self.now.summaries.now.items heap.ids heap.facts report.entry text
             × WritesAnswer (W.written target.old) (W.written target.new) result text }
         ensures health { LeavesWriter result (W.health target.new) }
-        ensures lost { TellsLoss (IsLostBy (TellsPass S.written S.health P.bytes S.unreadable self.now.objects (size_of self.now.heap.now)
-            (facts_of self.now.heap.now))) result }
+        ensures lost { TellsLoss (IsLostBy (O.tells self.now.objects (size_of self.now.heap.now) (facts_of self.now.heap.now))) result }
         ensures references { AreKeptReferences
-            (MakeUp S.written S.health P.bytes self.now.objects (size_of self.now.heap.now) (facts_of self.now.heap.now))
-            (HaveUnion S.written S.health P.bytes self.now.objects) (size_of self.now.heap.now) references.new }
+            (O.make_up self.now.objects (size_of self.now.heap.now) (facts_of self.now.heap.now))
+            (O.agree self.now.objects (size_of self.now.heap.now) (facts_of self.now.heap.now)) (size_of self.now.heap.now) references.new }
     {
         match self.write_by_passes(alloc, references, report, target) {
             Ok(()) => Ok(()),
@@ -133,16 +129,15 @@ impl<S: Scratch + Drop, P: Parts> PassedAnswers<'_, S, P> {
         report: HeapReport,
     ) -> Result<Vec<u8>, PassFault>
         requires { AreKeptReferences
-            (MakeUp S.written S.health P.bytes self.now.objects (size_of self.now.heap.now) (facts_of self.now.heap.now))
-            (HaveUnion S.written S.health P.bytes self.now.objects) (size_of self.now.heap.now) references.old }
+            (O.make_up self.now.objects (size_of self.now.heap.now) (facts_of self.now.heap.now))
+            (O.agree self.now.objects (size_of self.now.heap.now) (facts_of self.now.heap.now)) (size_of self.now.heap.now) references.old }
         ensures text { IfOk result (λ bytes. (heap : HeapValue)
-            → IsWholeHeap self.now.heap.now (MakeUp S.written S.health P.bytes self.now.objects) heap
+            → IsWholeHeap self.now.heap.now (O.make_up self.now.objects) heap
             → IsHeapReport self.now.summaries.now.items heap.ids heap.facts report bytes.items) }
-        ensures lost { IfErr result (TellsPass S.written S.health P.bytes S.unreadable self.now.objects (size_of self.now.heap.now)
-            (facts_of self.now.heap.now)) }
+        ensures lost { IfErr result (O.tells self.now.objects (size_of self.now.heap.now) (facts_of self.now.heap.now)) }
         ensures references { AreKeptReferences
-            (MakeUp S.written S.health P.bytes self.now.objects (size_of self.now.heap.now) (facts_of self.now.heap.now))
-            (HaveUnion S.written S.health P.bytes self.now.objects) (size_of self.now.heap.now) references.new }
+            (O.make_up self.now.objects (size_of self.now.heap.now) (facts_of self.now.heap.now))
+            (O.agree self.now.objects (size_of self.now.heap.now) (facts_of self.now.heap.now)) (size_of self.now.heap.now) references.new }
     {
         let mut target = Device::new(Vec::new(alloc));
         match write_heap_report(
@@ -171,22 +166,21 @@ impl<S: Scratch + Drop, P: Parts> PassedAnswers<'_, S, P> {
         target: &mut W,
     ) -> Result<(), DialogueStop>
         requires well { W.health target.old ≡ Well }
-        requires texts { (heap : HeapValue) → IsWholeHeap self.now.heap.now (MakeUp S.written S.health P.bytes self.now.objects) heap
+        requires texts { (heap : HeapValue) → IsWholeHeap self.now.heap.now (O.make_up self.now.objects) heap
             → AreReports self.now.summaries.now.items heap.ids heap.facts kept.old.texts }
         requires references { AreKeptReferences
-            (MakeUp S.written S.health P.bytes self.now.objects (size_of self.now.heap.now) (facts_of self.now.heap.now))
-            (HaveUnion S.written S.health P.bytes self.now.objects) (size_of self.now.heap.now) kept.old.references }
-        ensures bytes { (heap : HeapValue) → IsWholeHeap self.now.heap.now (MakeUp S.written S.health P.bytes self.now.objects) heap
+            (O.make_up self.now.objects (size_of self.now.heap.now) (facts_of self.now.heap.now))
+            (O.agree self.now.objects (size_of self.now.heap.now) (facts_of self.now.heap.now)) (size_of self.now.heap.now) kept.old.references }
+        ensures bytes { (heap : HeapValue) → IsWholeHeap self.now.heap.now (O.make_up self.now.objects) heap
             → (text : List ℕ) × IsHeapReport self.now.summaries.now.items heap.ids heap.facts report text
             × WritesAnswer (W.written target.old) (W.written target.new) result text }
         ensures health { LeavesWriter result (W.health target.new) }
-        ensures lost { TellsLoss (IsLostBy (TellsPass S.written S.health P.bytes S.unreadable self.now.objects (size_of self.now.heap.now)
-            (facts_of self.now.heap.now))) result }
-        ensures texts { (heap : HeapValue) → IsWholeHeap self.now.heap.now (MakeUp S.written S.health P.bytes self.now.objects) heap
+        ensures lost { TellsLoss (IsLostBy (O.tells self.now.objects (size_of self.now.heap.now) (facts_of self.now.heap.now))) result }
+        ensures texts { (heap : HeapValue) → IsWholeHeap self.now.heap.now (O.make_up self.now.objects) heap
             → AreReports self.now.summaries.now.items heap.ids heap.facts kept.new.texts }
         ensures references { AreKeptReferences
-            (MakeUp S.written S.health P.bytes self.now.objects (size_of self.now.heap.now) (facts_of self.now.heap.now))
-            (HaveUnion S.written S.health P.bytes self.now.objects) (size_of self.now.heap.now) kept.new.references }
+            (O.make_up self.now.objects (size_of self.now.heap.now) (facts_of self.now.heap.now))
+            (O.agree self.now.objects (size_of self.now.heap.now) (facts_of self.now.heap.now)) (size_of self.now.heap.now) kept.new.references }
     {
         if let Some(bytes) = kept.texts.find(report) {
             return write_bytes(bytes, target);
@@ -209,22 +203,21 @@ impl<S: Scratch + Drop, P: Parts> PassedAnswers<'_, S, P> {
         target: &mut W,
     ) -> Result<(), DialogueStop>
         requires well { W.health target.old ≡ Well }
-        requires texts { (heap : HeapValue) → IsWholeHeap self.now.heap.now (MakeUp S.written S.health P.bytes self.now.objects) heap
+        requires texts { (heap : HeapValue) → IsWholeHeap self.now.heap.now (O.make_up self.now.objects) heap
             → AreReports self.now.summaries.now.items heap.ids heap.facts kept.old.texts }
         requires references { AreKeptReferences
-            (MakeUp S.written S.health P.bytes self.now.objects (size_of self.now.heap.now) (facts_of self.now.heap.now))
-            (HaveUnion S.written S.health P.bytes self.now.objects) (size_of self.now.heap.now) kept.old.references }
-        ensures bytes { (heap : HeapValue) → IsWholeHeap self.now.heap.now (MakeUp S.written S.health P.bytes self.now.objects) heap
+            (O.make_up self.now.objects (size_of self.now.heap.now) (facts_of self.now.heap.now))
+            (O.agree self.now.objects (size_of self.now.heap.now) (facts_of self.now.heap.now)) (size_of self.now.heap.now) kept.old.references }
+        ensures bytes { (heap : HeapValue) → IsWholeHeap self.now.heap.now (O.make_up self.now.objects) heap
             → (text : List ℕ) × IsReply self.now.summaries.now.items heap.ids heap.facts question.entry text
             × WritesAnswer (W.written target.old) (W.written target.new) result text }
         ensures health { LeavesWriter result (W.health target.new) }
-        ensures lost { TellsLoss (IsLostBy (TellsPass S.written S.health P.bytes S.unreadable self.now.objects (size_of self.now.heap.now)
-            (facts_of self.now.heap.now))) result }
-        ensures texts { (heap : HeapValue) → IsWholeHeap self.now.heap.now (MakeUp S.written S.health P.bytes self.now.objects) heap
+        ensures lost { TellsLoss (IsLostBy (O.tells self.now.objects (size_of self.now.heap.now) (facts_of self.now.heap.now))) result }
+        ensures texts { (heap : HeapValue) → IsWholeHeap self.now.heap.now (O.make_up self.now.objects) heap
             → AreReports self.now.summaries.now.items heap.ids heap.facts kept.new.texts }
         ensures references { AreKeptReferences
-            (MakeUp S.written S.health P.bytes self.now.objects (size_of self.now.heap.now) (facts_of self.now.heap.now))
-            (HaveUnion S.written S.health P.bytes self.now.objects) (size_of self.now.heap.now) kept.new.references }
+            (O.make_up self.now.objects (size_of self.now.heap.now) (facts_of self.now.heap.now))
+            (O.agree self.now.objects (size_of self.now.heap.now) (facts_of self.now.heap.now)) (size_of self.now.heap.now) kept.new.references }
     {
         match question {
             Question::Report(Report::Heap(report)) => self.write_kept(alloc, kept, report, target),
@@ -236,11 +229,10 @@ impl<S: Scratch + Drop, P: Parts> PassedAnswers<'_, S, P> {
     }
 }
 
-impl<S: Scratch + Drop, P: Parts> Answers for PassedAnswers<'_, S, P> {
+impl<O: Objects<Fault = PassFault> + Drop> Answers for PassedAnswers<'_, O> {
     ghost use Rattle.hprof_heap.specs.HeapFacts.{facts_of, size_of};
     ghost use Rattle.hprof_rows.specs.HeapValue.{HeapValue};
     ghost use Rattle.hprof_retained.specs.KeptReferences.{AreKeptReferences};
-    ghost use Rattle.hprof_stored.specs.InParts.{HaveUnion, MakeUp, TellsPass};
     ghost use Rattle.hprof_ask.specs.HeapAnswers.{IsHeapAnswer};
     ghost use Rattle.hprof_ask.specs.OneHeapAnswer.{one_heap_answer};
     ghost use Rattle.hprof_large.specs.SomeAnswer.{some_answer_of_whole};
@@ -248,17 +240,16 @@ impl<S: Scratch + Drop, P: Parts> Answers for PassedAnswers<'_, S, P> {
     ghost use Rattle.hprof_large.specs.Texts.{AreReports};
     ghost use Rattle.hprof_large.specs.Whole.{IsWholeHeap};
 
-    ghost about = { λ it. IsWholeHeap it.heap.now (MakeUp S.written S.health P.bytes it.objects) };
+    ghost about = { λ it. IsWholeHeap it.heap.now (O.make_up it.objects) };
 
     ghost is_answer = { λ it heap. IsHeapAnswer it.summaries.now.items heap.ids heap.facts };
 
-    ghost loses = { λ it. IsLostBy (TellsPass S.written S.health P.bytes S.unreadable it.objects (size_of it.heap.now)
-        (facts_of it.heap.now)) };
+    ghost loses = { λ it. IsLostBy (O.tells it.objects (size_of it.heap.now) (facts_of it.heap.now)) };
 
-    ghost keeps = { λ it kept. ((heap : HeapValue) → IsWholeHeap it.heap.now (MakeUp S.written S.health P.bytes it.objects) heap
+    ghost keeps = { λ it kept. ((heap : HeapValue) → IsWholeHeap it.heap.now (O.make_up it.objects) heap
         → AreReports it.summaries.now.items heap.ids heap.facts kept.texts)
-        × AreKeptReferences (MakeUp S.written S.health P.bytes it.objects (size_of it.heap.now) (facts_of it.heap.now))
-        (HaveUnion S.written S.health P.bytes it.objects) (size_of it.heap.now) kept.references };
+        × AreKeptReferences (O.make_up it.objects (size_of it.heap.now) (facts_of it.heap.now))
+        (O.agree it.objects (size_of it.heap.now) (facts_of it.heap.now)) (size_of it.heap.now) kept.references };
 
     type Kept = KeptAnswers;
 
@@ -276,7 +267,7 @@ impl<S: Scratch + Drop, P: Parts> Answers for PassedAnswers<'_, S, P> {
     }
 
     ghost some_answer = { λ it heap is. some_answer_of_whole it.summaries.now.items it.heap.now
-        (MakeUp S.written S.health P.bytes it.objects) (λ ids facts all make. make.whole) heap is };
+        (O.make_up it.objects) (O.whole it.objects) heap is };
 
     ghost one_answer = { λ it heap is. one_heap_answer it.summaries.now.items heap.ids heap.facts };
 }

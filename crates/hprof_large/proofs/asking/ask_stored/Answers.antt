@@ -9,8 +9,11 @@ use Rattle.hprof_engine.specs.Joining.{AreReadOut, Tell}
 use Rattle.hprof_engine.specs.Summaries.{AreSummaries, HoldsFirst}
 use Rattle.hprof_engine.proofs.Answers.{summaries_held}
 use Rattle.hprof_retained.proofs.KeptFound.{nothing_kept}
+use Rattle.hprof_stored.specs.declared.in_parts.InParts.{InParts}
+use Rattle.hprof_stored.specs.AgreedUnder.{agreed_under}
 use Rattle.hprof_stored.specs.InParts.{HaveUnion, MakeUp, TellsPass}
 use Rattle.hprof_stored.specs.Storing.{HaveObject}
+use Rattle.hprof_stored.proofs.OneContent.{united}
 use Rattle.hprof_stored.proofs.StoredReads.{some_readers}
 use Rattle.hprof_making.proofs.Made.{AreOfParts, of_loss}
 use Rattle.hprof_diff.specs.Comparing.{Counts}
@@ -64,6 +67,23 @@ parts_of g c = λ told tell.
       same = λ fault tells. law.faults readers scratch stored it told fault are tells;
     }
 
+-- and what those say that agree
+agreed_of : (g : Over) (c : After-new-objects g) (it : InParts g.row.S.Denot g.row.P.Denot) → it ≡ c.new-objects.result
+    → let stored = c.in-Ok-read_stored.stored in
+    (told : List (List ℕ)) → Tell g.R.Source.left c.args.readers.now told
+    → AreOfParts (heap_of stored.heap)
+    (MakeUp g.S.Target.written g.S.Target.health g.P.Parts.bytes it (size_of stored.heap) (facts_of stored.heap))
+    (HaveUnion g.S.Target.written g.S.Target.health g.P.Parts.bytes it)
+    (TellsPass g.S.Target.written g.S.Target.health g.P.Parts.bytes g.S.Scratch.unreadable it (size_of stored.heap) (facts_of stored.heap))
+    told
+agreed_of g c it same = λ told tell.
+    let heap = c.in-Ok-read_stored.stored.heap in
+    subst (λ (i : InParts g.row.S.Denot g.row.P.Denot). AreOfParts (heap_of heap)
+    (MakeUp g.S.Target.written g.S.Target.health g.P.Parts.bytes i (size_of heap) (facts_of heap))
+    (HaveUnion g.S.Target.written g.S.Target.health g.P.Parts.bytes i)
+    (TellsPass g.S.Target.written g.S.Target.health g.P.Parts.bytes g.S.Scratch.unreadable i (size_of heap) (facts_of heap)) told)
+    (sym same) (parts_of g c told tell)
+
 -- the summaries are those of the parts
 summaries_of : (g : Over) (c : After-new-objects g) → (told : List (List ℕ)) → Tell g.R.Source.left c.args.readers.now told
     → AreSummaries told c.read_stored.new.kept.items
@@ -87,15 +107,15 @@ counts_of g c =
     (subst (AreReadOut g.R.Source.left g.R.Source.health g.R.Source.pulls c.args.limits readers then) e.first.so_many e.first.read_out)
 
 -- the objects cannot be gone through
-pub returns-in-Err-count-clause-asks : goal.returns-in-Err-count-clause-asks
-returns-in-Err-count-clause-asks g c =
+pub returns-in-Err-new-clause-asks : goal.returns-in-Err-new-clause-asks
+returns-in-Err-new-clause-asks g c =
     let readers = c.args.readers.now in
     let then = c.read_stored.new.readers in
     let e = c.in-Ok-read_stored.ensures in
     let stored = c.in-Ok-read_stored.stored in
     let it = c.new-objects.result in
-    let fault = c.in-Err-count.fault in
-    let from = c.from-in-Err-count in
+    let fault = c.in-Err-new.fault in
+    let from = c.from-in-Err-new in
     refuses g.R.Source.left g.R.Source.health g.R.Source.pulls g.Q.Asker.left g.Q.Asker.health g.Q.Asker.pulls g.W.Target.written
     g.W.Target.health c.args.limits readers then c.args.questions.now c.args.target.now from.result
     (subst (λ (f : ToolFault). Counts g.R.Source.left g.R.Source.health g.R.Source.pulls HaveObject ⊤ c.args.limits readers then (Some f))
@@ -108,26 +128,26 @@ returns-in-Err-count-clause-asks g c =
     (MakeUp g.S.Target.written g.S.Target.health g.P.Parts.bytes it (size_of stored.heap) (facts_of stored.heap))
     (HaveUnion g.S.Target.written g.S.Target.health g.P.Parts.bytes it)
     (TellsPass g.S.Target.written g.S.Target.health g.P.Parts.bytes g.S.Scratch.unreadable it (size_of stored.heap) (facts_of stored.heap))
-    told (parts_of g (goal.at.returns-in-Err-count-clause-asks g c).After-new-objects told tell) fault c.in-Err-count.ensures.tells)))
+    told (parts_of g (goal.at.returns-in-Err-new-clause-asks g c).After-new-objects told tell) fault c.in-Err-new.ensures.tells)))
 
 -- no more is read before all answers are flushed
 pub converse-requires-clause-leave : goal.converse-requires-clause-leave
 converse-requires-clause-leave g c = λ bytes is after consumes lines opened all flushes.
     let stored = c.in-Ok-read_stored.stored in
-    let it = c.new-objects.result in
+    let it = agreed_under c.in-Ok-new.agreed in
     let then = (goal.at.converse-requires-clause-leave g c).After-new-objects in
     c.requires.leave bytes is after consumes lines opened (λ told tell whole agree summaries are.
     lines_over stored.heap (MakeUp g.S.Target.written g.S.Target.health g.P.Parts.bytes it)
     (HaveUnion g.S.Target.written g.S.Target.health g.P.Parts.bytes it)
     (TellsPass g.S.Target.written g.S.Target.health g.P.Parts.bytes g.S.Scratch.unreadable it (size_of stored.heap) (facts_of stored.heap))
-    told (parts_of g then told tell) c.read_stored.new.kept.items (summaries_of g then told tell) bytes
+    told (agreed_of g then it c.in-Ok-new.ensures.objects told tell) c.read_stored.new.kept.items (summaries_of g then told tell) bytes
     (g.W.Target.written c.args.target.now) (g.W.Target.written after) all whole agree summaries are) flushes
 
 -- nothing is kept yet
 pub converse-requires-clause-kept : goal.converse-requires-clause-kept
 converse-requires-clause-kept g c =
     let heap = c.in-Ok-read_stored.stored.heap in
-    let it = c.new-objects.result in (
+    let it = agreed_under c.in-Ok-new.agreed in (
       λ whole is. c.new-kept.ensures.texts c.read_stored.new.kept.items whole.ids whole.facts,
       nothing_kept (MakeUp g.S.Target.written g.S.Target.health g.P.Parts.bytes it (size_of heap) (facts_of heap))
           (HaveUnion g.S.Target.written g.S.Target.health g.P.Parts.bytes it) (size_of heap) c.new-kept.result.references
@@ -138,7 +158,7 @@ converse-requires-clause-kept g c =
 pub returns-in-Ok-converse-clause-asks : goal.returns-in-Ok-converse-clause-asks
 returns-in-Ok-converse-clause-asks g c =
     let stored = c.in-Ok-read_stored.stored in
-    let it = c.new-objects.result in
+    let it = agreed_under c.in-Ok-new.agreed in
     let then = (goal.at.returns-in-Ok-converse-clause-asks g c).After-new-objects in
     let heap = stored.heap in
     let Made = MakeUp g.S.Target.written g.S.Target.health g.P.Parts.bytes it in
@@ -150,19 +170,19 @@ returns-in-Ok-converse-clause-asks g c =
     asks g.R.Source.left g.R.Source.health g.R.Source.pulls g.Q.Asker.left g.Q.Asker.health g.Q.Asker.pulls g.W.Target.written
     g.W.Target.health c.args.limits c.args.readers.now c.read_stored.new.readers c.args.questions.now c.args.target.now
     (counts_of g then) c.converse.new.questions c.converse.new.target ended
-    (λ told tell. over_told heap Made agreed Tells told (parts_of g then told tell) summaries (summaries_of g then told tell)
-    c.in_default-count.ensures.agree
+    (λ told tell. over_told heap Made agreed Tells told (agreed_of g then it c.in-Ok-new.ensures.objects told tell) summaries (summaries_of g then told tell)
+    (united g.S.Target.written g.S.Target.health g.P.Parts.bytes it c.in-Ok-new.agreed.agree)
     (λ IsAnswer. AnswersDialogue IsAnswer g.Q.Asker.left g.Q.Asker.health g.Q.Asker.pulls g.W.Target.written g.W.Target.health
     c.args.questions.now c.converse.new.questions c.args.target.now c.converse.new.target ended)
     said.dialogue)
     said.ends
-    (λ told tell. no_loss heap Made agreed Tells told (parts_of g then told tell) c.in_default-count.ensures.agree ended said.lost)
+    (λ told tell. no_loss heap Made agreed Tells told (agreed_of g then it c.in-Ok-new.ensures.objects told tell) (united g.S.Target.written g.S.Target.health g.P.Parts.bytes it c.in-Ok-new.agreed.agree) ended said.lost)
 
 -- it stopped
 pub returns-clause-asks : goal.returns-clause-asks
 returns-clause-asks g c =
     let stored = c.in-Ok-read_stored.stored in
-    let it = c.new-objects.result in
+    let it = agreed_under c.in-Ok-new.agreed in
     let then = (goal.at.returns-clause-asks g c).After-new-objects in
     let heap = stored.heap in
     let Made = MakeUp g.S.Target.written g.S.Target.health g.P.Parts.bytes it in
@@ -174,10 +194,10 @@ returns-clause-asks g c =
     asks g.R.Source.left g.R.Source.health g.R.Source.pulls g.Q.Asker.left g.Q.Asker.health g.Q.Asker.pulls g.W.Target.written
     g.W.Target.health c.args.limits c.args.readers.now c.read_stored.new.readers c.args.questions.now c.args.target.now
     (counts_of g then) c.converse.new.questions c.converse.new.target ended
-    (λ told tell. over_told heap Made agreed Tells told (parts_of g then told tell) summaries (summaries_of g then told tell)
-    c.in_default-count.ensures.agree
+    (λ told tell. over_told heap Made agreed Tells told (agreed_of g then it c.in-Ok-new.ensures.objects told tell) summaries (summaries_of g then told tell)
+    (united g.S.Target.written g.S.Target.health g.P.Parts.bytes it c.in-Ok-new.agreed.agree)
     (λ IsAnswer. AnswersDialogue IsAnswer g.Q.Asker.left g.Q.Asker.health g.Q.Asker.pulls g.W.Target.written g.W.Target.health
     c.args.questions.now c.converse.new.questions c.args.target.now c.converse.new.target ended)
     said.dialogue)
     said.ends
-    (λ told tell. no_loss heap Made agreed Tells told (parts_of g then told tell) c.in_default-count.ensures.agree ended said.lost)
+    (λ told tell. no_loss heap Made agreed Tells told (agreed_of g then it c.in-Ok-new.ensures.objects told tell) (united g.S.Target.written g.S.Target.health g.P.Parts.bytes it c.in-Ok-new.agreed.agree) ended said.lost)

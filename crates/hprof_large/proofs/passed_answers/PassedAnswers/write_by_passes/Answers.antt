@@ -5,7 +5,6 @@ use Rattle.std.proofs.Common.{refl}
 use Rattle.hprof_stream.specs.declared.summary.PartSummary.{PartSummary}
 use Rattle.hprof_heap.specs.HeapFacts.{facts_of, size_of}
 use Rattle.hprof_histogram.specs.Known.{MadeUpWith}
-use Rattle.hprof_stored.specs.InParts.{HaveUnion, MakeUp, TellsPass}
 use Rattle.hprof_making.proofs.Passed.{ends_fewer}
 use Rattle.hprof_questions.specs.declared.report.HeapReport.TheVariants as heaps
 use Rattle.hprof_questions.specs.declared.report.Report.{Report}
@@ -26,9 +25,9 @@ returns-clause-ends g c =
     let ids = size_of self.heap.now in
     let facts = facts_of self.heap.now in
     let report = c.args.report in
-    let Made = MakeUp g.S.Target.written g.S.Target.health g.P.Parts.bytes self.objects ids facts in
-    ends_fewer (MadeUpWith Made ids None) Made (HaveUnion g.S.Target.written g.S.Target.health g.P.Parts.bytes self.objects)
-    (TellsPass g.S.Target.written g.S.Target.health g.P.Parts.bytes g.S.Scratch.unreadable self.objects ids facts)
+    let Made = g.O.Objects.make_up self.objects ids facts in
+    ends_fewer (MadeUpWith Made ids None) Made (g.O.Objects.agree self.objects (size_of self.heap.now) (facts_of self.heap.now))
+    (g.O.Objects.tells self.objects ids facts)
     (λ all. IsReport self.summaries.now.items ids all report) (λ refusal all. RefusesReport all report refusal)
     g.W.Target.written g.W.Target.health c.args.target.now c.write_report_over.new.target (λ all made. (made, tt))
     c.write_report_over.result

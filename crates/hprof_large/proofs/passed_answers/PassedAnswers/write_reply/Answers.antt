@@ -1,6 +1,5 @@
 use Rattle.std.proofs.Common.{◌∙◌, ap, inl, Result, subst, sym}
 use Rattle.hprof_heap.specs.HeapFacts.{facts_of, size_of}
-use Rattle.hprof_stored.specs.InParts.{TellsPass}
 use Rattle.hprof_questions.specs.declared.question.Question.{Question}
 use Rattle.hprof_questions.specs.declared.question.Question.TheVariants as questions
 use Rattle.hprof_questions.specs.declared.report.Report.{Report}
@@ -46,7 +45,7 @@ returns-in_default g c =
     let new = g.W.Target.written wrote.new.target in
     let health = g.W.Target.health wrote.new.target in
     let text = reply_without_report c.args.question in
-    let Loses = IsLostBy (TellsPass g.S.Target.written g.S.Target.health g.P.Parts.bytes g.S.Scratch.unreadable self.objects
+    let Loses = IsLostBy (g.O.Objects.tells self.objects
     (size_of self.heap.now) (facts_of self.heap.now)) in
     record {
       bytes = λ whole is. (

@@ -3,7 +3,6 @@ use Rattle.hprof_heap.specs.HeapFacts.{facts_of, size_of}
 use Rattle.hprof_passes.specs.declared.pass_stop.PassStop.TheVariants.{Sink}
 use Rattle.hprof_engine.specs.declared.product.WriteStop.{WriteStop}
 use Rattle.hprof_engine.specs.declared.product.WriteStop.TheVariants as writes
-use Rattle.hprof_stored.specs.InParts.{HaveUnion, MakeUp, TellsPass}
 use Rattle.hprof_lines.specs.Stopping.{WritesText}
 use Rattle.hprof_questions.specs.declared.stop.DialogueStop.{DialogueStop}
 use Rattle.hprof_questions.specs.Answering.{WritesAnswer}
@@ -13,20 +12,20 @@ use Rattle.hprof_large.proofs.passed_answers.PassedAnswers.write_report.Goals as
 pub returns-in-Ok-clause-bytes : goal.returns-in-Ok-clause-bytes
 returns-in-Ok-clause-bytes g c =
     let self = c.args.self.now in
-    replied self.heap.now (MakeUp g.S.Target.written g.S.Target.health g.P.Parts.bytes self.objects)
-    (λ ids facts all make. make.whole) self.summaries.now.items g.W.Target.written g.W.Target.health c.args.target.now
-    c.write_by_passes.new.target (HaveUnion g.S.Target.written g.S.Target.health g.P.Parts.bytes self.objects)
-    (TellsPass g.S.Target.written g.S.Target.health g.P.Parts.bytes g.S.Scratch.unreadable self.objects (size_of self.heap.now)
+    replied self.heap.now (g.O.Objects.make_up self.objects)
+    (g.O.Objects.whole self.objects) self.summaries.now.items g.W.Target.written g.W.Target.health c.args.target.now
+    c.write_by_passes.new.target (g.O.Objects.agree self.objects (size_of self.heap.now) (facts_of self.heap.now))
+    (g.O.Objects.tells self.objects (size_of self.heap.now)
     (facts_of self.heap.now)) c.args.report c.requires.well c.in-Ok.field-0 c.in-Ok.ensures.ends
 
 pub returns-in-Err-Lost-clause-bytes : goal.returns-in-Err-Lost-clause-bytes
 returns-in-Err-Lost-clause-bytes g c =
     let self = c.args.self.now in
     let it = c.in-Err-Lost in
-    (lost self.heap.now (MakeUp g.S.Target.written g.S.Target.health g.P.Parts.bytes self.objects)
-    (λ ids facts all make. make.whole) self.summaries.now.items g.W.Target.written g.W.Target.health c.args.target.now
-    c.write_by_passes.new.target (HaveUnion g.S.Target.written g.S.Target.health g.P.Parts.bytes self.objects)
-    (TellsPass g.S.Target.written g.S.Target.health g.P.Parts.bytes g.S.Scratch.unreadable self.objects (size_of self.heap.now)
+    (lost self.heap.now (g.O.Objects.make_up self.objects)
+    (g.O.Objects.whole self.objects) self.summaries.now.items g.W.Target.written g.W.Target.health c.args.target.now
+    c.write_by_passes.new.target (g.O.Objects.agree self.objects (size_of self.heap.now) (facts_of self.heap.now))
+    (g.O.Objects.tells self.objects (size_of self.heap.now)
     (facts_of self.heap.now)) c.args.report c.requires.well it.field-0 it.fault c.stop_of_pass_fault.result it.field-0-is
     c.stop_of_pass_fault.ensures it.ensures.ends).0
 
@@ -34,10 +33,10 @@ pub returns-in-Err-Sink-Write-clause-bytes : goal.returns-in-Err-Sink-Write-clau
 returns-in-Err-Sink-Write-clause-bytes g c =
     let self = c.args.self.now in
     let it = c.in-Err-Sink-Write in
-    (stopped self.heap.now (MakeUp g.S.Target.written g.S.Target.health g.P.Parts.bytes self.objects)
-    (λ ids facts all make. make.whole) self.summaries.now.items g.W.Target.written g.W.Target.health c.args.target.now
-    c.write_by_passes.new.target (HaveUnion g.S.Target.written g.S.Target.health g.P.Parts.bytes self.objects)
-    (TellsPass g.S.Target.written g.S.Target.health g.P.Parts.bytes g.S.Scratch.unreadable self.objects (size_of self.heap.now)
+    (stopped self.heap.now (g.O.Objects.make_up self.objects)
+    (g.O.Objects.whole self.objects) self.summaries.now.items g.W.Target.written g.W.Target.health c.args.target.now
+    c.write_by_passes.new.target (g.O.Objects.agree self.objects (size_of self.heap.now) (facts_of self.heap.now))
+    (g.O.Objects.tells self.objects (size_of self.heap.now)
     (facts_of self.heap.now)) c.args.report c.requires.well it.field-0 (writes.Write it.fault)
     (it.field-0-is ∙ ap (λ (stop : WriteStop). Sink stop) it.field-0-0-is) (λ refusal e. absurd cc) it.ensures.ends).0
 
@@ -45,10 +44,10 @@ pub returns-in-Err-Sink-OutOfMemory-clause-bytes : goal.returns-in-Err-Sink-OutO
 returns-in-Err-Sink-OutOfMemory-clause-bytes g c =
     let self = c.args.self.now in
     let it = c.in-Err-Sink-OutOfMemory in
-    (stopped self.heap.now (MakeUp g.S.Target.written g.S.Target.health g.P.Parts.bytes self.objects)
-    (λ ids facts all make. make.whole) self.summaries.now.items g.W.Target.written g.W.Target.health c.args.target.now
-    c.write_by_passes.new.target (HaveUnion g.S.Target.written g.S.Target.health g.P.Parts.bytes self.objects)
-    (TellsPass g.S.Target.written g.S.Target.health g.P.Parts.bytes g.S.Scratch.unreadable self.objects (size_of self.heap.now)
+    (stopped self.heap.now (g.O.Objects.make_up self.objects)
+    (g.O.Objects.whole self.objects) self.summaries.now.items g.W.Target.written g.W.Target.health c.args.target.now
+    c.write_by_passes.new.target (g.O.Objects.agree self.objects (size_of self.heap.now) (facts_of self.heap.now))
+    (g.O.Objects.tells self.objects (size_of self.heap.now)
     (facts_of self.heap.now)) c.args.report c.requires.well it.field-0 writes.OutOfMemory
     (it.field-0-is ∙ ap (λ (stop : WriteStop). Sink stop) it.field-0-0-is) (λ refusal e. absurd cc) it.ensures.ends).0
 
@@ -57,10 +56,10 @@ pub returns-in-Err-Sink-Refused-clause-bytes : goal.returns-in-Err-Sink-Refused-
 returns-in-Err-Sink-Refused-clause-bytes g c = λ whole is.
     let self = c.args.self.now in
     let it = c.in-Err-Sink-Refused in
-    let lacks = lacks_class self.heap.now (MakeUp g.S.Target.written g.S.Target.health g.P.Parts.bytes self.objects)
-    (λ ids facts all make. make.whole) self.summaries.now.items g.W.Target.written g.W.Target.health c.args.target.now
-    c.write_by_passes.new.target (HaveUnion g.S.Target.written g.S.Target.health g.P.Parts.bytes self.objects)
-    (TellsPass g.S.Target.written g.S.Target.health g.P.Parts.bytes g.S.Scratch.unreadable self.objects (size_of self.heap.now)
+    let lacks = lacks_class self.heap.now (g.O.Objects.make_up self.objects)
+    (g.O.Objects.whole self.objects) self.summaries.now.items g.W.Target.written g.W.Target.health c.args.target.now
+    c.write_by_passes.new.target (g.O.Objects.agree self.objects (size_of self.heap.now) (facts_of self.heap.now))
+    (g.O.Objects.tells self.objects (size_of self.heap.now)
     (facts_of self.heap.now)) c.args.report c.requires.well it.field-0 it.field-0-0-0
     (it.field-0-is ∙ ap (λ (stop : WriteStop). Sink stop) it.field-0-0-is) it.ensures.ends in
     let text = codes "no class has this name\n" in
