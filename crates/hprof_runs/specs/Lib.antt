@@ -13,6 +13,7 @@ pub mod ScratchFault
 pub mod ScratchWriter
 pub mod RunOf
 pub mod RunCuts
+pub mod RunsWritten
 pub mod Runs
 pub mod RunFault
 pub mod RunBytes

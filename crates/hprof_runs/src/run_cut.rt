@@ -1,7 +1,6 @@
 //! Cuts of runs.
 
-ghost use Rattle.std.specs.Prelude.{◌≡◌, ◌+◌, ◌<◌, ◌^◌};
-ghost use Rattle.hprof_runs.specs.RunCuts.{BeginsCut, ExtendsCut};
+ghost use Rattle.std.specs.Prelude.{◌≡◌, ◌+◌, ◌<◌, ◌^◌, IfSome};
 
 use crate::run::Run;
 use crate::scratch_writer::PIECE_BYTES;
@@ -16,6 +15,7 @@ pub struct RunCut {
     pub last: u64,
     /// Its bytes.
     pub(crate) run: Run,
+    ghost fits: { run.at + run.len < 2 ^ 64 },
 }
 
 /// The number of bytes from which on a cut takes no further row: a run is read back in pieces of so many bytes, so that a shorter cut would
@@ -23,31 +23,40 @@ pub struct RunCut {
 const CUT_BYTES: u64 = PIECE_BYTES as u64;
 
 impl RunCut {
-    /// Returns the cut that begins at an offset, with one row of so many bytes.
-    pub(crate) fn begin(at: u64, key: u64, len: u64) -> Self
-        requires { at + len < 2 ^ 64 }
-        ensures { BeginsCut at key len result }
+    ghost use Rattle.hprof_runs.specs.RunCuts.{BeginsCut, ExtendsCut};
+
+    /// Returns the cut that begins at an offset, with one row of so many bytes. There is none if its bytes would end at 2^64 or beyond.
+    pub(crate) fn begin(at: u64, key: u64, len: u64) -> Option<Self>
+        ensures { IfSome result (BeginsCut at key len) }
     {
-        RunCut {
+        at.checked_add(len)?;
+        Some(RunCut {
             first: key,
             last: key,
             run: Run { at, len },
-        }
+        })
     }
 
-    /// Returns the cut with one more row of so many bytes.
-    pub(crate) fn extend(&self, key: u64, len: u64) -> Self
-        requires { self.now.run.at + self.now.run.len + len < 2 ^ 64 }
-        ensures { ExtendsCut self.now key len result }
+    /// Returns the cut with one more row of so many bytes. There is none if its bytes would end at 2^64 or beyond.
+    pub(crate) fn extend(&self, key: u64, len: u64) -> Option<Self>
+        ensures { IfSome result (ExtendsCut self.now key len) }
     {
-        RunCut {
+        self.end().checked_add(len)?;
+        Some(RunCut {
             first: self.first,
             last: key,
             run: Run {
                 at: self.run.at,
                 len: self.run.len + len,
             },
-        }
+        })
+    }
+
+    /// Returns the offset behind its bytes.
+    pub(crate) fn end(&self) -> u64
+        ensures { result ≡ self.now.run.at + self.now.run.len }
+    {
+        self.run.at + self.run.len
     }
 
     /// Returns whether the cut takes no further row.
