@@ -19,7 +19,8 @@ use Rattle.hprof_passes.specs.Passing.{objects_among}
 use Rattle.hprof_stored.specs.declared.in_parts.InParts.{InParts}
 use Rattle.hprof_stored.specs.declared.row_counter.CountFull.{CountFull}
 use Rattle.hprof_stored.specs.declared.row_counter.RowCounter.{RowCounter}
-use Rattle.hprof_stored.specs.InParts.{AreAsRead, AreSoMany, HaveUnion, MakeUp, TellsPass, count_stop, limits_under, objects_under, parts_under}
+use Rattle.hprof_stored.specs.InParts.{AreAsRead, AreSoMany, HaveUnion, MakeUp, TellsPass, count_stop}
+use Rattle.hprof_stored.specs.InParts.{limits_under, objects_under, parts_under}
 use Rattle.hprof_stored.specs.RowCounter.{Counts, IsFull}
 use Rattle.hprof_stored.proofs.ObjectSpelling.{as_many}
 
