@@ -170,7 +170,8 @@ impl<O: Objects<Fault = PassFault> + Drop> PassedAnswers<'_, O> {
             → AreReports self.now.summaries.now.items heap.ids heap.facts kept.old.texts }
         requires references { AreKeptReferences
             (O.make_up self.now.objects (size_of self.now.heap.now) (facts_of self.now.heap.now))
-            (O.agree self.now.objects (size_of self.now.heap.now) (facts_of self.now.heap.now)) (size_of self.now.heap.now) kept.old.references }
+            (O.agree self.now.objects (size_of self.now.heap.now) (facts_of self.now.heap.now)) (size_of self.now.heap.now)
+            kept.old.references }
         ensures bytes { (heap : HeapValue) → IsWholeHeap self.now.heap.now (O.make_up self.now.objects) heap
             → (text : List ℕ) × IsHeapReport self.now.summaries.now.items heap.ids heap.facts report text
             × WritesAnswer (W.written target.old) (W.written target.new) result text }
@@ -180,7 +181,8 @@ impl<O: Objects<Fault = PassFault> + Drop> PassedAnswers<'_, O> {
             → AreReports self.now.summaries.now.items heap.ids heap.facts kept.new.texts }
         ensures references { AreKeptReferences
             (O.make_up self.now.objects (size_of self.now.heap.now) (facts_of self.now.heap.now))
-            (O.agree self.now.objects (size_of self.now.heap.now) (facts_of self.now.heap.now)) (size_of self.now.heap.now) kept.new.references }
+            (O.agree self.now.objects (size_of self.now.heap.now) (facts_of self.now.heap.now)) (size_of self.now.heap.now)
+            kept.new.references }
     {
         if let Some(bytes) = kept.texts.find(report) {
             return write_bytes(bytes, target);
@@ -207,7 +209,8 @@ impl<O: Objects<Fault = PassFault> + Drop> PassedAnswers<'_, O> {
             → AreReports self.now.summaries.now.items heap.ids heap.facts kept.old.texts }
         requires references { AreKeptReferences
             (O.make_up self.now.objects (size_of self.now.heap.now) (facts_of self.now.heap.now))
-            (O.agree self.now.objects (size_of self.now.heap.now) (facts_of self.now.heap.now)) (size_of self.now.heap.now) kept.old.references }
+            (O.agree self.now.objects (size_of self.now.heap.now) (facts_of self.now.heap.now)) (size_of self.now.heap.now)
+            kept.old.references }
         ensures bytes { (heap : HeapValue) → IsWholeHeap self.now.heap.now (O.make_up self.now.objects) heap
             → (text : List ℕ) × IsReply self.now.summaries.now.items heap.ids heap.facts question.entry text
             × WritesAnswer (W.written target.old) (W.written target.new) result text }
@@ -217,7 +220,8 @@ impl<O: Objects<Fault = PassFault> + Drop> PassedAnswers<'_, O> {
             → AreReports self.now.summaries.now.items heap.ids heap.facts kept.new.texts }
         ensures references { AreKeptReferences
             (O.make_up self.now.objects (size_of self.now.heap.now) (facts_of self.now.heap.now))
-            (O.agree self.now.objects (size_of self.now.heap.now) (facts_of self.now.heap.now)) (size_of self.now.heap.now) kept.new.references }
+            (O.agree self.now.objects (size_of self.now.heap.now) (facts_of self.now.heap.now)) (size_of self.now.heap.now)
+            kept.new.references }
     {
         match question {
             Question::Report(Report::Heap(report)) => self.write_kept(alloc, kept, report, target),

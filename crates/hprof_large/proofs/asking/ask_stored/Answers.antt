@@ -170,13 +170,15 @@ returns-in-Ok-converse-clause-asks g c =
     asks g.R.Source.left g.R.Source.health g.R.Source.pulls g.Q.Asker.left g.Q.Asker.health g.Q.Asker.pulls g.W.Target.written
     g.W.Target.health c.args.limits c.args.readers.now c.read_stored.new.readers c.args.questions.now c.args.target.now
     (counts_of g then) c.converse.new.questions c.converse.new.target ended
-    (λ told tell. over_told heap Made agreed Tells told (agreed_of g then it c.in-Ok-new.ensures.objects told tell) summaries (summaries_of g then told tell)
+    (λ told tell. over_told heap Made agreed Tells told (agreed_of g then it c.in-Ok-new.ensures.objects told tell) summaries
+    (summaries_of g then told tell)
     (united g.S.Target.written g.S.Target.health g.P.Parts.bytes it c.in-Ok-new.agreed.agree)
     (λ IsAnswer. AnswersDialogue IsAnswer g.Q.Asker.left g.Q.Asker.health g.Q.Asker.pulls g.W.Target.written g.W.Target.health
     c.args.questions.now c.converse.new.questions c.args.target.now c.converse.new.target ended)
     said.dialogue)
     said.ends
-    (λ told tell. no_loss heap Made agreed Tells told (agreed_of g then it c.in-Ok-new.ensures.objects told tell) (united g.S.Target.written g.S.Target.health g.P.Parts.bytes it c.in-Ok-new.agreed.agree) ended said.lost)
+    (λ told tell. no_loss heap Made agreed Tells told (agreed_of g then it c.in-Ok-new.ensures.objects told tell)
+    (united g.S.Target.written g.S.Target.health g.P.Parts.bytes it c.in-Ok-new.agreed.agree) ended said.lost)
 
 -- it stopped
 pub returns-clause-asks : goal.returns-clause-asks
@@ -194,10 +196,12 @@ returns-clause-asks g c =
     asks g.R.Source.left g.R.Source.health g.R.Source.pulls g.Q.Asker.left g.Q.Asker.health g.Q.Asker.pulls g.W.Target.written
     g.W.Target.health c.args.limits c.args.readers.now c.read_stored.new.readers c.args.questions.now c.args.target.now
     (counts_of g then) c.converse.new.questions c.converse.new.target ended
-    (λ told tell. over_told heap Made agreed Tells told (agreed_of g then it c.in-Ok-new.ensures.objects told tell) summaries (summaries_of g then told tell)
+    (λ told tell. over_told heap Made agreed Tells told (agreed_of g then it c.in-Ok-new.ensures.objects told tell) summaries
+    (summaries_of g then told tell)
     (united g.S.Target.written g.S.Target.health g.P.Parts.bytes it c.in-Ok-new.agreed.agree)
     (λ IsAnswer. AnswersDialogue IsAnswer g.Q.Asker.left g.Q.Asker.health g.Q.Asker.pulls g.W.Target.written g.W.Target.health
     c.args.questions.now c.converse.new.questions c.args.target.now c.converse.new.target ended)
     said.dialogue)
     said.ends
-    (λ told tell. no_loss heap Made agreed Tells told (agreed_of g then it c.in-Ok-new.ensures.objects told tell) (united g.S.Target.written g.S.Target.health g.P.Parts.bytes it c.in-Ok-new.agreed.agree) ended said.lost)
+    (λ told tell. no_loss heap Made agreed Tells told (agreed_of g then it c.in-Ok-new.ensures.objects told tell)
+    (united g.S.Target.written g.S.Target.health g.P.Parts.bytes it c.in-Ok-new.agreed.agree) ended said.lost)
