@@ -71,6 +71,10 @@ impl<'a> PassProduct for GrowthReport<'a> {
         true
     }
 
+    fn wants_picks(&self) -> bool {
+        false
+    }
+
     fn write_over<O: Objects, W: Target>(
         &self,
         alloc: Global,

@@ -4,6 +4,7 @@ ghost use Rattle.std.specs.Prelude.{◌≡◌, ℕ, List, IfErr, IfOk};
 ghost use Rattle.hprof_devices.specs.declared.health.Health.TheVariants.{Well};
 ghost use Rattle.hprof_rows.specs.HeapValue.{HeapValue};
 ghost use Rattle.hprof_heap.specs.HeapFacts.{facts_of, size_of};
+ghost use Rattle.hprof_passes.specs.Passing.{IfLost};
 ghost use Rattle.hprof_retained.specs.KeptReferences.{AreKeptReferences};
 ghost use Rattle.hprof_questions.specs.Answering.{LeavesWriter, TellsLoss, WritesAnswer};
 ghost use Rattle.hprof_ask.specs.HeapAnswers.{IsHeapAnswer, IsReply, IsReportReply};
@@ -27,7 +28,7 @@ use hprof_questions::{Answers, DialogueStop, HeapReport, Question, Report};
 use hprof_retained::KeptReferences;
 use hprof_stored::PassFault;
 use hprof_stream::PartSummary;
-use std::alloc::Global;
+use std::alloc::{AllocError, Global};
 
 /// A heap whose objects are gone through anew for each answer, and the summaries of its parts.
 #[derive(Drop)]
@@ -121,20 +122,20 @@ impl<O: Objects<Fault = PassFault> + Drop> PassedAnswers<'_, O> {
         }
     }
 
-    /// Makes the text of a report on the whole heap.
+    /// Makes the text of a report on the whole heap, in memory.
     fn make_text(
         &self,
         alloc: Global,
         references: &mut KeptReferences,
         report: HeapReport,
-    ) -> Result<Vec<u8>, PassFault>
+    ) -> Result<Vec<u8>, PassStop<AllocError, PassFault>>
         requires { AreKeptReferences
             (O.make_up self.now.objects (size_of self.now.heap.now) (facts_of self.now.heap.now))
             (O.agree self.now.objects (size_of self.now.heap.now) (facts_of self.now.heap.now)) (size_of self.now.heap.now) references.old }
         ensures text { IfOk result (λ bytes. (heap : HeapValue)
             → IsWholeHeap self.now.heap.now (O.make_up self.now.objects) heap
             → IsHeapReport self.now.summaries.now.items heap.ids heap.facts report bytes.items) }
-        ensures lost { IfErr result (O.tells self.now.objects (size_of self.now.heap.now) (facts_of self.now.heap.now)) }
+        ensures lost { IfErr result (IfLost (O.tells self.now.objects (size_of self.now.heap.now) (facts_of self.now.heap.now))) }
         ensures references { AreKeptReferences
             (O.make_up self.now.objects (size_of self.now.heap.now) (facts_of self.now.heap.now))
             (O.agree self.now.objects (size_of self.now.heap.now) (facts_of self.now.heap.now)) (size_of self.now.heap.now) references.new }
@@ -151,9 +152,9 @@ impl<O: Objects<Fault = PassFault> + Drop> PassedAnswers<'_, O> {
             &mut target,
         ) {
             Ok(()) => Ok(target.into_inner()),
-            Err(PassStop::Lost(fault)) => Err(fault),
+            Err(PassStop::Lost(fault)) => Err(PassStop::Lost(fault)),
             // A list fails to take a byte only if memory runs out.
-            Err(PassStop::Sink(_)) => Err(PassFault::OutOfMemory),
+            Err(PassStop::Sink(_)) => Err(PassStop::Sink(AllocError)),
         }
     }
 
@@ -189,7 +190,8 @@ impl<O: Objects<Fault = PassFault> + Drop> PassedAnswers<'_, O> {
         }
         let bytes = match self.make_text(alloc, &mut kept.references, report) {
             Ok(bytes) => bytes,
-            Err(fault) => return Err(stop_of_pass_fault(fault)),
+            Err(PassStop::Lost(fault)) => return Err(stop_of_pass_fault(fault)),
+            Err(PassStop::Sink(_)) => return Err(DialogueStop::OutOfMemory),
         };
         let outcome = write_bytes(&bytes, target);
         kept.texts.keep(report, bytes);

@@ -21,7 +21,7 @@ use hprof_heap::Heap;
 use hprof_histogram::CountedKinds;
 use hprof_making::PassProduct;
 use hprof_passes::{Objects, PassStop};
-use hprof_questions::{HeapReport, Report};
+use hprof_questions::{HeapReport, KindReport, NodeReport, Report};
 use hprof_retained::KeptReferences;
 use hprof_stream::PartSummary;
 use std::alloc::{AllocError, Global};
@@ -122,6 +122,22 @@ impl PassProduct for PassedReport<'_> {
         matches!(
             self.report,
             Report::Heap(HeapReport::Histogram | HeapReport::Classes)
+        )
+    }
+
+    fn wants_picks(&self) -> bool {
+        matches!(
+            self.report,
+            Report::Heap(HeapReport::Threads | HeapReport::Suspects)
+                | Report::Kind(KindReport::Biggest, _)
+                | Report::Node(
+                    NodeReport::Text
+                        | NodeReport::Show
+                        | NodeReport::Who
+                        | NodeReport::Why
+                        | NodeReport::Keeps,
+                    _
+                )
         )
     }
 

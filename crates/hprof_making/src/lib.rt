@@ -6,6 +6,7 @@
 mod making;
 mod pass_product;
 mod watching;
+mod writing;
 
 pub use making::make_stored;
 pub use pass_product::PassProduct;

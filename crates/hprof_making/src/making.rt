@@ -9,6 +9,7 @@ ghost use Rattle.hprof_stored.specs.StoredMaking.{CanBeReadAgain, stored_making}
 
 use crate::pass_product::PassProduct;
 use crate::watching::{counts_known, counts_to_watch};
+use crate::writing::write_in_parts;
 use hprof_devices::{Source, Target};
 use hprof_engine::ToolFault;
 use hprof_histogram::CountedKinds;
@@ -72,7 +73,7 @@ pub fn make_stored<M: PassProduct, R: Source, S: Scratch + Drop, P: Parts, W: Ta
     let objects = objects.finish();
     let known = counts_known(&objects, watched);
     let objects = InParts::new(&objects, parts, limits);
-    match product.write_over(alloc, &kept, &heap, &objects, known, target) {
+    match write_in_parts(alloc, product, &kept, &heap, objects, known, target) {
         Ok(()) => Ok(()),
         Err(PassStop::Sink(stop)) => Err(ToolFault::from(stop)),
         Err(PassStop::Lost(fault)) => Err(ToolFault::from(fault)),

@@ -31,6 +31,9 @@ pub trait PassProduct: Summaries {
     /// Returns whether counts of the objects by kind are of use to it.
     fn wants_counts(&self) -> bool;
 
+    /// Returns whether it picks objects more than once, or picks some beside other passes.
+    fn wants_picks(&self) -> bool;
+
     /// Writes the product. The heap has all facts but the objects, whose counts by kind may be known.
     ///
     /// # Errors

@@ -13,7 +13,6 @@ use Rattle.hprof_stored.specs.declared.in_parts.InParts.{InParts}
 use Rattle.hprof_stored.specs.AgreedUnder.{agreed_under}
 use Rattle.hprof_stored.specs.InParts.{HaveUnion, MakeUp, TellsPass}
 use Rattle.hprof_stored.specs.Storing.{HaveObject}
-use Rattle.hprof_stored.proofs.OneContent.{united}
 use Rattle.hprof_stored.proofs.StoredReads.{some_readers}
 use Rattle.hprof_making.proofs.Made.{AreOfParts, of_loss}
 use Rattle.hprof_diff.specs.Comparing.{Counts}
@@ -84,6 +83,11 @@ agreed_of g c it same = λ told tell.
     (TellsPass g.S.Target.written g.S.Target.health g.P.Parts.bytes g.S.Scratch.unreadable i (size_of heap) (facts_of heap)) told)
     (sym same) (parts_of g c told tell)
 
+union_of : (g : Over) (c : After-new-objects g) (it : InParts g.row.S.Denot g.row.P.Denot) → it ≡ c.new-objects.result
+    → HaveUnion g.S.Target.written g.S.Target.health g.P.Parts.bytes c.new-objects.result
+    → HaveUnion g.S.Target.written g.S.Target.health g.P.Parts.bytes it
+union_of g c it same have = subst (HaveUnion g.S.Target.written g.S.Target.health g.P.Parts.bytes) (sym same) have
+
 -- the summaries are those of the parts
 summaries_of : (g : Over) (c : After-new-objects g) → (told : List (List ℕ)) → Tell g.R.Source.left c.args.readers.now told
     → AreSummaries told c.read_stored.new.kept.items
@@ -128,7 +132,7 @@ returns-in-Err-new-clause-asks g c =
     (MakeUp g.S.Target.written g.S.Target.health g.P.Parts.bytes it (size_of stored.heap) (facts_of stored.heap))
     (HaveUnion g.S.Target.written g.S.Target.health g.P.Parts.bytes it)
     (TellsPass g.S.Target.written g.S.Target.health g.P.Parts.bytes g.S.Scratch.unreadable it (size_of stored.heap) (facts_of stored.heap))
-    told (parts_of g (goal.at.returns-in-Err-new-clause-asks g c).After-new-objects told tell) fault c.in-Err-new.ensures.tells)))
+    told (parts_of g (goal.at.returns-in-Err-new-clause-asks g c).After-new-objects told tell) fault (c.in-Err-new.ensures.tells (size_of stored.heap) (facts_of stored.heap)))))
 
 -- no more is read before all answers are flushed
 pub converse-requires-clause-leave : goal.converse-requires-clause-leave
@@ -172,13 +176,13 @@ returns-in-Ok-converse-clause-asks g c =
     (counts_of g then) c.converse.new.questions c.converse.new.target ended
     (λ told tell. over_told heap Made agreed Tells told (agreed_of g then it c.in-Ok-new.ensures.objects told tell) summaries
     (summaries_of g then told tell)
-    (united g.S.Target.written g.S.Target.health g.P.Parts.bytes it c.in-Ok-new.agreed.agree)
+    (union_of g then it c.in-Ok-new.ensures.objects c.in-Ok-new.ensures.agree)
     (λ IsAnswer. AnswersDialogue IsAnswer g.Q.Asker.left g.Q.Asker.health g.Q.Asker.pulls g.W.Target.written g.W.Target.health
     c.args.questions.now c.converse.new.questions c.args.target.now c.converse.new.target ended)
     said.dialogue)
     said.ends
     (λ told tell. no_loss heap Made agreed Tells told (agreed_of g then it c.in-Ok-new.ensures.objects told tell)
-    (united g.S.Target.written g.S.Target.health g.P.Parts.bytes it c.in-Ok-new.agreed.agree) ended said.lost)
+    (union_of g then it c.in-Ok-new.ensures.objects c.in-Ok-new.ensures.agree) ended said.lost)
 
 -- it stopped
 pub returns-clause-asks : goal.returns-clause-asks
@@ -198,10 +202,10 @@ returns-clause-asks g c =
     (counts_of g then) c.converse.new.questions c.converse.new.target ended
     (λ told tell. over_told heap Made agreed Tells told (agreed_of g then it c.in-Ok-new.ensures.objects told tell) summaries
     (summaries_of g then told tell)
-    (united g.S.Target.written g.S.Target.health g.P.Parts.bytes it c.in-Ok-new.agreed.agree)
+    (union_of g then it c.in-Ok-new.ensures.objects c.in-Ok-new.ensures.agree)
     (λ IsAnswer. AnswersDialogue IsAnswer g.Q.Asker.left g.Q.Asker.health g.Q.Asker.pulls g.W.Target.written g.W.Target.health
     c.args.questions.now c.converse.new.questions c.args.target.now c.converse.new.target ended)
     said.dialogue)
     said.ends
     (λ told tell. no_loss heap Made agreed Tells told (agreed_of g then it c.in-Ok-new.ensures.objects told tell)
-    (united g.S.Target.written g.S.Target.health g.P.Parts.bytes it c.in-Ok-new.agreed.agree) ended said.lost)
+    (union_of g then it c.in-Ok-new.ensures.objects c.in-Ok-new.ensures.agree) ended said.lost)

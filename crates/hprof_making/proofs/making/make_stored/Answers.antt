@@ -74,16 +74,16 @@ parts_of g c = λ told tell.
     law.heap law.agree law.disagree law.faults
 
 -- where counts are known, the objects are one stretch
-pub write_over-requires-clause-agree : goal.write_over-requires-clause-agree
-write_over-requires-clause-agree g c =
+pub write_in_parts-requires-clause-agree : goal.write_in_parts-requires-clause-agree
+write_in_parts-requires-clause-agree g c =
     known_agree g.R.Source.left g.S.Target.written g.S.Target.health g.S.Scratch.unreadable g.P.Parts.bytes c.args.readers.now
     (g.S.Target.written c.args.scratch) c.in-Ok-read_watched.read.0 c.new-objects.result c.counts_to_watch-watch.result
     c.in-Ok-read_watched.read.1 c.counts_known-known.result c.what_was_watched_is_a_pass.ensures.agree
-    (known_so g (goal.at.write_over-requires-clause-agree g c).After-new-objects)
+    (known_so g (goal.at.write_in_parts-requires-clause-agree g c).After-new-objects)
 
 -- all of it was written
-pub returns-in-Ok-write_over : goal.returns-in-Ok-write_over
-returns-in-Ok-write_over g c =
+pub returns-in-Ok-write_in_parts : goal.returns-in-Ok-write_in_parts
+returns-in-Ok-write_in_parts g c =
     let left = g.R.Source.left in
     let health = g.R.Source.health in
     let pulls = g.R.Source.pulls in
@@ -98,15 +98,15 @@ returns-in-Ok-write_over g c =
     let out = subst (AreReadOut left health pulls c.args.limits readers c.read_watched.new.readers) e.first.so_many e.first.read_out in
     let some = some_readers readers c.if-is_empty.ensures in
     makes_whole left health pulls c.args.limits readers c.read_watched.new.readers g.W.Target.written g.W.Target.health
-    (g.M.PassProduct.is_text c.args.product.now) (g.M.PassProduct.refuses c.args.product.now) c.args.target.now c.write_over.new.target some
+    (g.M.PassProduct.is_text c.args.product.now) (g.M.PassProduct.refuses c.args.product.now) c.args.target.now c.write_in_parts.new.target some
     e.reads out c.requires.target (heap_of stored.heap)
     (MadeUpWith (MakeUp g.S.Target.written g.S.Target.health g.P.Parts.bytes it (size_of stored.heap) (facts_of stored.heap))
     (size_of stored.heap) known) (HaveUnion g.S.Target.written g.S.Target.health g.P.Parts.bytes it)
     (TellsPass g.S.Target.written g.S.Target.health g.P.Parts.bytes g.S.Scratch.unreadable it (size_of stored.heap) (facts_of stored.heap))
     held.summaries
-    (parts_of g (goal.at.returns-in-Ok-write_over g c).After-new-objects)
-    (summaries_held left holds readers kept held) c.in-Ok-write_over.field-0
-    (c.in-Ok-write_over.ensures held.summaries held.held)
+    (parts_of g (goal.at.returns-in-Ok-write_in_parts g c).After-new-objects)
+    (summaries_held left holds readers kept held) c.in-Ok-write_in_parts.field-0
+    (c.in-Ok-write_in_parts.ensures held.summaries held.held)
 
 -- writing stopped
 pub returns-in-Err-Sink : goal.returns-in-Err-Sink
@@ -126,9 +126,9 @@ returns-in-Err-Sink g c =
     let some = some_readers readers c.if-is_empty.ensures in
     subst (λ (fault : ToolFault). Makes left health pulls g.W.Target.written g.W.Target.health c.args.limits
     (stored_making (g.M.PassProduct.is_text c.args.product.now) (g.M.PassProduct.refuses c.args.product.now)) readers
-    c.read_watched.new.readers c.args.target.now c.write_over.new.target (Some fault)) (sym c.from-in-Err-Sink.ensures)
+    c.read_watched.new.readers c.args.target.now c.write_in_parts.new.target (Some fault)) (sym c.from-in-Err-Sink.ensures)
     (makes_stopped left health pulls c.args.limits readers c.read_watched.new.readers g.W.Target.written g.W.Target.health
-    (g.M.PassProduct.is_text c.args.product.now) (g.M.PassProduct.refuses c.args.product.now) c.args.target.now c.write_over.new.target some
+    (g.M.PassProduct.is_text c.args.product.now) (g.M.PassProduct.refuses c.args.product.now) c.args.target.now c.write_in_parts.new.target some
     e.reads out c.requires.target (heap_of stored.heap)
     (MadeUpWith (MakeUp g.S.Target.written g.S.Target.health g.P.Parts.bytes it (size_of stored.heap) (facts_of stored.heap))
     (size_of stored.heap) known) (HaveUnion g.S.Target.written g.S.Target.health g.P.Parts.bytes it)
@@ -156,9 +156,9 @@ returns g c =
     let some = some_readers readers c.if-is_empty.ensures in
     subst (λ (fault : ToolFault). Makes left health pulls g.W.Target.written g.W.Target.health c.args.limits
     (stored_making (g.M.PassProduct.is_text c.args.product.now) (g.M.PassProduct.refuses c.args.product.now)) readers
-    c.read_watched.new.readers c.args.target.now c.write_over.new.target (Some fault)) (sym c.from-in-Err-Lost.ensures)
+    c.read_watched.new.readers c.args.target.now c.write_in_parts.new.target (Some fault)) (sym c.from-in-Err-Lost.ensures)
     (makes_lost left health pulls c.args.limits readers c.read_watched.new.readers g.W.Target.written g.W.Target.health
-    (g.M.PassProduct.is_text c.args.product.now) (g.M.PassProduct.refuses c.args.product.now) c.args.target.now c.write_over.new.target some
+    (g.M.PassProduct.is_text c.args.product.now) (g.M.PassProduct.refuses c.args.product.now) c.args.target.now c.write_in_parts.new.target some
     e.reads out c.requires.target (heap_of stored.heap)
     (MadeUpWith (MakeUp g.S.Target.written g.S.Target.health g.P.Parts.bytes it (size_of stored.heap) (facts_of stored.heap))
     (size_of stored.heap) known) (HaveUnion g.S.Target.written g.S.Target.health g.P.Parts.bytes it)

@@ -13,7 +13,7 @@ pub returns-in-Ok-clause-bytes : goal.returns-in-Ok-clause-bytes
 returns-in-Ok-clause-bytes g c =
     let self = c.args.self.now in
     replied self.heap.now (g.O.Objects.make_up self.objects)
-    (g.O.Objects.whole self.objects) self.summaries.now.items g.W.Target.written g.W.Target.health c.args.target.now
+    (g.met.O.Objects.whole self.objects) self.summaries.now.items g.W.Target.written g.W.Target.health c.args.target.now
     c.write_by_passes.new.target (g.O.Objects.agree self.objects (size_of self.heap.now) (facts_of self.heap.now))
     (g.O.Objects.tells self.objects (size_of self.heap.now)
     (facts_of self.heap.now)) c.args.report c.requires.well c.in-Ok.field-0 c.in-Ok.ensures.ends
@@ -23,7 +23,7 @@ returns-in-Err-Lost-clause-bytes g c =
     let self = c.args.self.now in
     let it = c.in-Err-Lost in
     (lost self.heap.now (g.O.Objects.make_up self.objects)
-    (g.O.Objects.whole self.objects) self.summaries.now.items g.W.Target.written g.W.Target.health c.args.target.now
+    (g.met.O.Objects.whole self.objects) self.summaries.now.items g.W.Target.written g.W.Target.health c.args.target.now
     c.write_by_passes.new.target (g.O.Objects.agree self.objects (size_of self.heap.now) (facts_of self.heap.now))
     (g.O.Objects.tells self.objects (size_of self.heap.now)
     (facts_of self.heap.now)) c.args.report c.requires.well it.field-0 it.fault c.stop_of_pass_fault.result it.field-0-is
@@ -34,7 +34,7 @@ returns-in-Err-Sink-Write-clause-bytes g c =
     let self = c.args.self.now in
     let it = c.in-Err-Sink-Write in
     (stopped self.heap.now (g.O.Objects.make_up self.objects)
-    (g.O.Objects.whole self.objects) self.summaries.now.items g.W.Target.written g.W.Target.health c.args.target.now
+    (g.met.O.Objects.whole self.objects) self.summaries.now.items g.W.Target.written g.W.Target.health c.args.target.now
     c.write_by_passes.new.target (g.O.Objects.agree self.objects (size_of self.heap.now) (facts_of self.heap.now))
     (g.O.Objects.tells self.objects (size_of self.heap.now)
     (facts_of self.heap.now)) c.args.report c.requires.well it.field-0 (writes.Write it.fault)
@@ -45,7 +45,7 @@ returns-in-Err-Sink-OutOfMemory-clause-bytes g c =
     let self = c.args.self.now in
     let it = c.in-Err-Sink-OutOfMemory in
     (stopped self.heap.now (g.O.Objects.make_up self.objects)
-    (g.O.Objects.whole self.objects) self.summaries.now.items g.W.Target.written g.W.Target.health c.args.target.now
+    (g.met.O.Objects.whole self.objects) self.summaries.now.items g.W.Target.written g.W.Target.health c.args.target.now
     c.write_by_passes.new.target (g.O.Objects.agree self.objects (size_of self.heap.now) (facts_of self.heap.now))
     (g.O.Objects.tells self.objects (size_of self.heap.now)
     (facts_of self.heap.now)) c.args.report c.requires.well it.field-0 writes.OutOfMemory
@@ -57,7 +57,7 @@ returns-in-Err-Sink-Refused-clause-bytes g c = λ whole is.
     let self = c.args.self.now in
     let it = c.in-Err-Sink-Refused in
     let lacks = lacks_class self.heap.now (g.O.Objects.make_up self.objects)
-    (g.O.Objects.whole self.objects) self.summaries.now.items g.W.Target.written g.W.Target.health c.args.target.now
+    (g.met.O.Objects.whole self.objects) self.summaries.now.items g.W.Target.written g.W.Target.health c.args.target.now
     c.write_by_passes.new.target (g.O.Objects.agree self.objects (size_of self.heap.now) (facts_of self.heap.now))
     (g.O.Objects.tells self.objects (size_of self.heap.now)
     (facts_of self.heap.now)) c.args.report c.requires.well it.field-0 it.field-0-0-0
