@@ -132,7 +132,8 @@ returns-in-Err-new-clause-asks g c =
     (MakeUp g.S.Target.written g.S.Target.health g.P.Parts.bytes it (size_of stored.heap) (facts_of stored.heap))
     (HaveUnion g.S.Target.written g.S.Target.health g.P.Parts.bytes it)
     (TellsPass g.S.Target.written g.S.Target.health g.P.Parts.bytes g.S.Scratch.unreadable it (size_of stored.heap) (facts_of stored.heap))
-    told (parts_of g (goal.at.returns-in-Err-new-clause-asks g c).After-new-objects told tell) fault (c.in-Err-new.ensures.tells (size_of stored.heap) (facts_of stored.heap)))))
+    told (parts_of g (goal.at.returns-in-Err-new-clause-asks g c).After-new-objects told tell) fault
+    (c.in-Err-new.ensures.tells (size_of stored.heap) (facts_of stored.heap)))))
 
 -- no more is read before all answers are flushed
 pub converse-requires-clause-leave : goal.converse-requires-clause-leave

@@ -98,8 +98,8 @@ returns-in-Ok-write_in_parts g c =
     let out = subst (AreReadOut left health pulls c.args.limits readers c.read_watched.new.readers) e.first.so_many e.first.read_out in
     let some = some_readers readers c.if-is_empty.ensures in
     makes_whole left health pulls c.args.limits readers c.read_watched.new.readers g.W.Target.written g.W.Target.health
-    (g.M.PassProduct.is_text c.args.product.now) (g.M.PassProduct.refuses c.args.product.now) c.args.target.now c.write_in_parts.new.target some
-    e.reads out c.requires.target (heap_of stored.heap)
+    (g.M.PassProduct.is_text c.args.product.now) (g.M.PassProduct.refuses c.args.product.now) c.args.target.now c.write_in_parts.new.target
+    some e.reads out c.requires.target (heap_of stored.heap)
     (MadeUpWith (MakeUp g.S.Target.written g.S.Target.health g.P.Parts.bytes it (size_of stored.heap) (facts_of stored.heap))
     (size_of stored.heap) known) (HaveUnion g.S.Target.written g.S.Target.health g.P.Parts.bytes it)
     (TellsPass g.S.Target.written g.S.Target.health g.P.Parts.bytes g.S.Scratch.unreadable it (size_of stored.heap) (facts_of stored.heap))
@@ -128,8 +128,8 @@ returns-in-Err-Sink g c =
     (stored_making (g.M.PassProduct.is_text c.args.product.now) (g.M.PassProduct.refuses c.args.product.now)) readers
     c.read_watched.new.readers c.args.target.now c.write_in_parts.new.target (Some fault)) (sym c.from-in-Err-Sink.ensures)
     (makes_stopped left health pulls c.args.limits readers c.read_watched.new.readers g.W.Target.written g.W.Target.health
-    (g.M.PassProduct.is_text c.args.product.now) (g.M.PassProduct.refuses c.args.product.now) c.args.target.now c.write_in_parts.new.target some
-    e.reads out c.requires.target (heap_of stored.heap)
+    (g.M.PassProduct.is_text c.args.product.now) (g.M.PassProduct.refuses c.args.product.now) c.args.target.now c.write_in_parts.new.target
+    some e.reads out c.requires.target (heap_of stored.heap)
     (MadeUpWith (MakeUp g.S.Target.written g.S.Target.health g.P.Parts.bytes it (size_of stored.heap) (facts_of stored.heap))
     (size_of stored.heap) known) (HaveUnion g.S.Target.written g.S.Target.health g.P.Parts.bytes it)
     (TellsPass g.S.Target.written g.S.Target.health g.P.Parts.bytes g.S.Scratch.unreadable it (size_of stored.heap) (facts_of stored.heap))
@@ -158,8 +158,8 @@ returns g c =
     (stored_making (g.M.PassProduct.is_text c.args.product.now) (g.M.PassProduct.refuses c.args.product.now)) readers
     c.read_watched.new.readers c.args.target.now c.write_in_parts.new.target (Some fault)) (sym c.from-in-Err-Lost.ensures)
     (makes_lost left health pulls c.args.limits readers c.read_watched.new.readers g.W.Target.written g.W.Target.health
-    (g.M.PassProduct.is_text c.args.product.now) (g.M.PassProduct.refuses c.args.product.now) c.args.target.now c.write_in_parts.new.target some
-    e.reads out c.requires.target (heap_of stored.heap)
+    (g.M.PassProduct.is_text c.args.product.now) (g.M.PassProduct.refuses c.args.product.now) c.args.target.now c.write_in_parts.new.target
+    some e.reads out c.requires.target (heap_of stored.heap)
     (MadeUpWith (MakeUp g.S.Target.written g.S.Target.health g.P.Parts.bytes it (size_of stored.heap) (facts_of stored.heap))
     (size_of stored.heap) known) (HaveUnion g.S.Target.written g.S.Target.health g.P.Parts.bytes it)
     (TellsPass g.S.Target.written g.S.Target.health g.P.Parts.bytes g.S.Scratch.unreadable it (size_of stored.heap) (facts_of stored.heap))

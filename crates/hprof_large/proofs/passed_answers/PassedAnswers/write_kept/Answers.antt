@@ -8,13 +8,13 @@ pub returns-in-Err-Lost-clause-bytes : goal.returns-in-Err-Lost-clause-bytes
 returns-in-Err-Lost-clause-bytes g c =
     let self = c.args.self.now in
     let old = g.W.Target.written c.args.target.now in
-    no_heap_report self.heap.now (g.O.Objects.make_up self.objects) (g.met.O.Objects.whole self.objects) self.summaries.now.items c.args.report
-    old old c.stop_of_pass_fault.result refl
+    no_heap_report self.heap.now (g.O.Objects.make_up self.objects) (g.met.O.Objects.whole self.objects) self.summaries.now.items
+    c.args.report old old c.stop_of_pass_fault.result refl
 
 -- and so it is if memory runs out
 pub returns-in-Err-Sink-clause-bytes : goal.returns-in-Err-Sink-clause-bytes
 returns-in-Err-Sink-clause-bytes g c =
     let self = c.args.self.now in
     let old = g.W.Target.written c.args.target.now in
-    no_heap_report self.heap.now (g.O.Objects.make_up self.objects) (g.met.O.Objects.whole self.objects) self.summaries.now.items c.args.report
-    old old OutOfMemory refl
+    no_heap_report self.heap.now (g.O.Objects.make_up self.objects) (g.met.O.Objects.whole self.objects) self.summaries.now.items
+    c.args.report old old OutOfMemory refl
