@@ -42,8 +42,16 @@ fn numbered_over<O: Objects>(
     }
 }
 
-/// Returns nodes with the edges between them that objects make up with a heap, by numbers, without the edges by the fields in `left_out`.
-fn edges_over<O: Objects>(
+/// Returns nodes with the edges between them that objects make up with a heap, by numbers, without the edges by the fields in `left_out`. The
+/// nodes need not be all.
+///
+/// The objects are gone through once.
+///
+/// # Errors
+///
+/// - `Sink`: memory ran out.
+/// - `Lost`: the objects cannot be gone through.
+pub fn edges_over<O: Objects>(
     alloc: Global,
     heap: &Heap,
     objects: &O,
