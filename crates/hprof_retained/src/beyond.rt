@@ -1,26 +1,33 @@
 //! The search beyond what strong references reach.
 
-ghost use Rattle.std.specs.Prelude.{◌≡◌, ◌↔◌, ℕ, Contains, IfOk, IsTrue, List, sum};
+ghost use Rattle.std.specs.Prelude.{◌≡◌, ◌↔◌, ◌⊎◌, ℕ, Contains, IfOk, IsTrue, List, length, sum};
 ghost use Rattle.std.specs.List.Sorted.{IsStrictlyIncreasing};
+ghost use Rattle.hprof_values.specs.declared.ids.IdSize.{IdSize};
+ghost use Rattle.hprof_items.specs.FactValue.{FactValue};
 ghost use Rattle.hprof_edges.specs.LeftOut.{IsLeftOut, fields_in};
 ghost use Rattle.hprof_edges.specs.Edges.{IsEdge};
 ghost use Rattle.hprof_edges.specs.declared.edge.Edge.{Edge};
+ghost use Rattle.hprof_edges.specs.declared.field_place.FieldPlace.{FieldPlace};
 ghost use Rattle.hprof_heap.specs.HeapFacts.{facts_of, size_of};
+ghost use Rattle.hprof_numbers.specs.Lists.{LeadsWithin, count_in};
+ghost use Rattle.hprof_numbers.specs.Numbered.{nodes_in};
+ghost use Rattle.hprof_reach.specs.EdgesMade.{AreKeptEdges};
 ghost use Rattle.hprof_search.specs.Search.{IsSearch};
 ghost use Rattle.hprof_weak.specs.Weak.{IsWeak};
-ghost use Rattle.hprof_retained.specs.Border.{Crossing, IsCrossedTo, starts_of, steps_of};
+ghost use Rattle.hprof_retained.specs.Border.{Crossing, IsCrossedTo, crossing_of, starts_of, steps_of};
 ghost use Rattle.hprof_retained.specs.Retained.{AreSizesOf};
 ghost use Rattle.hprof_retained.specs.Tree.{IsTreeOf};
 ghost use Rattle.hprof_retained.specs.Weakly.{AreWeaklyHeld};
 
-use crate::border::{border_of, joined};
+use crate::border::{Border, border_of, joined};
 use crate::retained::Retained;
 use crate::sizes::size_of_node;
 use crate::weakly::WeaklyHeld;
 use hprof_edges::LeftOut;
 use hprof_heap::{Finger, Heap, holds_of_heap};
+use hprof_numbers::{Lists, Numbered};
 use hprof_reach::graph_of;
-use hprof_search::{Search, WalksOf, search};
+use hprof_search::{ByLists, Search, WalksOf, search, search_numbered};
 use std::alloc::{AllocError, Global};
 
 /// Walks from some nodes on, over these and others.
@@ -56,6 +63,37 @@ fn reached_among(alloc: Global, search: &Search, nodes: &[u64]) -> Result<Vec<u6
         }
     }
     Ok(reached)
+}
+
+/// Returns the nodes on both sides of a border, with their numbers. If memory runs out, the answer is `AllocError`.
+pub(crate) fn numbered_around(alloc: Global, border: &Border<'_>) -> Result<Numbered, AllocError>
+    ensures { IfOk result (λ numbered. (node : ℕ) → Contains (nodes_in numbered) node
+        ↔ (Contains border.now.others.items node ⊎ Contains border.now.sources.items node)) }
+{
+    let all = joined(alloc, &border.others, &border.sources)?;
+    Numbered::new(alloc, all)
+}
+
+/// Returns those of the nodes outside of a border that the ones inside lead to, sorted. `edges` are those between `nodes`, on which the
+/// search keeps. If memory runs out, the answer is `AllocError`.
+pub(crate) fn reached_outside(
+    alloc: Global,
+    border: &Border<'_>,
+    nodes: Numbered,
+    edges: Lists,
+) -> Result<Vec<u64>, AllocError>
+    requires ascend { IsStrictlyIncreasing border.now.others.items }
+    requires as_many { count_in edges ≡ length (nodes_in nodes) }
+    requires leads { LeadsWithin edges }
+    ensures ascend { IfOk result (λ reached. IsStrictlyIncreasing reached.items) }
+    ensures exact { IfOk result (λ reached. (ids : IdSize) (facts : List FactValue) (fields : List FieldPlace)
+        → AreKeptEdges ids facts fields (nodes_in nodes) edges → (node : ℕ) → Contains reached.items node
+        ↔ (Contains border.now.others.items node
+        × IsCrossedTo (crossing_of ids facts fields (nodes_in nodes) border.now.sources.items) node)) }
+{
+    let mut steps = ByLists { lists: &edges };
+    let search = search_numbered(alloc, &mut steps, nodes, &border.sources)?;
+    reached_among(alloc, &search, &border.others)
 }
 
 /// Returns the bytes of the fields and elements of some nodes.

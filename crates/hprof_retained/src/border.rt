@@ -75,7 +75,7 @@ impl<'w> Border<'w> {
     ghost use Rattle.hprof_retained.specs.Border.{IsBorderNode, IsOfClasses, IsOnBorder, IsOutside};
 
     /// Returns a border without nodes. Allocates nothing.
-    fn new(alloc: Global, weak: &'w LeftOut) -> Border<'w>
+    pub(crate) fn new(alloc: Global, weak: &'w LeftOut) -> Border<'w>
         ensures weak { result.weak.now ≡ weak.now }
         ensures others { result.others.items ≡ [] }
         ensures sources { result.sources.items ≡ [] }
@@ -108,7 +108,7 @@ impl<'w> Border<'w> {
     }
 
     /// Appends an object to the side of the border on which it is, if it is to be kept there.
-    fn see(&mut self, retained: &Retained, dump: &ObjectDump<'_>) -> Result<(), AllocError>
+    pub(crate) fn see(&mut self, retained: &Retained, dump: &ObjectDump<'_>) -> Result<(), AllocError>
         ensures others { OnOk result ((node : ℕ) → Contains self.new.others.items node ↔ (Contains self.old.others.items node
             ⊎ IsOutside retained.now (fact_of_object dump.now) node)) }
         ensures sources { OnOk result ((node : ℕ) → Contains self.new.sources.items node ↔ (Contains self.old.sources.items node

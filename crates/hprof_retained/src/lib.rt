@@ -6,6 +6,7 @@
 
 mod beyond;
 mod border;
+mod border_sink;
 mod kept_references;
 pub mod laws;
 mod making;

@@ -6,11 +6,11 @@ use Rattle.hprof_edges.specs.declared.left_out.LeftOut.{LeftOut}
 use Rattle.hprof_edges.specs.LeftOut.{IsKept, fields_in}
 use Rattle.hprof_reach.specs.Reaching.{LeadsBy}
 use Rattle.hprof_search.specs.Search.{IsSearch}
-use Rattle.hprof_retained.specs.Border.{starts_of, steps_of}
+use Rattle.hprof_retained.specs.Border.{crossing_of, starts_of, steps_of}
 use Rattle.hprof_retained.specs.Retained.{AreSizesOf}
 use Rattle.hprof_retained.specs.Weakly.{IsWeaklyHeld}
 use Rattle.hprof_retained.proofs.Ascending.{AreSummed, sum_ascending}
-use Rattle.hprof_retained.proofs.Crossing.{crossing_of, weakly_is}
+use Rattle.hprof_retained.proofs.Crossing.{weakly_is}
 use Rattle.hprof_retained.proofs.beyond.weakly_held.Goals as goal
 
 pub returns : goal.returns
