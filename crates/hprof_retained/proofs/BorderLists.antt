@@ -185,6 +185,17 @@ module _ (retained : Retained) where
     sources = around.sources;
   }
 
+-- what is given behind an empty list
+pub only_given : (none list : List ℕ) (Holds : ℕ → Type 0) → none ≡ []
+    → ((node : ℕ) → Contains list node ↔ (Contains none node ⊎ Holds node)) → (node : ℕ) → Contains list node ↔ Holds node
+only_given none list Holds nothing are node = (
+  λ has. elim ((are node).0 has) [
+    | inl old ↦ absurd (let low = (subst (λ (l : List ℕ). Contains l node) nothing old).1 in omega arith)
+    | inr holds ↦ holds
+  ],
+  λ holds. (are node).1 (inr holds),
+)
+
 -- the members of two lists, one behind the other
 pub either_list : (none one two sorted xs ys : List ℕ) → none ≡ [] → one ≡ none ++ xs → two ≡ one ++ ys
     → ((node : ℕ) → Contains sorted node ↔ Contains two node) → (node : ℕ) → Contains sorted node ↔ (Contains xs node ⊎ Contains ys node)
