@@ -42,9 +42,9 @@ fn numbered_over<O: Objects>(
     }
 }
 
-/// Returns nodes with the edges between them that objects make up with a heap, by numbers, without the edges by the fields in `left_out`. The
-/// nodes need not be all.
+/// Returns nodes with the edges between them that objects make up with a heap, by numbers, without the edges by the fields in `left_out`.
 ///
+/// The nodes need not be all that there are.
 /// The objects are gone through once.
 ///
 /// # Errors

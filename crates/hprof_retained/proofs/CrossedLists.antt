@@ -55,7 +55,8 @@ module _ (ids : IdSize) (facts : List FactValue) (fields : List FieldPlace) (nod
         )
 
   pub crossed_by_lists : (search : Search)
-      → IsSearch (λ node. Contains nodes node × Contains sources node) (λ from to. LeadsByList lists nodes from to × Contains nodes to) search
+      → IsSearch (λ node. Contains nodes node × Contains sources node)
+      (λ from to. LeadsByList lists nodes from to × Contains nodes to) search
       → IsSearch (starts_of (crossing_of ids facts fields nodes sources)) (steps_of (crossing_of ids facts fields nodes sources)) search
   crossed_by_lists =
       search_within (λ node. Contains nodes node × Contains sources node) (starts_of (crossing_of ids facts fields nodes sources))

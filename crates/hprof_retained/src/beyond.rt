@@ -1,33 +1,19 @@
 //! The search beyond what strong references reach.
 
-ghost use Rattle.std.specs.Prelude.{◌≡◌, ◌↔◌, ◌⊎◌, ℕ, Contains, IfOk, IsTrue, List, length, sum};
+ghost use Rattle.std.specs.Prelude.{◌≡◌, ◌↔◌, ◌⊎◌, ℕ, Contains, IfOk, IsTrue, List, length};
 ghost use Rattle.std.specs.List.Sorted.{IsStrictlyIncreasing};
 ghost use Rattle.hprof_values.specs.declared.ids.IdSize.{IdSize};
 ghost use Rattle.hprof_items.specs.FactValue.{FactValue};
-ghost use Rattle.hprof_edges.specs.LeftOut.{IsLeftOut, fields_in};
-ghost use Rattle.hprof_edges.specs.Edges.{IsEdge};
-ghost use Rattle.hprof_edges.specs.declared.edge.Edge.{Edge};
 ghost use Rattle.hprof_edges.specs.declared.field_place.FieldPlace.{FieldPlace};
-ghost use Rattle.hprof_heap.specs.HeapFacts.{facts_of, size_of};
 ghost use Rattle.hprof_numbers.specs.Lists.{LeadsWithin, count_in};
 ghost use Rattle.hprof_numbers.specs.Numbered.{nodes_in};
 ghost use Rattle.hprof_reach.specs.EdgesMade.{AreKeptEdges};
 ghost use Rattle.hprof_search.specs.Search.{IsSearch};
-ghost use Rattle.hprof_weak.specs.Weak.{IsWeak};
 ghost use Rattle.hprof_retained.specs.Border.{Crossing, IsCrossedTo, crossing_of, starts_of, steps_of};
-ghost use Rattle.hprof_retained.specs.Retained.{AreSizesOf};
-ghost use Rattle.hprof_retained.specs.Tree.{IsTreeOf};
-ghost use Rattle.hprof_retained.specs.Weakly.{AreWeaklyHeld};
 
-use crate::border::{Border, border_of, joined};
-use crate::retained::Retained;
-use crate::sizes::size_of_node;
-use crate::weakly::WeaklyHeld;
-use hprof_edges::LeftOut;
-use hprof_heap::{Finger, Heap, holds_of_heap};
+use crate::border::{Border, joined};
 use hprof_numbers::{Lists, Numbered};
-use hprof_reach::graph_of;
-use hprof_search::{ByLists, Search, WalksOf, search, search_numbered};
+use hprof_search::{ByLists, Search, WalksOf, search_numbered};
 use std::alloc::{AllocError, Global};
 
 /// Walks from some nodes on, over these and others.
@@ -94,42 +80,4 @@ pub(crate) fn reached_outside(
     let mut steps = ByLists { lists: &edges };
     let search = search_numbered(alloc, &mut steps, nodes, &border.sources)?;
     reached_among(alloc, &search, &border.others)
-}
-
-/// Returns the bytes of the fields and elements of some nodes.
-fn bytes_of(heap: &Heap, nodes: &[u64]) -> u128
-    ensures { (sizes : List ℕ) × AreSizesOf (size_of heap.now) (facts_of heap.now) nodes.now sizes × (result ≡ sum sizes) }
-{
-    let mut near = Finger::start();
-    let mut bytes: u128 = 0;
-    for node in nodes {
-        bytes += size_of_node(heap, *node, &mut near) as u128;
-    }
-    bytes
-}
-
-/// Returns the classes and objects of a heap that only weak references reach. `weak` are the heap's weak fields, and `retained` is the tree
-/// of dominators by strong references. If memory runs out, the answer is `AllocError`.
-///
-/// The search begins at the objects inside the tree that may have weak references, and leads on outside of it.
-pub fn weakly_held(
-    alloc: Global,
-    heap: &Heap,
-    weak: &LeftOut,
-    retained: &Retained,
-) -> Result<WeaklyHeld, AllocError>
-    requires weak { (edge : Edge) → IsEdge (size_of heap.now) (facts_of heap.now) edge
-        → IsLeftOut (fields_in weak.now) (facts_of heap.now) edge ↔ IsWeak (facts_of heap.now) edge }
-    requires retained { IsTreeOf (size_of heap.now) (facts_of heap.now) retained.now }
-    ensures { IfOk result (AreWeaklyHeld (size_of heap.now) (facts_of heap.now)) }
-{
-    holds_of_heap(heap);
-    let none = LeftOut::none(alloc);
-    let graph = graph_of(alloc, heap, &none)?;
-    let border = border_of(alloc, heap, weak, retained)?;
-    let all = joined(alloc, &border.others, &border.sources)?;
-    let search = search(alloc, graph, all, &border.sources)?;
-    let nodes = reached_among(alloc, &search, &border.others)?;
-    let bytes = bytes_of(heap, &nodes);
-    Ok(WeaklyHeld { nodes, bytes })
 }

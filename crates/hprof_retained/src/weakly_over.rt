@@ -18,8 +18,8 @@ use crate::retained::Retained;
 use crate::weakly::WeaklyHeld;
 use crate::weakly_sink::WeaklySink;
 use hprof_edges::LeftOut;
-use hprof_heap::Heap;
-use hprof_passes::{Objects, PassStop};
+use hprof_heap::{Heap, holds_of_heap};
+use hprof_passes::{InHeap, Objects, PassStop};
 use hprof_reach::edges_over;
 use std::alloc::{AllocError, Global};
 
@@ -100,5 +100,26 @@ pub fn weakly_held_over<O: Objects>(
             bytes: sink.bytes,
         }),
         Err(stop) => Err(stop),
+    }
+}
+
+/// Returns the classes and objects of a heap with its objects in memory that only weak references reach, as [`weakly_held_over`] does.
+/// `weak` are the heap's weak fields, and `retained` is the tree of dominators by strong references. If memory runs out, the answer is
+/// `AllocError`.
+pub fn weakly_held(
+    alloc: Global,
+    heap: &Heap,
+    weak: &LeftOut,
+    retained: &Retained,
+) -> Result<WeaklyHeld, AllocError>
+    requires weak { (edge : Edge) → IsEdge (size_of heap.now) (facts_of heap.now) edge
+        → IsLeftOut (fields_in weak.now) (facts_of heap.now) edge ↔ IsWeak (facts_of heap.now) edge }
+    requires retained { IsTreeOf (size_of heap.now) (facts_of heap.now) retained.now }
+    ensures { IfOk result (AreWeaklyHeld (size_of heap.now) (facts_of heap.now)) }
+{
+    holds_of_heap(heap);
+    match weakly_held_over(alloc, heap, &InHeap, weak, retained) {
+        Ok(weakly) => Ok(weakly),
+        Err(stop) => Err(stop.of_sink()),
     }
 }
