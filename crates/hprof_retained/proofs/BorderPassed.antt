@@ -4,12 +4,11 @@ use Rattle.std.proofs.Common.{◌≡◌, ◌⊎◌, ◌∙◌, ℕ, List, [], �
 use Rattle.hprof_values.specs.declared.ids.IdSize.{IdSize}
 use Rattle.hprof_items.specs.FactValue.{FactValue}
 use Rattle.hprof_edges.specs.LeftOut.{fields_in}
-use Rattle.hprof_edges.specs.declared.field_place.FieldPlace.{FieldPlace}
 use Rattle.hprof_edges.specs.declared.left_out.LeftOut.{LeftOut}
 use Rattle.hprof_passes.specs.Passing.{IsWhole, TakesObjects, objects_among}
 use Rattle.hprof_reach.specs.Nodes.{IsClassNode}
 use Rattle.hprof_reach.proofs.TableNodes.{IsGiven, same_given}
-use Rattle.hprof_retained.specs.Border.{AreAround, IsBorderNode, IsOnBorder, IsOutside}
+use Rattle.hprof_retained.specs.Border.{AreAround, IsOnBorder, IsOutside}
 use Rattle.hprof_retained.specs.BorderTaken.{TakesBorder}
 use Rattle.hprof_retained.specs.Tree.{place_of}
 use Rattle.hprof_retained.specs.declared.border_sink.BorderSink.{BorderSink}

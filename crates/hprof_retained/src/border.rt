@@ -106,7 +106,11 @@ impl<'w> Border<'w> {
     }
 
     /// Appends an object to the side of the border on which it is, if it is to be kept there.
-    pub(crate) fn see(&mut self, retained: &Retained, dump: &ObjectDump<'_>) -> Result<(), AllocError>
+    pub(crate) fn see(
+        &mut self,
+        retained: &Retained,
+        dump: &ObjectDump<'_>,
+    ) -> Result<(), AllocError>
         ensures others { OnOk result ((node : ℕ) → Contains self.new.others.items node ↔ (Contains self.old.others.items node
             ⊎ IsOutside retained.now (fact_of_object dump.now) node)) }
         ensures sources { OnOk result ((node : ℕ) → Contains self.new.sources.items node ↔ (Contains self.old.sources.items node

@@ -1,7 +1,6 @@
 use Rattle.std.specs.Prelude.{◌↔◌, Contains}
 use Rattle.std.proofs.Common.{◌≡◌, ◌⊎◌, ℕ, List, sym, subst}
 use Rattle.hprof_numbers.specs.Numbered.{nodes_in}
-use Rattle.hprof_numbers.specs.declared.numbered.Numbered.{Numbered}
 use Rattle.hprof_retained.proofs.BorderLists.{if_ok_too}
 use Rattle.hprof_retained.proofs.beyond.numbered_around.Goals as goal
 
