@@ -60,8 +60,8 @@ pub(crate) fn numbered_around(alloc: Global, border: &Border<'_>) -> Result<Numb
     Numbered::new(alloc, all)
 }
 
-/// Returns those of the nodes outside of a border that the ones inside lead to, sorted. `edges` are those between `nodes`, on which the
-/// search keeps. If memory runs out, the answer is `AllocError`.
+/// Searches from the nodes inside a border, along the edges between `nodes`, and returns the nodes outside that it reached, sorted. If
+/// memory runs out, the answer is `AllocError`.
 pub(crate) fn reached_outside(
     alloc: Global,
     border: &Border<'_>,
