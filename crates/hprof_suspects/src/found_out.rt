@@ -83,14 +83,8 @@ fn told_over<O: Objects>(
     let Ok(names) = ClassNames::of(alloc, heap) else {
         return Err(PassStop::Sink(AllocError));
     };
-    let labels = match labels_over(alloc, heap, objects, &names, retained) {
-        Ok(labels) => labels,
-        Err(stop) => return Err(stop),
-    };
-    let alone = match alone_over(alloc, heap, objects, retained, &labels) {
-        Ok(alone) => alone,
-        Err(stop) => return Err(stop),
-    };
+    let labels = labels_over(alloc, heap, objects, &names, retained)?;
+    let alone = alone_over(alloc, heap, objects, retained, &labels)?;
     match all_told(alloc, retained, &labels, &alone) {
         Ok(told) => Ok(LabelledTold { labels, told }),
         Err(fault) => Err(PassStop::Sink(fault)),
@@ -118,14 +112,8 @@ pub(crate) fn found_out_over<O: Objects>(
     ensures references { AreKeptReferences (O.make_up objects.now (size_of heap.now) (facts_of heap.now))
         (O.agree objects.now (size_of heap.now) (facts_of heap.now)) (size_of heap.now) references.new }
 {
-    let retained = match references.take_retained(alloc, heap, objects) {
-        Ok(retained) => retained,
-        Err(stop) => return Err(stop),
-    };
-    let weakly = match weak_sum_over(alloc, heap, objects, references, &retained) {
-        Ok(weakly) => weakly,
-        Err(stop) => return Err(stop),
-    };
+    let retained = references.take_retained(alloc, heap, objects)?;
+    let weakly = weak_sum_over(alloc, heap, objects, references, &retained)?;
     match told_over(alloc, heap, objects, &retained) {
         Ok(LabelledTold { labels, told }) => Ok(FoundOut {
             retained,
