@@ -62,10 +62,7 @@ fn is_reached_over<O: Objects>(
     ensures references { AreKeptReferences (O.make_up objects.now (size_of heap.now) (facts_of heap.now))
         (O.agree objects.now (size_of heap.now) (facts_of heap.now)) (size_of heap.now) references.new }
 {
-    let reach = match references.take_all(alloc, heap, objects) {
-        Ok(reach) => reach,
-        Err(stop) => return Err(stop),
-    };
+    let reach = references.take_all(alloc, heap, objects)?;
     let is_reached = reach.is_reached(id);
     references.keep_all(reach);
     Ok(is_reached)
@@ -130,10 +127,7 @@ fn roots_over<O: Objects>(
     ensures references { AreKeptReferences (O.make_up objects.now (size_of heap.now) (facts_of heap.now))
         (O.agree objects.now (size_of heap.now) (facts_of heap.now)) (size_of heap.now) references.new }
 {
-    let weakly = match weakly_held_over(alloc, heap, objects, references, retained) {
-        Ok(weakly) => weakly,
-        Err(stop) => return Err(stop),
-    };
+    let weakly = weakly_held_over(alloc, heap, objects, references, retained)?;
     match roots_kept(alloc, retained, sum_in(&weakly)) {
         Ok(kept) => Ok(kept),
         Err(fault) => Err(PassStop::Sink(fault)),
@@ -200,10 +194,7 @@ pub(crate) fn kept_tree<O: Objects>(
     ensures references { AreKeptReferences (O.make_up objects.now (size_of heap.now) (facts_of heap.now))
         (O.agree objects.now (size_of heap.now) (facts_of heap.now)) (size_of heap.now) references.new }
 {
-    let retained = match references.take_retained(alloc, heap, objects) {
-        Ok(retained) => retained,
-        Err(stop) => return Err(stop),
-    };
+    let retained = references.take_retained(alloc, heap, objects)?;
     match kept_in(alloc, heap, objects, references, &retained, id) {
         Ok(kept) => Ok(KeptTree { retained, kept }),
         Err(stop) => Err(stop),
