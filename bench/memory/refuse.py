@@ -69,8 +69,11 @@ def passed_over(length):
 
 
 def is_want(text):
-    """Whether the text is that of want of memory, for the file of scratch, too, which cannot be created without memory."""
-    return b"out of memory" in text or text == b"hprof: scratch failed\n"
+    """Whether the text is that of want of memory, for the file of scratch, too, which cannot be created without memory.
+
+    `diff` says of which of its two dumps that file is.
+    """
+    return b"out of memory" in text or text in (b"hprof: scratch failed\n", b"hprof: part 1: scratch failed\n")
 
 
 def run(words, library, refuse_at, out):
