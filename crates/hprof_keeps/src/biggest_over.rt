@@ -59,10 +59,7 @@ fn chosen_tree<O: Objects>(
     ensures references { AreKeptReferences (O.make_up objects.now (size_of heap.now) (facts_of heap.now))
         (O.agree objects.now (size_of heap.now) (facts_of heap.now)) (size_of heap.now) references.new }
 {
-    let retained = match references.take_retained(alloc, heap, objects) {
-        Ok(retained) => retained,
-        Err(stop) => return Err(stop),
-    };
+    let retained = references.take_retained(alloc, heap, objects)?;
     match chosen_over(alloc, heap, objects, &retained, choice) {
         Ok(places) => Ok(ChosenTree { retained, places }),
         Err(stop) => Err(stop),

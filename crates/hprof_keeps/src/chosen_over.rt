@@ -59,10 +59,7 @@ fn with_classes<O: Objects>(
     let Ok(ids) = class_ids(alloc, heap) else {
         return Err(PassStop::Sink(AllocError));
     };
-    let small = match small_heap(alloc, heap, objects, &ids) {
-        Ok(small) => small,
-        Err(stop) => return Err(stop),
-    };
+    let small = small_heap(alloc, heap, objects, &ids)?;
     let mut more = places;
     match push_classes(&small, retained, &mut more) {
         Ok(()) => Ok(more),
@@ -87,10 +84,7 @@ fn gather_over<O: Objects>(
         (O.agree objects.now (size_of heap.now) (facts_of heap.now)) (O.tells objects.now (size_of heap.now) (facts_of heap.now))
         (λ all places. ArePlacesOf retained.now (IsChosen all choice.entry) places.items) result }
 {
-    let places = match object_places_over(alloc, heap, objects, retained, choice) {
-        Ok(places) => places,
-        Err(stop) => return Err(stop),
-    };
+    let places = object_places_over(alloc, heap, objects, retained, choice)?;
     if has_class_dumps(&choice) {
         with_classes(alloc, heap, objects, retained, places)
     } else {
@@ -131,10 +125,7 @@ pub(crate) fn chosen_over<O: Objects>(
         (O.agree objects.now (size_of heap.now) (facts_of heap.now)) (O.tells objects.now (size_of heap.now) (facts_of heap.now))
         (λ all places. AreChosenPlaces (size_of heap.now) all choice.entry retained.now places.items) result }
 {
-    let mut places = match gather_over(alloc, heap, objects, retained, choice) {
-        Ok(places) => places,
-        Err(stop) => return Err(stop),
-    };
+    let mut places = gather_over(alloc, heap, objects, retained, choice)?;
     sort_places(retained, &mut places);
     // What a pass does to its sink is said only of objects that make up a heap, so the places are looked at.
     if are_places(retained, &places) {

@@ -19,6 +19,7 @@ use hprof_heap::Heap;
 use hprof_passes::{Objects, PassStop};
 use hprof_retained::{KeptReferences, Retained, weakly_held_over};
 use hprof_small::small_heap;
+use hprof_weak::weak_fields_over;
 use std::alloc::{AllocError, Global};
 
 /// Returns whether an identifier has a class dump or an object dump, among the facts that objects make up with a heap.
@@ -62,10 +63,7 @@ fn is_reached_over<O: Objects>(
     ensures references { AreKeptReferences (O.make_up objects.now (size_of heap.now) (facts_of heap.now))
         (O.agree objects.now (size_of heap.now) (facts_of heap.now)) (size_of heap.now) references.new }
 {
-    let reach = match references.take_all(alloc, heap, objects) {
-        Ok(reach) => reach,
-        Err(stop) => return Err(stop),
-    };
+    let reach = references.take_all(alloc, heap, objects)?;
     let is_reached = reach.is_reached(id);
     references.keep_all(reach);
     Ok(is_reached)
@@ -111,29 +109,22 @@ fn otherwise_over<O: Objects>(
 ///
 /// # Errors
 ///
-/// Those of `weakly_held_over`.
+/// Those of `weak_fields_over` and `weakly_held_over`.
 fn roots_over<O: Objects>(
     alloc: Global,
     heap: &Heap,
     objects: &O,
-    references: &mut KeptReferences,
     retained: &Retained,
 ) -> Result<Kept, PassStop<AllocError, O::Fault>>
-    requires references { AreKeptReferences (O.make_up objects.now (size_of heap.now) (facts_of heap.now))
-        (O.agree objects.now (size_of heap.now) (facts_of heap.now)) (size_of heap.now) references.old }
     requires tree { (all : List FactValue) → O.make_up objects.now (size_of heap.now) (facts_of heap.now) all
         → IsTreeOf (size_of heap.now) all retained.now }
     ensures kept { Finds (O.make_up objects.now (size_of heap.now) (facts_of heap.now))
         (O.agree objects.now (size_of heap.now) (facts_of heap.now)) (O.tells objects.now (size_of heap.now) (facts_of heap.now))
         (λ all. IsKept (size_of heap.now) all retained.now 0) result }
     ensures places { IfOk result (HasPlaces retained.now) }
-    ensures references { AreKeptReferences (O.make_up objects.now (size_of heap.now) (facts_of heap.now))
-        (O.agree objects.now (size_of heap.now) (facts_of heap.now)) (size_of heap.now) references.new }
 {
-    let weakly = match weakly_held_over(alloc, heap, objects, references, retained) {
-        Ok(weakly) => weakly,
-        Err(stop) => return Err(stop),
-    };
+    let weak = weak_fields_over(alloc, heap, objects)?;
+    let weakly = weakly_held_over(alloc, heap, objects, &weak, retained)?;
     match roots_kept(alloc, retained, sum_in(&weakly)) {
         Ok(kept) => Ok(kept),
         Err(fault) => Err(PassStop::Sink(fault)),
@@ -144,7 +135,7 @@ fn roots_over<O: Objects>(
 ///
 /// # Errors
 ///
-/// Those of `weakly_held_over`, `small_heap` and `reach_over`.
+/// Those of `weak_fields_over`, `weakly_held_over`, `small_heap` and `reach_over`.
 fn kept_in<O: Objects>(
     alloc: Global,
     heap: &Heap,
@@ -166,7 +157,7 @@ fn kept_in<O: Objects>(
         (O.agree objects.now (size_of heap.now) (facts_of heap.now)) (size_of heap.now) references.new }
 {
     if id == 0 {
-        return roots_over(alloc, heap, objects, references, retained);
+        return roots_over(alloc, heap, objects, retained);
     }
     let place = retained.place(id);
     if place == 0 {
@@ -183,7 +174,7 @@ fn kept_in<O: Objects>(
 ///
 /// # Errors
 ///
-/// Those of `take_retained`, `weakly_held_over`, `small_heap` and `reach_over`.
+/// Those of `take_retained`, `weak_fields_over`, `weakly_held_over`, `small_heap` and `reach_over`.
 pub(crate) fn kept_tree<O: Objects>(
     alloc: Global,
     heap: &Heap,
@@ -200,10 +191,7 @@ pub(crate) fn kept_tree<O: Objects>(
     ensures references { AreKeptReferences (O.make_up objects.now (size_of heap.now) (facts_of heap.now))
         (O.agree objects.now (size_of heap.now) (facts_of heap.now)) (size_of heap.now) references.new }
 {
-    let retained = match references.take_retained(alloc, heap, objects) {
-        Ok(retained) => retained,
-        Err(stop) => return Err(stop),
-    };
+    let retained = references.take_retained(alloc, heap, objects)?;
     match kept_in(alloc, heap, objects, references, &retained, id) {
         Ok(kept) => Ok(KeptTree { retained, kept }),
         Err(stop) => Err(stop),

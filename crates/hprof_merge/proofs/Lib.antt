@@ -13,3 +13,4 @@ pub mod LateUnions
 pub mod Skipping
 pub mod Later
 pub mod EitherShows
+mod PassedOn

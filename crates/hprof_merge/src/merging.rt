@@ -120,9 +120,7 @@ fn pass_equals<C: AscendingCursor, F>(
         if !agree(&cursors[held], &cursors[place]) {
             return Err(MergeStop::TwoContents(key));
         }
-        if let Err(stop) = advance(cursors, contest, place) {
-            return Err(stop);
-        }
+        advance(cursors, contest, place)?;
     }
     Ok(())
 }
@@ -155,15 +153,11 @@ pub fn merge_rows<C: AscendingCursor, T: RowSink>(
     };
     while let Some((key, place)) = contest.first() {
         contest.set(place, None);
-        if let Err(stop) = pass_equals(cursors, &mut contest, key, place) {
-            return Err(stop);
-        }
+        pass_equals(cursors, &mut contest, key, place)?;
         if let Err(fault) = give(&cursors[place], sink) {
             return Err(MergeStop::Sink(fault));
         }
-        if let Err(stop) = advance(cursors, &mut contest, place) {
-            return Err(stop);
-        }
+        advance(cursors, &mut contest, place)?;
     }
     Ok(())
 }

@@ -34,3 +34,4 @@ mod PickedCuts
 mod PickedFront
 mod PickedMerge
 mod PickedAgreed
+mod PassedOn

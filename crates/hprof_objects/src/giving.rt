@@ -122,9 +122,7 @@ pub(crate) fn give_wanted<
 {
     let mut rest = wanted;
     while let Some((id, after)) = rest.split_first() {
-        if let Err(stop) = give_one(rows, lists, reader, *id, sink) {
-            return Err(stop);
-        }
+        give_one(rows, lists, reader, *id, sink)?;
         rest = after;
     }
     Ok(())

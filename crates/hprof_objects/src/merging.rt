@@ -99,10 +99,7 @@ impl<S: Scratch + Drop> StoredObjects<S> {
         ensures read { IfErr result (λ stop. IfScratchFails stop (S.unreadable (scratch_under self.now))) }
         ensures well { UnlessRefused (T.well sink.new) result }
     {
-        let mut cursors = match self.open(alloc, parts, limits) {
-            Ok(cursors) => cursors,
-            Err(stop) => return Err(stop),
-        };
+        let mut cursors = self.open(alloc, parts, limits)?;
         match merge_rows(alloc, &mut cursors, sink) {
             Ok(()) => Ok(()),
             Err(stop) => Err(self.stop_of(stop)),

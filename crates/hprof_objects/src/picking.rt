@@ -119,9 +119,7 @@ fn pick_cuts<R: Source + Drop, P: Parts<Reader = R>, T: RowSink>(
     let mut rest = cuts;
     while let Some((cut, after)) = rest.split_first() {
         left = from_key(left, cut.first);
-        if let Err(stop) = pick_cut(alloc, parts, cut, limits, left, sink) {
-            return Err(stop);
-        }
+        pick_cut(alloc, parts, cut, limits, left, sink)?;
         rest = after;
     }
     Ok(())

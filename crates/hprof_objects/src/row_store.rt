@@ -101,9 +101,7 @@ impl<S: Scratch + Drop> RowStore<S> {
         ensures pushed { IfOk result (λ spilled. Pushes S.written S.health spilled self.old (key, bytes.now) self.new) }
         ensures health { LeavesScratch result (S.health (scratch_of_store self.new)) }
     {
-        if let Err(fault) = self.spill() {
-            return Err(fault);
-        }
+        self.spill()?;
         match self.rows.push(key, bytes) {
             Ok(()) => Ok(true),
             Err(_) => Err(ScratchFault::OutOfMemory),

@@ -92,9 +92,7 @@ impl<'a, S: Scratch + Drop, R: Source + Drop> Searched<'a, S, R> {
         if cut.first() > id {
             return Ok(false);
         }
-        if let Err(stop) = self.open_first(reader, cut, id) {
-            return Err(stop);
-        }
+        self.open_first(reader, cut, id)?;
         let Some(cursor) = &mut self.cursor else {
             unreachable!()
         };

@@ -17,9 +17,7 @@ pub(crate) fn go_up_to<C: AscendingCursor>(cursor: &mut C, key: u64) -> Result<b
         if next >= key {
             return Ok(next == key);
         }
-        if let Err(fault) = cursor.advance() {
-            return Err(fault);
-        }
+        cursor.advance()?;
     }
     Ok(false)
 }

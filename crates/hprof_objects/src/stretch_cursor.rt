@@ -113,9 +113,7 @@ impl<R: Source + Drop> RowCursor for StretchCursor<R> {
         let Some(before) = self.shown else {
             return Ok(());
         };
-        if let Err(fault) = self.go_on() {
-            return Err(fault);
-        }
+        self.go_on()?;
         match self.shown {
             Some(id) if id <= before => Err(StretchFault::Changed),
             _ => Ok(()),

@@ -26,6 +26,6 @@ pub use heap_graph::{HeapGraph, graph_of};
 pub use index::{ReferrerIndex, index_referrers};
 pub use nodes::{id_of, nodes_of, push_node, sort_once};
 pub use numbered_graph::NumberedGraph;
-pub use numbering::{graph_by_numbers, graph_over};
+pub use numbering::{edges_over, graph_by_numbers, graph_over};
 pub use reach::{Reach, reach_of, reach_without};
 pub use roots::roots_of;

@@ -43,7 +43,15 @@ fn numbered_over<O: Objects>(
 }
 
 /// Returns nodes with the edges between them that objects make up with a heap, by numbers, without the edges by the fields in `left_out`.
-fn edges_over<O: Objects>(
+///
+/// The nodes need not be all that there are.
+/// The objects are gone through once.
+///
+/// # Errors
+///
+/// - `Sink`: memory ran out.
+/// - `Lost`: the objects cannot be gone through.
+pub fn edges_over<O: Objects>(
     alloc: Global,
     heap: &Heap,
     objects: &O,

@@ -16,7 +16,7 @@ use Rattle.hprof_histogram.proofs.Members.{Contains-from_in, IsIn, in_from_Conta
 use Rattle.hprof_numbers.proofs.Ascending.{has_number}
 use Rattle.hprof_dominators.specs.Retained.{IsOnce}
 use Rattle.hprof_dominators.specs.Walks.{IsOn}
-use Rattle.hprof_retained.specs.Retained.{AreSizesOf, IsSizeOf, IsSumOver}
+use Rattle.hprof_retained.specs.Retained.{AreSizesOf, IsSizeOf}
 
 -- one more, greater than all
 pub push_ascends : (xs : List ℕ) (y : ℕ) → IsStrictlyIncreasing xs → ((x : ℕ) → Contains xs x → x < y) → IsStrictlyIncreasing (xs ++ y ∷ [])
@@ -149,21 +149,3 @@ module _ (ids : IdSize) (facts : List FactValue) where
         (sizes_push nodes was.sizes node size was.are is);
     is = (let same = was.is in let all = sum_by-append (λ (n : ℕ). n) was.sizes (size ∷ []) in omega arith);
   }
-
-  -- the sum over nodes that ascend
-  pub sum_ascending : (Holds : ℕ → Type 0) (nodes : List ℕ) (bytes : ℕ) → IsStrictlyIncreasing nodes
-      → ((node : ℕ) → Contains nodes node ↔ Holds node) → AreSummed nodes bytes
-      → IsSumOver ids facts Holds (record { bytes = bytes; objects = length nodes })
-  sum_ascending Holds nodes bytes ascend exact summed = (
-    record {
-      nodes = nodes;
-      once = once_ascending nodes ascend;
-      exact = on_exact;
-      sizes = summed.sizes;
-      are_sizes = summed.are;
-      is = summed.is;
-    },
-    record { nodes = nodes; once = once_ascending nodes ascend; exact = on_exact; is = refl },
-  ) where
-    on_exact : (node : ℕ) → IsOn node nodes ↔ Holds node
-    on_exact node = (λ on. (exact node).0 ((on_is nodes node).0 on), λ holds. (on_is nodes node).1 ((exact node).1 holds))

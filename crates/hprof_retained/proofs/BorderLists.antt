@@ -1,7 +1,7 @@
 -- The nodes on both sides of the border, as they are collected.
-use Rattle.std.specs.Prelude.{◌↔◌, ◌≢◌, Contains}
+use Rattle.std.specs.Prelude.{◌↔◌, ◌≢◌, Contains, IfOk}
 use Rattle.std.proofs.Common.{◌≡◌, ◌⊎◌, ◌==◌, ◌∙◌, ℕ, Bool, true, false, not, Some, List, [], ◌++◌, get_or, length, refl, sym, ap, subst}
-use Rattle.std.proofs.Common.{inl, inr, arith, eq-eqb, eqb-true, ne_eqb}
+use Rattle.std.proofs.Common.{Result, Ok, Err, inl, inr, arith, eq-eqb, eqb-true, ne_eqb}
 use Rattle.std.proofs.lemmas.List.Elements.{Contains-append_cases, Contains-append_left, Contains-append_right, Contains-get_or}
 use Rattle.std.proofs.lemmas.List.Folds.{list_any_at, list_any_none}
 use Rattle.hprof_items.specs.FactValue.{FactValue, Instance}
@@ -18,6 +18,12 @@ use Rattle.hprof_reach.proofs.TableNodes.{GivesClass, IsGiven, class_nodes, give
 use Rattle.hprof_retained.specs.Border.{AreAround, IsBorderNode, IsOfClasses, IsOnBorder, IsOutside, has_class}
 use Rattle.hprof_retained.specs.Tree.{place_of}
 use Rattle.hprof_retained.specs.declared.retained.Retained.{Retained}
+
+-- ---- what an answer has
+
+pub if_ok_too : {A E : Type 0} (r : Result A E) (P Q : A → Type 0) → ((found : A) → P found → Q found) → IfOk r P → IfOk r Q
+if_ok_too (Ok found) P Q so is = so found is
+if_ok_too (Err fault) P Q so is = tt
 
 -- ---- classes with fields in a table
 
@@ -178,6 +184,17 @@ module _ (retained : Retained) where
     others = λ node. (λ has. (around.others node).0 ((same node).0 has), λ is. (same node).1 ((around.others node).1 is));
     sources = around.sources;
   }
+
+-- what is given behind an empty list
+pub only_given : (none list : List ℕ) (Holds : ℕ → Type 0) → none ≡ []
+    → ((node : ℕ) → Contains list node ↔ (Contains none node ⊎ Holds node)) → (node : ℕ) → Contains list node ↔ Holds node
+only_given none list Holds nothing are node = (
+  λ has. elim ((are node).0 has) [
+    | inl old ↦ absurd (let low = (subst (λ (l : List ℕ). Contains l node) nothing old).1 in omega arith)
+    | inr holds ↦ holds
+  ],
+  λ holds. (are node).1 (inr holds),
+)
 
 -- the members of two lists, one behind the other
 pub either_list : (none one two sorted xs ys : List ℕ) → none ≡ [] → one ≡ none ++ xs → two ≡ one ++ ys

@@ -18,7 +18,7 @@ use Rattle.hprof_dominators.specs.Walks as listed
 use Rattle.hprof_dominators.proofs.Listed.{same_reached}
 use Rattle.hprof_reach.specs.Reaching.{IsNode, IsStart, IsStepBy, LeadsBy}
 use Rattle.hprof_weak.specs.Weak.{IsStrong, IsWeak}
-use Rattle.hprof_retained.specs.Border.{AreAround, Crossing, IsCrossedTo, starts_of, steps_of}
+use Rattle.hprof_retained.specs.Border.{AreAround, Crossing, IsCrossedTo, crossing_of, starts_of, steps_of}
 use Rattle.hprof_retained.specs.Retained.{IsHeld}
 use Rattle.hprof_retained.specs.Tree.{IsTreeOf, place_of}
 use Rattle.hprof_retained.specs.Weakly.{IsWeaklyHeld}
@@ -62,9 +62,6 @@ is_there_or_not xs x = elim (cases_Bool (list_any (nat_eq x) xs)) [
   | inl passes ↦ inl (Contains-from_any {eq = nat_eq} eqb-true x xs passes)
   | inr fails ↦ inr (λ has. let passes = list_any-from_Contains nat_eq_equiv x xs has in cc)
 ]
-
-abbrev pub crossing_of : IdSize → List FactValue → List FieldPlace → List ℕ → List ℕ → Crossing
-crossing_of ids facts kept all sources = record { ids = ids; facts = facts; fields = kept; nodes = all; sources = sources }
 
 module _ (ids : IdSize) (facts : List FactValue) (agree : IsConsistent facts) (fields : List FieldPlace) (retained : Retained)
     (weak : (edge : Edge) → IsEdge ids facts edge → IsLeftOut fields facts edge ↔ IsWeak facts edge) (tree : IsTreeOf ids facts retained)

@@ -16,3 +16,5 @@ pub mod Ascending
 pub mod SizedNodes
 pub mod WeaklyPassed
 pub mod WeaklyFound
+pub mod BorderPassed
+pub mod CrossedLists

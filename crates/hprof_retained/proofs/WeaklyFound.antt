@@ -1,19 +1,26 @@
--- The nodes that a pass and a search found are all that only weak references reach.
+-- The sum over what only weak references reach, of the objects that were picked.
 use Rattle.std.specs.Prelude.{◌↔◌, Contains, sum}
-use Rattle.std.proofs.Common.{◌≡◌, ◌⊎◌, ◌∙◌, ℕ, List, [], ◌∷◌, ◌++◌, Option, Some, None, length, refl, sym, subst, inl, inr, arith}
+use Rattle.std.proofs.Common.{◌≡◌, ◌==◌, ◌⊎◌, ◌∙◌, ℕ, Bool, true, List, [], ◌∷◌, ◌++◌, Option, Some, None, length, refl, sym, ap, subst}
+use Rattle.std.proofs.Common.{inl, inr, arith, eq-eqb, eqb-true}
+use Rattle.std.specs.List.{list_any}
 use Rattle.std.specs.List.Sorted.{IsStrictlyIncreasing}
+use Rattle.std.proofs.lemmas.Bool.{or_cases}
+use Rattle.std.proofs.lemmas.List.Folds.{list_any_at}
 use Rattle.hprof_values.specs.declared.ids.IdSize.{IdSize}
 use Rattle.hprof_items.specs.FactValue.{FactValue}
 use Rattle.hprof_rows.specs.Conflict.{IsConsistent}
 use Rattle.hprof_rows.specs.declared.table.Table.TheVariants as tables
 use Rattle.hprof_rows.specs.Tables.{number_of_table, stands_in}
-use Rattle.hprof_rows.proofs.Picking.{picked, picked_is}
+use Rattle.hprof_rows.specs.Facts.{Has}
+use Rattle.hprof_rows.proofs.Picking.{picked as has_passed, picked_is}
 use Rattle.hprof_heap.specs.Classes.{fact_of_class}
 use Rattle.hprof_heap.specs.Found.{IsObjectFound}
-use Rattle.hprof_heap.specs.Objects.{HasNoObject}
+use Rattle.hprof_heap.specs.Objects.{HasNoObject, IsObject}
 use Rattle.hprof_edges.specs.Edges.{AnyEdge}
 use Rattle.hprof_naming.proofs.Lookups.{object_exists}
 use Rattle.hprof_passes.specs.Passing.{IsWhole, objects_among}
+use Rattle.hprof_passes.specs.Picked.{is_wanted, picked}
+use Rattle.hprof_passes.proofs.PickedObjects.{is_object_of, is_wanted_at, wanted_of}
 use Rattle.hprof_passes.proofs.Tables.{has_same}
 use Rattle.hprof_search.proofs.Forth.{no_walk, some_walk}
 use Rattle.hprof_dominators.specs.Retained.{IsOnce}
@@ -23,17 +30,28 @@ use Rattle.hprof_dominators.proofs.Listed.{same_reached}
 use Rattle.hprof_reach.specs.Nodes.{IsClassNode}
 use Rattle.hprof_reach.specs.Reaching.{IsDistanceFromRoots, IsNode, IsStart, IsStepBy}
 use Rattle.hprof_reach.proofs.SomeReach.{some_distance}
-use Rattle.hprof_reach.proofs.TableNodes.{stands_there}
 use Rattle.hprof_retained.specs.Retained.{AreSizesOf, IsSumOver}
-use Rattle.hprof_retained.specs.Tree.{IsTreeOf, place_of}
 use Rattle.hprof_retained.specs.Weakly.{AreWeaklyHeld, IsWeaklyHeld}
-use Rattle.hprof_retained.specs.declared.retained.Retained.{Retained}
 use Rattle.hprof_retained.specs.declared.weakly.WeaklyHeld.{WeaklyHeld}
 use Rattle.hprof_retained.proofs.Ascending.{on_is, once_ascending}
 use Rattle.hprof_retained.proofs.Deciding.{Decided, both_decided, not_decided}
 use Rattle.hprof_retained.proofs.HeldOrNot.{held_or_not}
 use Rattle.hprof_retained.proofs.NodeLists.{nodes_exist}
-use Rattle.hprof_retained.proofs.WeaklyPassed.{AreGathered, IsReachedByAny}
+use Rattle.hprof_retained.proofs.WeaklyPassed.{AreGathered, IsReachedByAny, same_object}
+
+-- ---- one of several
+
+on_from_any : (wanted : List ℕ) (id : ℕ) → list_any (λ other. other == id) wanted ≡ true → IsOn id wanted
+on_from_any [] id among = absurd cc
+on_from_any (first ∷ rest) id among = elim (or_cases (first == id) (list_any (λ other. other == id) rest) among) [
+  | inl here ↦ inl (sym (eqb-true first id here))
+  | inr later ↦ inr (on_from_any rest id later)
+]
+
+any_from_contains : (wanted : List ℕ) (id : ℕ) → Contains wanted id → list_any (λ other. other == id) wanted ≡ true
+any_from_contains wanted id has =
+    let test : ℕ → Bool = λ other. other == id in
+    list_any_at test wanted has.0 id has.1 (ap test has.2 ∙ eq-eqb id id refl)
 
 -- ---- two lists
 
@@ -108,54 +126,51 @@ module _ (ids : IdSize) (facts : List FactValue) where
 
     -- ---- all
 
-    module _ (retained : Retained) (tree : IsTreeOf ids facts retained) (nodes all : List ℕ) (bytes high : ℕ)
-        (are : AreGathered ids facts (objects_among facts) nodes bytes high) (ascend : IsStrictlyIncreasing all)
-        (exact : (node : ℕ) → Contains all node ↔ (Contains nodes node
-        ⊎ ((IsClassNode facts node × (place_of retained node ≡ 0)) × IsReachedByAny ids facts agree node))) where
-      object_there : (node : ℕ) → IsWeaklyHeld ids facts node → (HasNoObject facts node → ⊥) → Contains nodes node
+    module _ (all gathered : List ℕ) (bytes high : ℕ) (exact : (node : ℕ) → Contains all node ↔ IsWeaklyHeld ids facts node)
+        (ascend : IsStrictlyIncreasing all) (are : AreGathered ids facts (picked all (objects_among facts)) gathered bytes high) where
+      -- what was gathered are objects that are weakly held
+      held_object : (node : ℕ) → Contains gathered node
+          → ((object : FactValue) × Has facts object × IsObject node object) × IsWeaklyHeld ids facts node
+      held_object node has =
+          let object = (are.exact node).0 has in
+          let chosen = picked_is (is_wanted all) (objects_among facts) object.0 object.1 in
+          let of = wanted_of all object.0 chosen.passes in
+          let same = same_object ids object.0 of.id of.key node object.2 in (
+            (object.0, (picked_is (stands_in (number_of_table tables.Objects)) facts object.0 chosen.has).has, object.2),
+            (exact node).0 (subst (Contains all) same ((on_is all of.id).0 (on_from_any all of.id of.among))),
+          )
+
+      object_there : (node : ℕ) → IsWeaklyHeld ids facts node → (HasNoObject facts node → ⊥) → Contains gathered node
       object_there node weakly some = go found.0 found.1 where
         found : (object : Option FactValue) × IsObjectFound facts node object
         found = object_exists facts node
 
-        go : (object : Option FactValue) → IsObjectFound facts node object → Contains nodes node
-        go (Some fact) is = (are.exact node).1 (
-          fact,
-          picked (stands_in (number_of_table tables.Objects)) facts fact (record { has = is.0; passes = stands_there fact node is.1 }),
-          is.1,
-          weakly,
-        )
+        go : (object : Option FactValue) → IsObjectFound facts node object → Contains gathered node
+        go (Some fact) is =
+            let of = is_object_of node fact is.1 in
+            let there = has_passed (stands_in (number_of_table tables.Objects)) facts fact (record { has = is.0; passes = of.stands }) in
+            let wanted = is_wanted_at all fact node of.of (any_from_contains all node ((exact node).1 weakly)) in
+            (are.exact node).1
+            (fact, has_passed (is_wanted all) (objects_among facts) fact (record { has = there; passes = wanted }), is.1)
         go None none = absurd (some none)
-
-      all_there : (node : ℕ) → Contains all node ↔ IsWeaklyHeld ids facts node
-      all_there node = (
-        λ has. elim ((exact node).0 has) [
-          | inl object ↦ ((are.exact node).0 object).3
-          | inr class ↦ (class.1, λ held. (let some = (tree.found node held).0 in absurd (omega (arith, some, class.0.1))))
-        ],
-        λ weakly. (exact node).1 (let is = reached_node agree node weakly.0 in elim is.1 [
-          | inl dump ↦ inr (((is.0, dump), tree.others node weakly.1), weakly.0)
-          | inr object ↦ inl (object_there node weakly (λ none. none object.0 object.1 object.2))
-        ]),
-      )
 
       summed_all : IsSumOver ids facts (IsWeaklyHeld ids facts) (record { bytes = bytes; objects = length all })
       summed_all =
           let lone = nodes_exist ids facts agree IsLone lone_or_not (λ node is. (reached_node agree node is.0.0).1) in
-          let sizes = with_lone lone.0 nodes are.summed.sizes are.summed.are (λ node on. ((lone.1.exact node).0 on).1) in (
+          let sizes = with_lone lone.0 gathered are.summed.sizes are.summed.are (λ node on. ((lone.1.exact node).0 on).1) in (
             record {
-              nodes = lone.0 ++ nodes;
-              once = both_once lone.0 nodes lone.1.once (once_ascending nodes are.ascend) (λ node on other.
-                  let object = (are.exact node).0 ((on_is nodes node).0 other) in
-                  ((lone.1.exact node).0 on).1 object.0
-                  (picked_is (stands_in (number_of_table tables.Objects)) facts object.0 object.1).has object.2);
+              nodes = lone.0 ++ gathered;
+              once = both_once lone.0 gathered lone.1.once (once_ascending gathered are.ascend) (λ node on other.
+                  let object = (held_object node ((on_is gathered node).0 other)).0 in
+                  ((lone.1.exact node).0 on).1 object.0 object.1 object.2);
               exact = λ node. (
-                λ on. elim ((on_either lone.0 nodes node).0 on) [
+                λ on. elim ((on_either lone.0 gathered node).0 on) [
                   | inl class ↦ ((lone.1.exact node).0 class).0
-                  | inr object ↦ ((are.exact node).0 ((on_is nodes node).0 object)).3
+                  | inr object ↦ (held_object node ((on_is gathered node).0 object)).1
                 ],
-                λ weakly. (on_either lone.0 nodes node).1 (elim (no_object_or_one node) [
+                λ weakly. (on_either lone.0 gathered node).1 (elim (no_object_or_one node) [
                   | inl none ↦ inl ((lone.1.exact node).1 (weakly, none))
-                  | inr some ↦ inr ((on_is nodes node).1 (object_there node weakly some))
+                  | inr some ↦ inr ((on_is gathered node).1 (object_there node weakly some))
                 ]),
               );
               sizes = sizes.0;
@@ -165,14 +180,14 @@ module _ (ids : IdSize) (facts : List FactValue) where
             record {
               nodes = all;
               once = once_ascending all ascend;
-              exact = λ node. (λ on. (all_there node).0 ((on_is all node).0 on), λ weakly. (on_is all node).1 ((all_there node).1 weakly));
+              exact = λ node. (λ on. (exact node).0 ((on_is all node).0 on), λ weakly. (on_is all node).1 ((exact node).1 weakly));
               is = refl;
             },
           )
 
       pub weakly_found : (weakly : WeaklyHeld) → weakly.nodes.items ≡ all → weakly.bytes ≡ bytes → AreWeaklyHeld ids facts weakly
       weakly_found weakly nodes_are bytes_are = record {
-        exact = subst (λ (l : List ℕ). (node : ℕ) → Contains l node ↔ IsWeaklyHeld ids facts node) (sym nodes_are) all_there;
+        exact = subst (λ (l : List ℕ). (node : ℕ) → Contains l node ↔ IsWeaklyHeld ids facts node) (sym nodes_are) exact;
         sum = subst (λ (l : List ℕ). IsSumOver ids facts (IsWeaklyHeld ids facts) (record { bytes = weakly.bytes; objects = length l }))
             (sym nodes_are)
             (subst (λ (b : ℕ). IsSumOver ids facts (IsWeaklyHeld ids facts) (record { bytes = b; objects = length all })) (sym bytes_are)

@@ -47,6 +47,9 @@ pub record Crossing : Type 0 where
   pub nodes : List ℕ
   pub sources : List ℕ
 
+abbrev pub crossing_of : IdSize → List FactValue → List FieldPlace → List ℕ → List ℕ → Crossing
+crossing_of ids facts kept all sources = record { ids = ids; facts = facts; fields = kept; nodes = all; sources = sources }
+
 abbrev pub starts_of : Crossing → ℕ → Type 0
 starts_of crossing node = Contains crossing.nodes node × Contains crossing.sources node
 

@@ -1,26 +1,19 @@
 //! The search beyond what strong references reach.
 
-ghost use Rattle.std.specs.Prelude.{◌≡◌, ◌↔◌, ℕ, Contains, IfOk, IsTrue, List, sum};
+ghost use Rattle.std.specs.Prelude.{◌≡◌, ◌↔◌, ◌⊎◌, ℕ, Contains, IfOk, IsTrue, List, length};
 ghost use Rattle.std.specs.List.Sorted.{IsStrictlyIncreasing};
-ghost use Rattle.hprof_edges.specs.LeftOut.{IsLeftOut, fields_in};
-ghost use Rattle.hprof_edges.specs.Edges.{IsEdge};
-ghost use Rattle.hprof_edges.specs.declared.edge.Edge.{Edge};
-ghost use Rattle.hprof_heap.specs.HeapFacts.{facts_of, size_of};
+ghost use Rattle.hprof_values.specs.declared.ids.IdSize.{IdSize};
+ghost use Rattle.hprof_items.specs.FactValue.{FactValue};
+ghost use Rattle.hprof_edges.specs.declared.field_place.FieldPlace.{FieldPlace};
+ghost use Rattle.hprof_numbers.specs.Lists.{LeadsWithin, count_in};
+ghost use Rattle.hprof_numbers.specs.Numbered.{nodes_in};
+ghost use Rattle.hprof_reach.specs.EdgesMade.{AreKeptEdges};
 ghost use Rattle.hprof_search.specs.Search.{IsSearch};
-ghost use Rattle.hprof_weak.specs.Weak.{IsWeak};
-ghost use Rattle.hprof_retained.specs.Border.{Crossing, IsCrossedTo, starts_of, steps_of};
-ghost use Rattle.hprof_retained.specs.Retained.{AreSizesOf};
-ghost use Rattle.hprof_retained.specs.Tree.{IsTreeOf};
-ghost use Rattle.hprof_retained.specs.Weakly.{AreWeaklyHeld};
+ghost use Rattle.hprof_retained.specs.Border.{Crossing, IsCrossedTo, crossing_of, starts_of, steps_of};
 
-use crate::border::{border_of, joined};
-use crate::retained::Retained;
-use crate::sizes::size_of_node;
-use crate::weakly::WeaklyHeld;
-use hprof_edges::LeftOut;
-use hprof_heap::{Finger, Heap, holds_of_heap};
-use hprof_reach::graph_of;
-use hprof_search::{Search, WalksOf, search};
+use crate::border::{Border, joined};
+use hprof_numbers::{Lists, Numbered};
+use hprof_search::{ByLists, Search, WalksOf, search_numbered};
 use std::alloc::{AllocError, Global};
 
 /// Walks from some nodes on, over these and others.
@@ -58,40 +51,33 @@ fn reached_among(alloc: Global, search: &Search, nodes: &[u64]) -> Result<Vec<u6
     Ok(reached)
 }
 
-/// Returns the bytes of the fields and elements of some nodes.
-fn bytes_of(heap: &Heap, nodes: &[u64]) -> u128
-    ensures { (sizes : List ℕ) × AreSizesOf (size_of heap.now) (facts_of heap.now) nodes.now sizes × (result ≡ sum sizes) }
+/// Returns the nodes on both sides of a border, with their numbers. If memory runs out, the answer is `AllocError`.
+pub(crate) fn numbered_around(alloc: Global, border: &Border<'_>) -> Result<Numbered, AllocError>
+    ensures { IfOk result (λ numbered. (node : ℕ) → Contains (nodes_in numbered) node
+        ↔ (Contains border.now.others.items node ⊎ Contains border.now.sources.items node)) }
 {
-    let mut near = Finger::start();
-    let mut bytes: u128 = 0;
-    for node in nodes {
-        bytes += size_of_node(heap, *node, &mut near) as u128;
-    }
-    bytes
+    let all = joined(alloc, &border.others, &border.sources)?;
+    Numbered::new(alloc, all)
 }
 
-/// Returns the classes and objects of a heap that only weak references reach. `weak` are the heap's weak fields, and `retained` is the tree
-/// of dominators by strong references. If memory runs out, the answer is `AllocError`.
-///
-/// The search begins at the objects inside the tree that may have weak references, and leads on outside of it.
-pub fn weakly_held(
+/// Searches from the nodes inside a border, along the edges between `nodes`, and returns the nodes outside that it reached, sorted. If
+/// memory runs out, the answer is `AllocError`.
+pub(crate) fn reached_outside(
     alloc: Global,
-    heap: &Heap,
-    weak: &LeftOut,
-    retained: &Retained,
-) -> Result<WeaklyHeld, AllocError>
-    requires weak { (edge : Edge) → IsEdge (size_of heap.now) (facts_of heap.now) edge
-        → IsLeftOut (fields_in weak.now) (facts_of heap.now) edge ↔ IsWeak (facts_of heap.now) edge }
-    requires retained { IsTreeOf (size_of heap.now) (facts_of heap.now) retained.now }
-    ensures { IfOk result (AreWeaklyHeld (size_of heap.now) (facts_of heap.now)) }
+    border: &Border<'_>,
+    nodes: Numbered,
+    edges: Lists,
+) -> Result<Vec<u64>, AllocError>
+    requires ascend { IsStrictlyIncreasing border.now.others.items }
+    requires as_many { count_in edges ≡ length (nodes_in nodes) }
+    requires leads { LeadsWithin edges }
+    ensures ascend { IfOk result (λ reached. IsStrictlyIncreasing reached.items) }
+    ensures exact { IfOk result (λ reached. (ids : IdSize) (facts : List FactValue) (fields : List FieldPlace)
+        → AreKeptEdges ids facts fields (nodes_in nodes) edges → (node : ℕ) → Contains reached.items node
+        ↔ (Contains border.now.others.items node
+        × IsCrossedTo (crossing_of ids facts fields (nodes_in nodes) border.now.sources.items) node)) }
 {
-    holds_of_heap(heap);
-    let none = LeftOut::none(alloc);
-    let graph = graph_of(alloc, heap, &none)?;
-    let border = border_of(alloc, heap, weak, retained)?;
-    let all = joined(alloc, &border.others, &border.sources)?;
-    let search = search(alloc, graph, all, &border.sources)?;
-    let nodes = reached_among(alloc, &search, &border.others)?;
-    let bytes = bytes_of(heap, &nodes);
-    Ok(WeaklyHeld { nodes, bytes })
+    let mut steps = ByLists { lists: &edges };
+    let search = search_numbered(alloc, &mut steps, nodes, &border.sources)?;
+    reached_among(alloc, &search, &border.others)
 }

@@ -7,13 +7,12 @@ ghost use Rattle.hprof_heap.specs.HeapFacts.{facts_of};
 ghost use Rattle.hprof_heap.specs.ObjectDump.{fact_of_object};
 ghost use Rattle.hprof_heap.specs.Objects.{IsObject};
 ghost use Rattle.hprof_reach.specs.Nodes.{IsClassNode};
-ghost use Rattle.hprof_retained.specs.Border.{AreAround, has_class};
+ghost use Rattle.hprof_retained.specs.Border.{has_class};
 ghost use Rattle.hprof_retained.specs.Tree.{place_of};
 
 use crate::retained::Retained;
 use hprof_edges::LeftOut;
-use hprof_heap::{Heap, ObjectDump, Table, table_facts, to_class_dump, to_object_dump};
-use hprof_items::Fact;
+use hprof_heap::{Heap, ObjectDump, Table, table_facts, to_class_dump};
 use hprof_reach::{id_of, push_node, sort_once};
 use std::alloc::{AllocError, Global};
 
@@ -71,11 +70,10 @@ pub(crate) struct Border<'w> {
 
 impl<'w> Border<'w> {
     ghost use Rattle.std.specs.Prelude.{[], IsTrue};
-    ghost use Rattle.hprof_reach.specs.Nodes.{IsObjectNode};
-    ghost use Rattle.hprof_retained.specs.Border.{IsBorderNode, IsOfClasses, IsOnBorder, IsOutside};
+    ghost use Rattle.hprof_retained.specs.Border.{IsOfClasses, IsOnBorder, IsOutside};
 
     /// Returns a border without nodes. Allocates nothing.
-    fn new(alloc: Global, weak: &'w LeftOut) -> Border<'w>
+    pub(crate) fn new(alloc: Global, weak: &'w LeftOut) -> Border<'w>
         ensures weak { result.weak.now ≡ weak.now }
         ensures others { result.others.items ≡ [] }
         ensures sources { result.sources.items ≡ [] }
@@ -108,7 +106,11 @@ impl<'w> Border<'w> {
     }
 
     /// Appends an object to the side of the border on which it is, if it is to be kept there.
-    fn see(&mut self, retained: &Retained, dump: &ObjectDump<'_>) -> Result<(), AllocError>
+    pub(crate) fn see(
+        &mut self,
+        retained: &Retained,
+        dump: &ObjectDump<'_>,
+    ) -> Result<(), AllocError>
         ensures others { OnOk result ((node : ℕ) → Contains self.new.others.items node ↔ (Contains self.old.others.items node
             ⊎ IsOutside retained.now (fact_of_object dump.now) node)) }
         ensures sources { OnOk result ((node : ℕ) → Contains self.new.sources.items node ↔ (Contains self.old.sources.items node
@@ -126,42 +128,6 @@ impl<'w> Border<'w> {
         self.sources.push(id)?;
         Ok(())
     }
-
-    /// Goes over the objects of a heap.
-    fn see_objects(&mut self, heap: &Heap, retained: &Retained) -> Result<(), AllocError>
-        ensures others { OnOk result ((node : ℕ) → Contains self.new.others.items node ↔ (Contains self.old.others.items node
-            ⊎ (IsObjectNode (facts_of heap.now) node × (place_of retained.now node ≡ 0)))) }
-        ensures sources { OnOk result ((node : ℕ) → Contains self.new.sources.items node ↔ (Contains self.old.sources.items node
-            ⊎ IsBorderNode (fields_in self.old.weak.now) retained.now (facts_of heap.now) node)) }
-    {
-        let mut facts = table_facts(heap, Table::Objects);
-        let mut fact = Fact::End { thread: 0 };
-        while facts.next_into(&mut fact) {
-            if let Some(dump) = to_object_dump(&fact) {
-                self.see(retained, &dump)?;
-            }
-        }
-        Ok(())
-    }
-}
-
-/// Returns the nodes on both sides of the border; those outside are sorted. `weak` are the weak fields of the heap's classes. If memory
-/// runs out, the answer is `AllocError`.
-pub(crate) fn border_of<'w>(
-    alloc: Global,
-    heap: &Heap,
-    weak: &'w LeftOut,
-    retained: &Retained,
-) -> Result<Border<'w>, AllocError>
-    ensures ascend { IfOk result (λ border. IsStrictlyIncreasing border.others.items) }
-    ensures around { IfOk result (λ border. AreAround (facts_of heap.now) (fields_in weak.now) retained.now border.others.items
-        border.sources.items) }
-{
-    let mut border = Border::new(alloc, weak);
-    push_classes(heap, retained, &mut border.others)?;
-    border.see_objects(heap, retained)?;
-    sort_once(&mut border.others)?;
-    Ok(border)
 }
 
 /// Returns the numbers of two lists, sorted, each once. If memory runs out, the answer is `AllocError`.

@@ -6,6 +6,7 @@
 
 mod beyond;
 mod border;
+mod border_sink;
 mod kept_references;
 pub mod laws;
 mod making;
@@ -16,10 +17,9 @@ mod weakly;
 mod weakly_over;
 mod weakly_sink;
 
-pub use beyond::weakly_held;
 pub use kept_references::KeptReferences;
 pub use making::{retained_of, retained_over};
 pub use retained::Retained;
 pub use sizes::{bytes_of_dump, size_of_node};
 pub use weakly::WeaklyHeld;
-pub use weakly_over::weakly_held_over;
+pub use weakly_over::{weakly_held, weakly_held_over};

@@ -1,96 +1,74 @@
 //! What only weak references reach, by passes over objects.
 
-ghost use Rattle.std.specs.Prelude.{◌≡◌, ◌↔◌, ◌⊎◌, ℕ, Contains, IfOk, List, OnOk};
-ghost use Rattle.hprof_values.specs.declared.ids.IdSize.{IdSize};
+ghost use Rattle.std.specs.Prelude.{◌≡◌, ◌↔◌, ℕ, Contains, IfOk, List};
+ghost use Rattle.std.specs.List.Sorted.{IsStrictlyIncreasing};
 ghost use Rattle.hprof_items.specs.FactValue.{FactValue};
-ghost use Rattle.hprof_rows.specs.Conflict.{IsConsistent};
-ghost use Rattle.hprof_edges.specs.Edges.{AnyEdge};
+ghost use Rattle.hprof_edges.specs.LeftOut.{IsLeftOut, fields_in};
+ghost use Rattle.hprof_edges.specs.Edges.{IsEdge};
+ghost use Rattle.hprof_edges.specs.declared.edge.Edge.{Edge};
 ghost use Rattle.hprof_heap.specs.HeapFacts.{facts_of, size_of};
-ghost use Rattle.hprof_dominators.specs.Dominating.{IsReached};
 ghost use Rattle.hprof_passes.specs.Finding.{Finds};
-ghost use Rattle.hprof_reach.specs.Nodes.{IsClassNode};
-ghost use Rattle.hprof_reach.specs.Reaching.{IsReach, IsStart, IsStepBy};
-ghost use Rattle.hprof_retained.specs.KeptReferences.{AreKeptReferences};
-ghost use Rattle.hprof_retained.specs.Tree.{IsTreeOf, place_of};
-ghost use Rattle.hprof_retained.specs.Weakly.{AreWeaklyHeld};
+ghost use Rattle.hprof_weak.specs.Weak.{IsWeak};
+ghost use Rattle.hprof_retained.specs.Tree.{IsTreeOf};
+ghost use Rattle.hprof_retained.specs.Weakly.{AreWeaklyHeld, IsWeaklyHeld};
 
-use crate::border::push_classes;
-use crate::kept_references::KeptReferences;
+use crate::beyond::{numbered_around, reached_outside};
+use crate::border_sink::border_over;
 use crate::retained::Retained;
 use crate::weakly::WeaklyHeld;
 use crate::weakly_sink::WeaklySink;
+use hprof_edges::LeftOut;
 use hprof_heap::{Heap, holds_of_heap};
-use hprof_passes::{Objects, PassStop};
-use hprof_reach::{Reach, sort_once};
+use hprof_passes::{InHeap, Objects, PassStop};
+use hprof_reach::edges_over;
 use std::alloc::{AllocError, Global};
 
-/// Appends a node if a search reached it.
-fn push_if_reached(reach: &Reach, node: u64, nodes: &mut Vec<u64>) -> Result<(), AllocError>
-    ensures { OnOk result ((ids : IdSize) (facts : List FactValue) → IsConsistent facts → IsReach ids facts reach.now → (other : ℕ)
-        → Contains nodes.new.items other ↔ (Contains nodes.old.items other
-        ⊎ ((other ≡ node) × IsReached (IsStart facts) (IsStepBy AnyEdge ids facts) other))) }
-{
-    if reach.is_reached(node) {
-        nodes.push(node)?;
-    }
-    Ok(())
-}
-
-/// Appends those of some nodes that a search reached.
-fn push_reached(reach: &Reach, some: &[u64], nodes: &mut Vec<u64>) -> Result<(), AllocError>
-    ensures { OnOk result ((ids : IdSize) (facts : List FactValue) → IsConsistent facts → IsReach ids facts reach.now → (node : ℕ)
-        → Contains nodes.new.items node ↔ (Contains nodes.old.items node
-        ⊎ (Contains some.now node × IsReached (IsStart facts) (IsStepBy AnyEdge ids facts) node))) }
-{
-    for node in some {
-        push_if_reached(reach, *node, nodes)?;
-    }
-    Ok(())
-}
-
-/// Appends the classes that have a dump, and no place in the tree, and that a search reached.
-fn push_weak_classes(
-    alloc: Global,
-    heap: &Heap,
-    retained: &Retained,
-    reach: &Reach,
-    nodes: &mut Vec<u64>,
-) -> Result<(), AllocError>
-    ensures { OnOk result ((ids : IdSize) (facts : List FactValue) → IsConsistent facts → IsReach ids facts reach.now → (node : ℕ)
-        → Contains nodes.new.items node ↔ (Contains nodes.old.items node
-        ⊎ ((IsClassNode (facts_of heap.now) node × (place_of retained.now node ≡ 0))
-        × IsReached (IsStart facts) (IsStepBy AnyEdge ids facts) node))) }
-{
-    let mut outside = Vec::new(alloc);
-    push_classes(heap, retained, &mut outside)?;
-    push_reached(reach, &outside, nodes)
-}
-
-/// Returns the nodes of a sink after the last object, and the classes that only weak references reach, with the bytes of all.
-fn all_weakly(
-    alloc: Global,
-    heap: &Heap,
-    retained: &Retained,
-    reach: &Reach,
-    sink: WeaklySink<'_>,
-) -> Result<WeaklyHeld, AllocError>
-    ensures bytes { IfOk result (λ weakly. weakly.bytes ≡ sink.entry.bytes) }
-    ensures nodes { IfOk result (λ weakly. (ids : IdSize) (facts : List FactValue) → IsConsistent facts → IsReach ids facts reach.now
-        → (node : ℕ) → Contains weakly.nodes.items node ↔ (Contains sink.entry.nodes.items node
-        ⊎ ((IsClassNode (facts_of heap.now) node × (place_of retained.now node ≡ 0))
-        × IsReached (IsStart facts) (IsStepBy AnyEdge ids facts) node))) }
-{
-    let bytes = sink.bytes;
-    let mut nodes = sink.nodes;
-    push_weak_classes(alloc, heap, retained, reach, &mut nodes)?;
-    sort_once(&mut nodes)?;
-    Ok(WeaklyHeld { nodes, bytes })
-}
-
-/// Returns the classes and objects that only weak references reach, of those that objects make up with a heap, as
-/// [`weakly_held`](crate::weakly_held) does. `retained` is the tree of dominators by strong references. The heap has all facts but objects.
+/// Returns the nodes that objects make up with a heap and that only weak references reach, sorted.
 ///
-/// The objects are gone through once, and twice before if the search by references of any kind is not kept.
+/// # Errors
+///
+/// - `Sink`: memory ran out.
+/// - `Lost`: the objects cannot be gone through.
+fn weak_nodes_over<O: Objects>(
+    alloc: Global,
+    heap: &Heap,
+    objects: &O,
+    weak: &LeftOut,
+    retained: &Retained,
+) -> Result<Vec<u64>, PassStop<AllocError, O::Fault>>
+    requires weak { (all : List FactValue) → O.make_up objects.now (size_of heap.now) (facts_of heap.now) all → (edge : Edge)
+        → IsEdge (size_of heap.now) all edge → IsLeftOut (fields_in weak.now) all edge ↔ IsWeak all edge }
+    requires tree { (all : List FactValue) → O.make_up objects.now (size_of heap.now) (facts_of heap.now) all
+        → IsTreeOf (size_of heap.now) all retained.now }
+    ensures ascend { IfOk result (λ nodes. IsStrictlyIncreasing nodes.items) }
+    ensures held { Finds (O.make_up objects.now (size_of heap.now) (facts_of heap.now))
+        (O.agree objects.now (size_of heap.now) (facts_of heap.now)) (O.tells objects.now (size_of heap.now) (facts_of heap.now))
+        (λ all nodes. (node : ℕ) → Contains nodes.items node ↔ IsWeaklyHeld (size_of heap.now) all node) result }
+{
+    let border = match border_over(alloc, heap, objects, weak, retained) {
+        Ok(border) => border,
+        Err(stop) => return Err(stop),
+    };
+    let numbered = match numbered_around(alloc, &border) {
+        Ok(numbered) => numbered,
+        Err(fault) => return Err(PassStop::Sink(fault)),
+    };
+    let none = LeftOut::none(alloc);
+    let (nodes, edges) = match edges_over(alloc, heap, objects, &none, numbered) {
+        Ok(made) => made,
+        Err(stop) => return Err(stop),
+    };
+    match reached_outside(alloc, &border, nodes, edges) {
+        Ok(reached) => Ok(reached),
+        Err(fault) => Err(PassStop::Sink(fault)),
+    }
+}
+
+/// Returns the classes and objects that only weak references reach, of those that objects make up with a heap. `weak` are their weak
+/// fields, and `retained` is the tree of dominators by strong references. The heap has all facts but objects.
+///
+/// The search begins at the objects inside the tree that may have weak references, and leads on outside of it. The objects are gone
+/// through twice, and those that are found are picked for their bytes.
 ///
 /// # Errors
 ///
@@ -100,33 +78,48 @@ pub fn weakly_held_over<O: Objects>(
     alloc: Global,
     heap: &Heap,
     objects: &O,
-    references: &mut KeptReferences,
+    weak: &LeftOut,
     retained: &Retained,
 ) -> Result<WeaklyHeld, PassStop<AllocError, O::Fault>>
-    requires references { AreKeptReferences (O.make_up objects.now (size_of heap.now) (facts_of heap.now))
-        (O.agree objects.now (size_of heap.now) (facts_of heap.now)) (size_of heap.now) references.old }
+    requires weak { (all : List FactValue) → O.make_up objects.now (size_of heap.now) (facts_of heap.now) all → (edge : Edge)
+        → IsEdge (size_of heap.now) all edge → IsLeftOut (fields_in weak.now) all edge ↔ IsWeak all edge }
     requires tree { (all : List FactValue) → O.make_up objects.now (size_of heap.now) (facts_of heap.now) all
         → IsTreeOf (size_of heap.now) all retained.now }
     ensures held { Finds (O.make_up objects.now (size_of heap.now) (facts_of heap.now))
         (O.agree objects.now (size_of heap.now) (facts_of heap.now))
         (O.tells objects.now (size_of heap.now) (facts_of heap.now)) (λ all. AreWeaklyHeld (size_of heap.now) all) result }
-    ensures references { AreKeptReferences (O.make_up objects.now (size_of heap.now) (facts_of heap.now))
-        (O.agree objects.now (size_of heap.now) (facts_of heap.now)) (size_of heap.now) references.new }
 {
-    holds_of_heap(heap);
-    let reach = match references.take_all(alloc, heap, objects) {
-        Ok(reach) => reach,
+    let nodes = match weak_nodes_over(alloc, heap, objects, weak, retained) {
+        Ok(nodes) => nodes,
         Err(stop) => return Err(stop),
     };
-    let mut sink = WeaklySink::new(alloc, retained, &reach);
-    match objects.pass(alloc, heap, &mut sink) {
-        Ok(()) => {}
-        Err(stop) => return Err(stop),
+    let mut sink = WeaklySink::new(alloc);
+    match objects.pick(alloc, heap, &nodes, &mut sink) {
+        Ok(()) => Ok(WeaklyHeld {
+            nodes,
+            bytes: sink.bytes,
+        }),
+        Err(stop) => Err(stop),
     }
-    let weakly = all_weakly(alloc, heap, retained, &reach, sink);
-    references.keep_all(reach);
-    match weakly {
+}
+
+/// Returns the classes and objects of a heap with its objects in memory that only weak references reach, as [`weakly_held_over`] does.
+/// `weak` are the heap's weak fields, and `retained` is the tree of dominators by strong references. If memory runs out, the answer is
+/// `AllocError`.
+pub fn weakly_held(
+    alloc: Global,
+    heap: &Heap,
+    weak: &LeftOut,
+    retained: &Retained,
+) -> Result<WeaklyHeld, AllocError>
+    requires weak { (edge : Edge) → IsEdge (size_of heap.now) (facts_of heap.now) edge
+        → IsLeftOut (fields_in weak.now) (facts_of heap.now) edge ↔ IsWeak (facts_of heap.now) edge }
+    requires retained { IsTreeOf (size_of heap.now) (facts_of heap.now) retained.now }
+    ensures { IfOk result (AreWeaklyHeld (size_of heap.now) (facts_of heap.now)) }
+{
+    holds_of_heap(heap);
+    match weakly_held_over(alloc, heap, &InHeap, weak, retained) {
         Ok(weakly) => Ok(weakly),
-        Err(fault) => Err(PassStop::Sink(fault)),
+        Err(stop) => Err(stop.of_sink()),
     }
 }

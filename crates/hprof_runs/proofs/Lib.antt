@@ -14,3 +14,4 @@ pub mod Going
 pub mod Groups
 pub mod AllRows
 pub mod Opened
+mod PassedOn

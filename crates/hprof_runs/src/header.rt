@@ -68,14 +68,10 @@ impl Header {
         if bytes.is_empty() {
             return Ok(None);
         }
-        if let Err(fault) = bytes.hold(HEADER_BYTES) {
-            return Err(fault);
-        }
+        bytes.hold(HEADER_BYTES)?;
         let header = first_header(bytes.held());
         bytes.pass(HEADER_BYTES);
-        if let Err(fault) = bytes.hold(header.len as usize) {
-            return Err(fault);
-        }
+        bytes.hold(header.len as usize)?;
         Ok(Some(header))
     }
 

@@ -137,9 +137,7 @@ impl<'a, S: Scratch> RunBytes<'a, S> {
             return Err(RunFault::OutOfMemory);
         };
         while self.end < count {
-            if let Err(fault) = self.fill() {
-                return Err(fault);
-            }
+            self.fill()?;
         }
         Ok(())
     }

@@ -68,10 +68,7 @@ impl<S: Scratch> RowCursor for RunCursor<'_, S> {
             return Ok(());
         };
         self.bytes.pass(header.len as usize);
-        let next = match Header::read(&mut self.bytes) {
-            Ok(next) => next,
-            Err(fault) => return Err(fault),
-        };
+        let next = Header::read(&mut self.bytes)?;
         if !header.is_below(next) {
             return Err(RunFault::Damaged);
         }

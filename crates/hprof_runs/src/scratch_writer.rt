@@ -90,9 +90,7 @@ impl<S: Scratch + Drop> ScratchWriter<S> {
         ensures err { OnErr result (GrowsScratch S.written S.health self.old self.new) }
         ensures health { LeavesWriting result (S.health self.new.scratch) }
     {
-        if let Err(fault) = push_counted(&mut self.scratch, &mut self.count, &self.buffer) {
-            return Err(fault);
-        }
+        push_counted(&mut self.scratch, &mut self.count, &self.buffer)?;
         self.buffer.clear();
         Ok(())
     }
@@ -108,16 +106,12 @@ impl<S: Scratch + Drop> ScratchWriter<S> {
             self.keep(bytes);
             return Ok(());
         }
-        if let Err(fault) = self.send() {
-            return Err(fault);
-        }
+        self.send()?;
         if bytes.len() <= PIECE_BYTES {
             self.keep(bytes);
             return Ok(());
         }
-        if let Err(fault) = push_counted(&mut self.scratch, &mut self.count, bytes) {
-            return Err(fault);
-        }
+        push_counted(&mut self.scratch, &mut self.count, bytes)?;
         Ok(())
     }
 }

@@ -1,3 +1,4 @@
+pub mod Once
 pub mod OneWalk
 pub mod Forth
 pub mod Followed

@@ -12,7 +12,7 @@ use Rattle.hprof_search.proofs.Ways.{found_all}
 
 module _ (Leads : ℕ → ℕ → Type 0) (starts : List ℕ) (search : Search)
     (searched : IsSearched Leads search.nodes.items starts (kept_finds search) [] search.levels)
-    (once : IsDistinct nat_eq search.order.keys) (by_distance : IsByDistance Leads search.nodes.items starts search.order.keys) where
+    (once : IsDistinct nat_eq search.order.items) (by_distance : IsByDistance Leads search.nodes.items starts search.order.items) where
   abbrev Distance : ℕ → ℕ → Type 0
   Distance node count = IsDistance (StartsIn search.nodes.items starts) (StepsIn Leads search.nodes.items) node count
 
@@ -24,9 +24,9 @@ module _ (Leads : ℕ → ℕ → Type 0) (starts : List ℕ) (search : Search)
   found_from number zero from = ap (node_at search) from
   found_from number (suc count) from = from.1
 
-  before : (number count : ℕ) → Contains search.order.keys number → Distance (node_at search number) count → FoundFrom number count
+  before : (number count : ℕ) → Contains search.order.items number → Distance (node_at search number) count → FoundFrom number count
   before number count has distance =
-      let near = searched.near number ((in_order search.found.items search.order.keys search.whole.ordered number).0 has) in
+      let near = searched.near number ((in_order search.found.items search.order.items search.whole.ordered number).0 has) in
       let same = same_distance (StartsIn search.nodes.items starts) (StepsIn Leads search.nodes.items)
       (node_at search number) near.count count
       near.distance distance in
@@ -43,7 +43,7 @@ module _ (Leads : ℕ → ℕ → Type 0) (starts : List ℕ) (search : Search)
 
   pub searches : IsSearch (StartsIn search.nodes.items starts) (StepsIn Leads search.nodes.items) search
   searches = record {
-    order = nodes_in_order Leads search.nodes.items starts search.whole.ascend (kept_finds search) search.levels searched search.order.keys
+    order = nodes_in_order Leads search.nodes.items starts search.whole.ascend (kept_finds search) search.levels searched search.order.items
         search.whole.ordered once by_distance;
     before = before;
     levels = levels;
@@ -51,11 +51,11 @@ module _ (Leads : ℕ → ℕ → Type 0) (starts : List ℕ) (search : Search)
 
 -- the same over nodes that are those of the search
 pub searches_over : (Leads : ℕ → ℕ → Type 0) (starts nodes : List ℕ) (search : Search) → search.nodes.items ≡ nodes
-    → IsSearched Leads nodes starts (kept_finds search) [] search.levels → IsDistinct nat_eq search.order.keys
-    → IsByDistance Leads nodes starts search.order.keys
+    → IsSearched Leads nodes starts (kept_finds search) [] search.levels → IsDistinct nat_eq search.order.items
+    → IsByDistance Leads nodes starts search.order.items
     → IsSearch (λ node. Contains nodes node × Contains starts node) (λ from to. Leads from to × Contains nodes to) search
 searches_over Leads starts nodes search same searched once order =
     subst (λ (ns : List ℕ). IsSearch (λ node. Contains ns node × Contains starts node) (λ from to. Leads from to × Contains ns to) search)
     same (searches Leads starts search
     (subst (λ (ns : List ℕ). IsSearched Leads ns starts (kept_finds search) [] search.levels) (sym same) searched) once
-    (subst (λ (ns : List ℕ). IsByDistance Leads ns starts search.order.keys) (sym same) order))
+    (subst (λ (ns : List ℕ). IsByDistance Leads ns starts search.order.items) (sym same) order))

@@ -22,7 +22,7 @@ use Rattle.hprof_numbers.proofs.Placed.{nowhere, stands}
 use Rattle.hprof_search.proofs.Ways.{left_none, left_on, way_on}
 
 abbrev pub kept_finds : Search → Finds
-kept_finds search = record { found = search.found.items; before = items_in search.before; order = search.order.keys; next = [] }
+kept_finds search = record { found = search.found.items; before = items_in search.before; order = search.order.items; next = [] }
 
 -- the distance that a search tells of a node
 unfoldable pub distance_in : Search → ℕ → Option ℕ
@@ -69,34 +69,34 @@ module _ (search : Search) where
         absurd (cc)
 
   -- a number in the order is that of a node
-  is_number : (number : ℕ) → Contains search.order.keys number → (number < length search.nodes.items)
+  is_number : (number : ℕ) → Contains search.order.items number → (number < length search.nodes.items)
       × (is_found (kept_finds search) number ≡ true)
   is_number number has =
-      let found = (in_order search.found.items search.order.keys search.whole.ordered number).0 has in
+      let found = (in_order search.found.items search.order.items search.whole.ordered number).0 has in
       let within = found_within (kept_finds search) number found in
       let many = search.whole.as_many in
       (omega arith, found)
 
   -- a node that was found has a number in the order
-  number_found : (node : ℕ) → Contains (nodes_found search) node → (number : ℕ) × Contains search.order.keys number
+  number_found : (node : ℕ) → Contains (nodes_found search) node → (number : ℕ) × Contains search.order.items number
       × (node_at search number ≡ node)
   number_found node has =
       let there = number_of (nodes_found search) node has in
-      let long = length-map search.order.keys (node_at search) in
+      let long = length-map search.order.items (node_at search) in
       let below = there.1 in
-      let within : there.0 < length search.order.keys = omega arith in (
-        slice_index search.order.keys there.0,
-        Contains-get_or search.order.keys there.0 0 within,
-        sym (get_or-map (node_at search) search.order.keys there.0 0 0 within) ∙ there.2,
+      let within : there.0 < length search.order.items = omega arith in (
+        slice_index search.order.items there.0,
+        Contains-get_or search.order.items there.0 0 within,
+        sym (get_or-map (node_at search) search.order.items there.0 0 0 within) ∙ there.2,
       )
 
-  node_found : (number : ℕ) → Contains search.order.keys number → Contains (nodes_found search) (node_at search number)
+  node_found : (number : ℕ) → Contains search.order.items number → Contains (nodes_found search) (node_at search number)
   node_found number has =
-      let there = number_of search.order.keys number has in
-      let long = length-map search.order.keys (node_at search) in
+      let there = number_of search.order.items number has in
+      let long = length-map search.order.items (node_at search) in
       let below = there.1 in
       has_number (nodes_found search) (node_at search number) there.0 (omega arith)
-      (get_or-map (node_at search) search.order.keys there.0 0 0 below ∙ ap (node_at search) there.2)
+      (get_or-map (node_at search) search.order.items there.0 0 0 below ∙ ap (node_at search) there.2)
 
 module _ (Starts : ℕ → Type 0) (Steps : ℕ → ℕ → Type 0) (search : Search) (is : IsSearch Starts Steps search) where
   -- what was not found is not reached
@@ -121,21 +121,21 @@ module _ (Starts : ℕ → Type 0) (Steps : ℕ → ℕ → Type 0) (search : Se
       not_found search node there.0 none number.0 there.2 number.1) (suc count) count (omega arith) reaches
 
   distance_of : (node number : ℕ) → found_in search node ≡ Some number
-      → Contains search.order.keys number × ((count : ℕ) × IsDistance Starts Steps (node_at search number) count)
+      → Contains search.order.items number × ((count : ℕ) × IsDistance Starts Steps (node_at search number) count)
   distance_of node number some =
       let at = found_stands search node number some in
-      let has = (in_order search.found.items search.order.keys search.whole.ordered number).1 at.2 in
+      let has = (in_order search.found.items search.order.items search.whole.ordered number).1 at.2 in
       (has, (is.order.reached (node_at search number)).0 (node_found search number has))
 
   -- the node before one that is no start has a number in the order too
   before_found : (before : ℕ) → before < length search.nodes.items → (count : ℕ) → IsDistance Starts Steps (node_at search before) count
-      → Contains search.order.keys before
+      → Contains search.order.items before
   before_found before below count distance =
       let there = number_found search (node_at search before) ((is.order.reached (node_at search before)).1 (count, distance)) in
       let same = one_place search.nodes.items search.whole.ascend there.0 before (is_number search there.0 there.1).0 below there.2 in
-      subst (Contains search.order.keys) same there.1
+      subst (Contains search.order.items) same there.1
 
-  number_before : (number : ℕ) → Contains search.order.keys number
+  number_before : (number : ℕ) → Contains search.order.items number
       → (number < length search.nodes.items) × (slice_index (items_in search.before) number < length search.nodes.items)
   number_before number has =
       let paired = search.whole.paired in
@@ -144,7 +144,7 @@ module _ (Starts : ℕ → Type 0) (Steps : ℕ → ℕ → Type 0) (search : Se
       (below, omega arith)
 
   -- the way back is as long as the distance, and goes by the least node before each
-  goes_back : (count most number : ℕ) → count ≤ most → Contains search.order.keys number
+  goes_back : (count most number : ℕ) → count ≤ most → Contains search.order.items number
       → IsDistance Starts Steps (node_at search number) count
       → (length (way_back (items_in search.before) most number) ≡ suc count)
       × IsWayBack Starts Steps count (node_at search number) (map (node_at search) (way_back (items_in search.before) most number))

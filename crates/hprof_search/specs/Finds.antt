@@ -13,10 +13,10 @@ pub record Finds : Type 0 where
 
 -- the next level: the stretch of the order from its place on
 abbrev pub next_in : Trail → List ℕ
-next_in trail = drop trail.next trail.order.keys
+next_in trail = drop trail.next trail.order.items
 
 abbrev pub finds_of : Trail → Finds
-finds_of trail = record { found = trail.found.items; before = items_in trail.before; order = trail.order.keys; next = next_in trail }
+finds_of trail = record { found = trail.found.items; before = items_in trail.before; order = trail.order.items; next = next_in trail }
 
 abbrev pub is_found : Finds → ℕ → Bool
 is_found finds number = get_or finds.found number false

@@ -1,6 +1,5 @@
 pub mod Walks
 pub mod Kept
-pub mod NodeHash
 pub mod Finds
 pub mod Search
 pub mod WayBack

@@ -1,11 +1,8 @@
 //! The result of a search.
 
-use crate::node_hasher::NodeHasher;
 use crate::walks::WalksOf;
 use hprof_numbers::{Numbers, find};
-use indexmap::IndexSet;
 use std::alloc::{AllocError, Global};
-use std::hash::BuildHasherDefault;
 
 /// The result of a search by levels: the distance of each node from the starts, and a shortest path to it.
 #[derive(Drop)]
@@ -17,10 +14,10 @@ pub struct Search {
     /// For each number that was found, the number it was found from: its own for a start.
     pub(crate) before: Numbers,
     /// The numbers that were found, in the order in which they were found, which is that of their distances.
-    pub(crate) order: IndexSet<u32, BuildHasherDefault<NodeHasher>>,
+    pub(crate) order: Vec<u32>,
     /// The number of levels.
     pub(crate) levels: usize,
-    ghost whole: { IsKept nodes.items found.items (items_in before) order.keys },
+    ghost whole: { IsKept nodes.items found.items (items_in before) order.items },
 }
 
 ghost use Rattle.hprof_search.specs.Kept.{IsKept};

@@ -9,7 +9,6 @@ mod following;
 mod kept_search;
 pub mod laws;
 mod leading;
-mod node_hasher;
 mod searching;
 mod steps;
 mod trail;

@@ -18,7 +18,7 @@ use std::alloc::{AllocError, Global};
 ///
 /// `nodes` is sorted. Edges to identifiers that are no nodes are ignored, and each edge is looked at once.
 ///
-/// The answer is `AllocError` if memory runs out, or if there are more than 9 * 2^28 nodes, the most that an `IndexSet` has room for.
+/// The answer is `AllocError` if memory runs out, or if there are more than 2^32 nodes.
 pub fn search<G: Graph + Drop>(
     alloc: Global,
     graph: G,

@@ -1,14 +1,12 @@
 //! The nodes that were found, by number.
 
-ghost use Rattle.std.specs.Prelude.{◌≡◌, ◌≤◌, length};
+ghost use Rattle.std.specs.Prelude.{◌≡◌, ◌≤◌, length, nat_eq};
+ghost use Rattle.std.specs.List.{IsDistinct, IsDistinct-prop};
 ghost use Rattle.hprof_numbers.specs.Numbers.{items_in, bound_of};
 ghost use Rattle.hprof_search.specs.Kept.{LeadsBack, OrdersFound};
 
-use crate::node_hasher::NodeHasher;
 use hprof_numbers::Numbers;
-use indexmap::IndexSet;
 use std::alloc::{AllocError, Global};
-use std::hash::BuildHasherDefault;
 
 /// The nodes that were found so far.
 #[derive(Drop)]
@@ -17,34 +15,34 @@ pub(crate) struct Trail {
     pub(crate) found: Vec<bool>,
     /// For each number that was found, the number it was found from: its own for a start.
     pub(crate) before: Numbers,
-    /// The numbers that were found, in that order. Four bytes are enough, since an `IndexSet` holds fewer than 2^32.
-    pub(crate) order: IndexSet<u32, BuildHasherDefault<NodeHasher>>,
+    /// The numbers that were found, in that order.
+    pub(crate) order: Vec<u32>,
     /// The place in the order where the next level begins.
     next: usize,
     ghost paired: { length (items_in before) ≡ length found.items },
     ghost back: { LeadsBack (items_in before) },
     ghost fits: { length found.items ≤ bound_of before },
-    ghost ordered: { OrdersFound found.items order.keys },
-    ghost begins: { next ≤ length order.keys },
+    ghost ordered: { OrdersFound found.items order.items },
+    ghost once: { IsDistinct nat_eq order.items } by { IsDistinct-prop nat_eq order.items },
+    ghost begins: { next ≤ length order.items },
 }
 
 impl Trail {
-    ghost use Rattle.std.specs.Prelude.{◌≡◌, ◌<◌, ◌↔◌, ℕ, [], false, IfOk, OnOk, Contains, length, nat_eq, replicate};
+    ghost use Rattle.std.specs.Prelude.{◌≡◌, ◌<◌, ◌↔◌, ℕ, [], false, IfOk, OnOk, Contains, length, replicate};
     ghost use Rattle.std.specs.List.Sorted.{IsNonDecreasing};
-    ghost use Rattle.std.specs.List.{IsDistinct};
     ghost use Rattle.hprof_search.specs.Finds.{Arrives, Follows, finds_of, next_in};
 
     /// Returns a trail of `count` nodes, none of which is found. It has room for all of them in the order.
     ///
-    /// The answer is `AllocError` if memory runs out, or if there are more than 9 * 2^28 nodes.
+    /// If memory runs out, the answer is `AllocError`.
     pub(crate) fn new(alloc: Global, count: usize) -> Result<Trail, AllocError>
         ensures found { IfOk result (λ trail. trail.found.items ≡ replicate count false) }
-        ensures order { IfOk result (λ trail. trail.order.keys ≡ []) }
+        ensures order { IfOk result (λ trail. trail.order.items ≡ []) }
     {
         Ok(Trail {
             found: vec![in alloc; false; count]?,
             before: Numbers::zeros(alloc, count, count)?,
-            order: IndexSet::with_capacity_and_hasher(alloc, count, BuildHasherDefault::new())?,
+            order: Vec::with_capacity(alloc, count)?,
             next: 0,
         })
     }
@@ -62,7 +60,7 @@ impl Trail {
             let Ok(key) = u32::try_from(number) else {
                 return Err(AllocError);
             };
-            self.order.insert(key)?;
+            self.order.push(key)?;
             self.found[number] = true;
             self.before.set(number, from);
         }
@@ -79,10 +77,9 @@ impl Trail {
         ensures found { self.new.found ≡ self.old.found }
         ensures before { self.new.before ≡ self.old.before }
         ensures order { self.new.order ≡ self.old.order }
-        ensures once { IsDistinct nat_eq self.new.order.keys }
     {
         level.clear();
-        level.extend_from_slice(&self.order.as_slice()[self.next..])?;
+        level.extend_from_slice(&self.order[self.next..])?;
         level.sort_unstable();
         self.next = self.order.len();
         Ok(())

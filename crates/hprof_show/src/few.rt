@@ -38,10 +38,7 @@ fn few_shown<O: Objects>(
         Ok(wanted) => wanted,
         Err(fault) => return Err(PassStop::Sink(fault)),
     };
-    let few = match few_of(alloc, heap, objects, wanted) {
-        Ok(few) => few,
-        Err(stop) => return Err(stop),
-    };
+    let few = few_of(alloc, heap, objects, wanted)?;
     match shown_ids(alloc, &few.heap, id) {
         Ok(shown) => few_more(alloc, heap, objects, few, shown),
         Err(fault) => Err(PassStop::Sink(fault)),
@@ -64,9 +61,6 @@ pub(crate) fn show_heap<O: Objects>(
         (O.agree objects.now (size_of heap.now) (facts_of heap.now)) (O.tells objects.now (size_of heap.now) (facts_of heap.now))
         (λ all. IsShownHeap (size_of heap.now) id all) result }
 {
-    let shown = match few_shown(alloc, heap, objects, id) {
-        Ok(shown) => shown,
-        Err(stop) => return Err(stop),
-    };
+    let shown = few_shown(alloc, heap, objects, id)?;
     words_of_few(alloc, heap, objects, shown)
 }

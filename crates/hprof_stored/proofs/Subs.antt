@@ -3,6 +3,7 @@ use Rattle.std.proofs.Common.{◌≡◌, ◌+◌, ℕ, List, [], ◌∷◌, ◌+
 use Rattle.std.proofs.Common.{append_assoc, arith}
 use Rattle.std.specs.Io.KnownBytes.{Appends}
 use Rattle.std.proofs.lemmas.List.{length-append, map-append}
+use Rattle.std.proofs.lemmas.Result.{err_from_is_err_and}
 use Rattle.std.proofs.Math.Seq.{take-append_seam}
 use Rattle.hprof_devices.specs.declared.health.Health.{Health}
 use Rattle.hprof_devices.specs.declared.health.Health.TheVariants.{Well}
@@ -26,7 +27,7 @@ use Rattle.hprof_segments.proofs.Viewed.{run_viewed}
 use Rattle.hprof_objects.specs.declared.object_stop.ObjectStop.{ObjectStop}
 use Rattle.hprof_objects.specs.declared.object_stop.ObjectStop.TheVariants as stops
 use Rattle.hprof_objects.specs.MergedObjects.{MergesLists, UnlessRefused}
-use Rattle.std.specs.Prelude.{IfErr}
+use Rattle.std.specs.Prelude.{IfErr, IsErrAnd}
 use Rattle.std.specs.List.{AllByRecursion}
 use Rattle.hprof_objects.specs.PartsRead.{PartRead}
 use Rattle.hprof_objects.specs.StoredObjects.{objects_of}
@@ -61,6 +62,12 @@ pub none_more : (start now : Option (List ℕ)) (held : List ℕ) (subs : List (
 none_more start now held subs sub has more =
     subst (λ (l : List (List ℕ)). WritesSome start now (segment_records l)) (sym (append_assoc subs (sub ∷ []) more))
     (front_of start now held subs (sub ∷ more) has)
+
+-- what is passed on unchanged by `?` is what came
+pub at_error : {A E : Type 0} (P : Result A E → Type 0) (r : Result A E) (e : E) → P (Err e) → IsErrAnd r (λ x. x ≡ e) → P r
+at_error P r e holds is =
+    let p = err_from_is_err_and r is in
+    subst P (sym (p.1 ∙ ap (λ x. Err x) p.2)) holds
 
 -- ---- a merge into a sink
 

@@ -82,9 +82,7 @@ fn take_subs<W: Target>(
     let mut rows = heap.sub_rows();
     let ids = rows.ids();
     while let Some(row) = rows.next() {
-        if let Err(stop) = take_sub(row, ids, &mut buffer, writer, target) {
-            return Err(stop);
-        }
+        take_sub(row, ids, &mut buffer, writer, target)?;
     }
     Ok(())
 }
@@ -180,12 +178,8 @@ pub fn write_stored_dump<S: Scratch + Drop, R: Source + Drop, P: Parts<Reader = 
     if let Err(fault) = write_front(Version::V102, heap, target) {
         return Err(ObjectStop::Sink(SegmentFault::Write(fault)));
     }
-    if let Err(stop) = take_subs(alloc, heap, writer, target) {
-        return Err(stop);
-    }
-    if let Err(stop) = take_objects(alloc, objects, parts, limits, writer, target) {
-        return Err(stop);
-    }
+    take_subs(alloc, heap, writer, target)?;
+    take_objects(alloc, objects, parts, limits, writer, target)?;
     match write_end(writer, target) {
         Ok(()) => Ok(()),
         Err(fault) => Err(ObjectStop::Sink(SegmentFault::Write(fault))),

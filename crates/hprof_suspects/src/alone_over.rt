@@ -75,10 +75,7 @@ pub(crate) fn alone_over<O: Objects>(
         Ok(nodes) => nodes,
         Err(fault) => return Err(PassStop::Sink(fault)),
     };
-    let small = match small_heap(alloc, heap, objects, &nodes) {
-        Ok(small) => small,
-        Err(stop) => return Err(stop),
-    };
+    let small = small_heap(alloc, heap, objects, &nodes)?;
     match alone_of(alloc, &small, retained, labels) {
         Ok(alone) => Ok(alone),
         Err(fault) => Err(PassStop::Sink(fault)),

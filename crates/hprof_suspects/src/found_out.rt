@@ -20,6 +20,7 @@ use hprof_keeps::{WeakSum, sum_in};
 use hprof_naming::ClassNames;
 use hprof_passes::{Objects, PassStop};
 use hprof_retained::{KeptReferences, Retained, weakly_held_over};
+use hprof_weak::weak_fields_over;
 use std::alloc::{AllocError, Global};
 
 /// All that the report is written from but the words for nodes.
@@ -36,24 +37,27 @@ pub(crate) struct FoundOut {
 }
 
 /// Adds up the nodes that objects make up with a heap and that only weak references reach.
+///
+/// # Errors
+///
+/// Those of `weak_fields_over` and `weakly_held_over`.
 fn weak_sum_over<O: Objects>(
     alloc: Global,
     heap: &Heap,
     objects: &O,
-    references: &mut KeptReferences,
     retained: &Retained,
 ) -> Result<WeakSum, PassStop<AllocError, O::Fault>>
-    requires references { AreKeptReferences (O.make_up objects.now (size_of heap.now) (facts_of heap.now))
-        (O.agree objects.now (size_of heap.now) (facts_of heap.now)) (size_of heap.now) references.old }
     requires tree { (all : List FactValue) → O.make_up objects.now (size_of heap.now) (facts_of heap.now) all
         → IsTreeOf (size_of heap.now) all retained.now }
     ensures sum { Finds (O.make_up objects.now (size_of heap.now) (facts_of heap.now))
         (O.agree objects.now (size_of heap.now) (facts_of heap.now)) (O.tells objects.now (size_of heap.now) (facts_of heap.now))
         (λ all sum. IsSumOver (size_of heap.now) all (IsWeaklyHeld (size_of heap.now) all) (sum_of sum)) result }
-    ensures references { AreKeptReferences (O.make_up objects.now (size_of heap.now) (facts_of heap.now))
-        (O.agree objects.now (size_of heap.now) (facts_of heap.now)) (size_of heap.now) references.new }
 {
-    match weakly_held_over(alloc, heap, objects, references, retained) {
+    let weak = match weak_fields_over(alloc, heap, objects) {
+        Ok(weak) => weak,
+        Err(stop) => return Err(stop),
+    };
+    match weakly_held_over(alloc, heap, objects, &weak, retained) {
         Ok(weakly) => Ok(sum_in(&weakly)),
         Err(stop) => Err(stop),
     }
@@ -83,14 +87,8 @@ fn told_over<O: Objects>(
     let Ok(names) = ClassNames::of(alloc, heap) else {
         return Err(PassStop::Sink(AllocError));
     };
-    let labels = match labels_over(alloc, heap, objects, &names, retained) {
-        Ok(labels) => labels,
-        Err(stop) => return Err(stop),
-    };
-    let alone = match alone_over(alloc, heap, objects, retained, &labels) {
-        Ok(alone) => alone,
-        Err(stop) => return Err(stop),
-    };
+    let labels = labels_over(alloc, heap, objects, &names, retained)?;
+    let alone = alone_over(alloc, heap, objects, retained, &labels)?;
     match all_told(alloc, retained, &labels, &alone) {
         Ok(told) => Ok(LabelledTold { labels, told }),
         Err(fault) => Err(PassStop::Sink(fault)),
@@ -102,7 +100,7 @@ fn told_over<O: Objects>(
 ///
 /// # Errors
 ///
-/// Those of `take_retained`, `weakly_held_over`, `labels_over` and `small_heap`.
+/// Those of `take_retained`, `weak_fields_over`, `weakly_held_over`, `labels_over` and `small_heap`.
 pub(crate) fn found_out_over<O: Objects>(
     alloc: Global,
     heap: &Heap,
@@ -118,14 +116,8 @@ pub(crate) fn found_out_over<O: Objects>(
     ensures references { AreKeptReferences (O.make_up objects.now (size_of heap.now) (facts_of heap.now))
         (O.agree objects.now (size_of heap.now) (facts_of heap.now)) (size_of heap.now) references.new }
 {
-    let retained = match references.take_retained(alloc, heap, objects) {
-        Ok(retained) => retained,
-        Err(stop) => return Err(stop),
-    };
-    let weakly = match weak_sum_over(alloc, heap, objects, references, &retained) {
-        Ok(weakly) => weakly,
-        Err(stop) => return Err(stop),
-    };
+    let retained = references.take_retained(alloc, heap, objects)?;
+    let weakly = weak_sum_over(alloc, heap, objects, &retained)?;
     match told_over(alloc, heap, objects, &retained) {
         Ok(LabelledTold { labels, told }) => Ok(FoundOut {
             retained,

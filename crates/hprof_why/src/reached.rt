@@ -94,10 +94,7 @@ fn reached_without_strong_over<O: Objects>(
     ensures references { AreKeptReferences (O.make_up objects.now (size_of heap.now) (facts_of heap.now))
         (O.agree objects.now (size_of heap.now) (facts_of heap.now)) (size_of heap.now) references.new }
 {
-    let all = match references.take_all(alloc, heap, objects) {
-        Ok(all) => all,
-        Err(stop) => return Err(stop),
-    };
+    let all = references.take_all(alloc, heap, objects)?;
     let path = path_to(alloc, &all, id);
     references.keep_all(all);
     match path {
@@ -128,10 +125,7 @@ pub(crate) fn reached_over<O: Objects>(
     ensures references { AreKeptReferences (O.make_up objects.now (size_of heap.now) (facts_of heap.now))
         (O.agree objects.now (size_of heap.now) (facts_of heap.now)) (size_of heap.now) references.new }
 {
-    let strong = match references.take_strong(alloc, heap, objects) {
-        Ok(strong) => strong,
-        Err(stop) => return Err(stop),
-    };
+    let strong = references.take_strong(alloc, heap, objects)?;
     let path = path_to(alloc, &strong, id);
     references.keep_strong(strong);
     match path {

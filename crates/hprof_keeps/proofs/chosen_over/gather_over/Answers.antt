@@ -17,7 +17,7 @@ returns-then-has_class_dumps g c =
     found_so (g.O.Objects.make_up objects ids facts) (g.O.Objects.agree objects ids facts) (g.O.Objects.tells objects ids facts)
     (λ all places. ArePlacesOf retained (IsObjectOrClass all choice) places.items)
     (λ all places. ArePlacesOf retained (IsChosen all choice) places.items) c.with_classes.result
-    (c.with_classes.ensures choice c.in-Ok.ensures.1)
+    (c.with_classes.ensures choice c.in_ok-places.ensures.1)
     (λ all places make are. same_places retained (IsObjectOrClass all choice) (IsChosen all choice) places.items
     (λ node. chosen_with_classes all node choice (sym c.has_class_dumps.ensures ∙ c.if-has_class_dumps.true)) are)
 
@@ -25,8 +25,8 @@ pub returns-else-has_class_dumps : goal.returns-else-has_class_dumps
 returns-else-has_class_dumps g c =
     let retained = c.args.retained.now in
     let choice = c.args.choice in (
-      c.in-Ok.ensures.0,
-      λ all make. same_places retained (IsGiven (IsChosenObject choice) all) (IsChosen all choice) c.in-Ok.places.items
+      c.in_ok-places.ensures.0,
+      λ all make. same_places retained (IsGiven (IsChosenObject choice) all) (IsChosen all choice) c.in_ok-places.places.items
           (λ node. chosen_objects all node choice (sym c.has_class_dumps.ensures ∙ c.if-has_class_dumps.false))
-          (c.in-Ok.ensures.1 all make),
+          (c.in_ok-places.ensures.1 all make),
     )

@@ -7,13 +7,13 @@ use Rattle.hprof_keeps.proofs.chosen_over.with_classes.Goals as goal
 
 pub returns-in-Ok-push_classes : goal.returns-in-Ok-push_classes
 returns-in-Ok-push_classes g c = λ choice are. (
-  c.in-Ok-small_heap.ensures.0,
+  c.in_ok-small.ensures.0,
   λ all make.
       let ids = size_of c.args.heap.now in
       let facts = facts_of c.args.heap.now in
       let whole = g.met.O.Objects.whole c.args.objects.now ids facts all make in
-      let small = c.in-Ok-small_heap.small in
-      let is = (c.in-Ok-small_heap.ensures.1 all make).facts in
+      let small = c.in_ok-small.small in
+      let is = (c.in_ok-small.ensures.1 all make).facts in
       let wanted = c.deref.result.now in
       let has = subst (λ (l : List ℕ). (dump : ClassValue) → HasDump facts dump → Contains l dump.id) (sym c.deref.ensures.value)
       c.in-Ok.ensures.has in

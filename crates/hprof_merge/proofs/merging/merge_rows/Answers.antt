@@ -4,6 +4,7 @@ use Rattle.hprof_merge.specs.Contest.{heads_of}
 use Rattle.hprof_merge.specs.Showing.{only}
 use Rattle.hprof_merge.proofs.Lists.{rows_at-map}
 use Rattle.hprof_merge.proofs.Showing.{goes_count}
+use Rattle.hprof_merge.proofs.PassedOn.{if_error}
 use Rattle.hprof_merge.proofs.Rounds.{so_far_begins, no_memory, so_far_ends, shown_key, shown_least, over_stops, over_refused}
 use Rattle.hprof_merge.proofs.Rounds.{over_fault, over_goes, round_less, round_keys}
 use Rattle.hprof_merge.proofs.merging.merge_rows.Goals as goal
@@ -30,20 +31,22 @@ pass_equals-requires-clause-least g c =
     (heads_of now.contest) c.in-Some.key c.in-Some.place c.args.sink.now now.sink now.invariant.so_far now.invariant.matches
     c.in-Some.ensures
 
-pub returns-in-Err-clause-stop : goal.returns-in-Err-clause-stop
-returns-in-Err-clause-stop g c =
+pub returns-in_err-pass_equals-clause-stop : goal.returns-in_err-pass_equals-clause-stop
+returns-in_err-pass_equals-clause-stop g c =
     let now = c.loop-key in
-    let over = c.in-Err.ensures.stop in
-    over_stops g.C.RowCursor.shown g.C.RowCursor.goes g.T.RowSink.steps g.C.RowCursor.fails g.T.RowSink.refuses c.args.cursors.now
+    let over = c.in_err-pass_equals.ensures.stop in
+    if_error _ c.from_residual.result c.in_err-pass_equals.field-0.0
+    (over_stops g.C.RowCursor.shown g.C.RowCursor.goes g.T.RowSink.steps g.C.RowCursor.fails g.T.RowSink.refuses c.args.cursors.now
     now.cursors
     (heads_of now.contest) c.in-Some.key c.in-Some.place c.args.sink.now now.sink now.invariant.so_far now.invariant.matches
-    c.in-Some.ensures over.mid over.heads over.passes c.pass_equals.new.cursors c.in-Err.stop over.leaves over.stops
+    c.in-Some.ensures over.mid over.heads over.passes c.pass_equals.new.cursors c.in_err-pass_equals.field-0.0 over.leaves over.stops)
+    c.from_residual.ensures.1
 
-pub returns-in-Err-give-clause-stop : goal.returns-in-Err-give-clause-stop
-returns-in-Err-give-clause-stop g c =
+pub returns-in-Err-clause-stop : goal.returns-in-Err-clause-stop
+returns-in-Err-clause-stop g c =
     let rows : g.row.C.Denot → List ByteRow = λ cursor. only (g.C.RowCursor.shown cursor) in
     let now = c.loop-key in
-    let level = c.in_default-pass_equals.ensures in
+    let level = c.in_ok-pass_equals.ensures in
     let mid = c.pass_equals.new.cursors in
     let lt : c.in-Some.place < length mid = omega (arith, c.in-Some.ensures.0, now.invariant.heads, level.level.shows.count) in
     over_refused g.C.RowCursor.shown g.C.RowCursor.goes g.T.RowSink.steps g.C.RowCursor.fails g.T.RowSink.refuses c.args.cursors.now
@@ -51,27 +54,29 @@ returns-in-Err-give-clause-stop g c =
     (heads_of now.contest) c.in-Some.key c.in-Some.place c.args.sink.now now.sink now.invariant.so_far now.invariant.matches
     c.in-Some.ensures mid (heads_of c.pass_equals.new.contest) level.level level.above
     (rows (get_or mid c.in-Some.place c.index-cursors-place.result))
-    (rows_at-map rows mid c.in-Some.place c.index-cursors-place.result lt) c.in-Err-give.fault c.give.new.sink c.in-Err-give.ensures.given
+    (rows_at-map rows mid c.in-Some.place c.index-cursors-place.result lt) c.in-Err.fault c.give.new.sink c.in-Err.ensures.given
 
-pub returns-in-Err-advance-clause-stop : goal.returns-in-Err-advance-clause-stop
-returns-in-Err-advance-clause-stop g c =
+pub returns-in_err-advance-clause-stop : goal.returns-in_err-advance-clause-stop
+returns-in_err-advance-clause-stop g c =
     let rows : g.row.C.Denot → List ByteRow = λ cursor. only (g.C.RowCursor.shown cursor) in
     let now = c.loop-key in
-    let level = c.in_default-pass_equals.ensures in
+    let level = c.in_ok-pass_equals.ensures in
     let mid = c.pass_equals.new.cursors in
     let lt : c.in-Some.place < length mid = omega (arith, c.in-Some.ensures.0, now.invariant.heads, level.level.shows.count) in
-    over_fault g.C.RowCursor.shown g.C.RowCursor.goes g.T.RowSink.steps g.C.RowCursor.fails g.T.RowSink.refuses c.args.cursors.now
+    if_error _ c.from_residual-in_err-advance.result c.in_err-advance.field-0.0
+    (over_fault g.C.RowCursor.shown g.C.RowCursor.goes g.T.RowSink.steps g.C.RowCursor.fails g.T.RowSink.refuses c.args.cursors.now
     now.cursors
     (heads_of now.contest) c.in-Some.key c.in-Some.place c.args.sink.now now.sink now.invariant.so_far now.invariant.matches
     c.in-Some.ensures mid (heads_of c.pass_equals.new.contest) level.level level.above
     (rows (get_or mid c.in-Some.place c.index-cursors-place.result))
     (rows_at-map rows mid c.in-Some.place c.index-cursors-place.result lt) c.give.new.sink c.in_default-give.ensures.given
-    c.advance.new.cursors c.in-Err-advance.stop c.in-Err-advance.ensures.stop.0 c.in-Err-advance.ensures.stop.1
+    c.advance.new.cursors c.in_err-advance.field-0.0 c.in_err-advance.ensures.stop.0 c.in_err-advance.ensures.stop.1)
+    c.from_residual-in_err-advance.ensures.1
 
 pub loop-key-smaller : goal.loop-key-smaller
 loop-key-smaller g c =
     let now = c.loop-key in
-    let level = c.in_default-pass_equals.ensures in
+    let level = c.in_ok-pass_equals.ensures in
     let mid = c.pass_equals.new.cursors in
     let lt : c.in-Some.place < length mid = omega (arith, c.in-Some.ensures.0, now.invariant.heads, level.level.shows.count) in
     round_less g.C.RowCursor.shown g.C.RowCursor.goes g.met.C.AscendingCursor.rises c.in-Some.key c.in-Some.place now.cursors mid
@@ -80,15 +85,15 @@ loop-key-smaller g c =
     now.cursors
     (heads_of now.contest) c.in-Some.key c.in-Some.place c.args.sink.now now.sink now.invariant.so_far now.invariant.matches
     c.in-Some.ensures)
-    lt level.fits c.in_default-advance.ensures.goes level.fewer
+    lt level.fits c.in_ok-advance.ensures.goes level.fewer
 
 pub loop-key-preserved : goal.loop-key-preserved
 loop-key-preserved g c =
     let rows : g.row.C.Denot → List ByteRow = λ cursor. only (g.C.RowCursor.shown cursor) in
     let now = c.loop-key in
-    let level = c.in_default-pass_equals.ensures in
+    let level = c.in_ok-pass_equals.ensures in
     let mid = c.pass_equals.new.cursors in
-    let ok = c.in_default-advance.ensures in
+    let ok = c.in_ok-advance.ensures in
     let lt : c.in-Some.place < length mid = omega (arith, c.in-Some.ensures.0, now.invariant.heads, level.level.shows.count) in
     let heads_lt : c.in-Some.place < length (heads_of c.pass_equals.new.contest) =
     omega (arith, c.in-Some.ensures.0, now.invariant.heads, level.heads) in

@@ -4,6 +4,7 @@ use Rattle.hprof_merge.specs.Contest.{heads_of}
 use Rattle.hprof_merge.specs.Showing.{only, all_shown}
 use Rattle.hprof_merge.proofs.Entering.{same_lists, not_true}
 use Rattle.hprof_merge.proofs.Showing.{shown_ascend, goes_count}
+use Rattle.hprof_merge.proofs.PassedOn.{if_error}
 use Rattle.hprof_merge.proofs.PassingOver.{passes_none, no_lower, passes_contents, passes_fault, passes_less, passes_more, others_above}
 use Rattle.hprof_merge.proofs.merging.pass_equals.Goals as goal
 
@@ -35,12 +36,14 @@ returns-then-not-agree-clause-stop g c =
     ((same_lists rows now.cursors c.args.held c.in-Some.place c.index-cursors-held.result c.index-cursors-place.result held_lt lt
     c.index-cursors-held.is c.index-cursors-place.is).0 same))) g.C.RowCursor.fails
 
-pub returns-in-Err-clause-stop : goal.returns-in-Err-clause-stop
-returns-in-Err-clause-stop g c =
-    passes_fault g.C.RowCursor.shown g.C.RowCursor.goes c.args.key c.args.held c.in-Some.place c.args.cursors.now c.loop-place.cursors
+pub returns-in_err-advance-clause-stop : goal.returns-in_err-advance-clause-stop
+returns-in_err-advance-clause-stop g c =
+    if_error _ c.from_residual.result c.in_err-advance.field-0.0
+    (passes_fault g.C.RowCursor.shown g.C.RowCursor.goes c.args.key c.args.held c.in-Some.place c.args.cursors.now c.loop-place.cursors
     (heads_of c.loop-place.contest) c.loop-place.invariant.passes c.in-Some.ensures.1 g.C.RowCursor.fails c.advance.new.cursors
-    c.in-Err.stop
-    c.in-Err.ensures.stop.0 c.in-Err.ensures.stop.1
+    c.in_err-advance.field-0.0
+    c.in_err-advance.ensures.stop.0 c.in_err-advance.ensures.stop.1)
+    c.from_residual.ensures.1
 
 pub loop-place-smaller : goal.loop-place-smaller
 loop-place-smaller g c =
@@ -50,7 +53,7 @@ loop-place-smaller g c =
     passes_less g.C.RowCursor.shown g.C.RowCursor.goes g.met.C.AscendingCursor.rises c.args.key c.args.held c.in-Some.place
     c.args.cursors.now
     now.cursors c.advance.new.cursors (heads_of now.contest) now.invariant.passes c.in-Some.ensures.1 lt fits
-    c.in_default-advance.ensures.goes
+    c.in_ok-advance.ensures.goes
 
 pub loop-place-preserved : goal.loop-place-preserved
 loop-place-preserved g c =
@@ -59,7 +62,7 @@ loop-place-preserved g c =
     let held_lt : c.args.held < length now.cursors = omega (arith, c.requires.held, now.invariant.count) in
     let lt : c.in-Some.place < length now.cursors = omega (arith, now.invariant.count, now.invariant.heads, c.in-Some.ensures.0) in
     let fits : c.args.key < 2 ^ 64 = omega (arith, c.ranges.key.fits) in
-    let ok = c.in_default-advance.ensures in
+    let ok = c.in_ok-advance.ensures in
     let less = passes_less g.C.RowCursor.shown g.C.RowCursor.goes g.met.C.AscendingCursor.rises c.args.key c.args.held c.in-Some.place
     c.args.cursors.now
     now.cursors c.advance.new.cursors (heads_of now.contest) now.invariant.passes c.in-Some.ensures.1 lt fits ok.goes in

@@ -8,6 +8,6 @@ loop-next-preserved g c =
     let row : ByteRow = (c.in-Some.next, c.in-Some.field-0-1.now) in
     record {
       shows = up_more g.C.RowCursor.shown g.C.RowCursor.goes c.args.key c.args.cursor.now now.cursor c.advance.new.self row
-          c.in-Some.ensures.0 now.invariant.shows c.in-Some.ensures.1 c.if-next-key.false c.in_default-advance.ensures.goes;
-      well = c.in_default-advance.ensures.well;
+          c.in-Some.ensures.0 now.invariant.shows c.in-Some.ensures.1 c.if-next-key.false c.in_ok-advance.ensures.goes;
+      well = c.in_ok-advance.ensures.well;
     }

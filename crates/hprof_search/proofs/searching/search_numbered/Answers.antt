@@ -39,7 +39,6 @@ loop-steps-init g c =
       none = c.in_ok-take_next.ensures.none;
       order = subst (IsByDistance Leads nodes starts) (sym order)
           (first_in_order Leads nodes starts old middle empty many follows c.in_ok-trail.ensures.order no_next);
-      once = c.in_ok-take_next.ensures.once;
       few = omega arith;
       stays = λ node to. (λ leads. leads, λ leads. leads);
       stands = c.requires.stands;
@@ -90,7 +89,6 @@ loop-steps-preserved g c =
       order = subst (IsByDistance Leads nodes starts) (sym order) (more_in_order Leads nodes starts
           c.args.numbered.ascend old middle last c.loop-steps.levels was.searched follows c.loop-steps.trail.ordered was.none
           was.order);
-      once = taken.once;
       few = omega arith;
       stays = λ node to. (
         λ leads. (was.stays node to).0 ((stays node to).0 leads),
@@ -114,4 +112,4 @@ returns g c =
     (arith, c.loop-steps.level.ok.0)) in
     let last = subst (λ (ns : List ℕ). IsSearched Leads nodes starts finds ns c.loop-steps.levels) empty was in
     let searched = searched_still Leads nodes starts finds kept [] c.loop-steps.levels refl refl last in
-    searches_over Leads starts nodes _ c.into_nodes.ensures searched c.loop-steps.invariant.once c.loop-steps.invariant.order
+    searches_over Leads starts nodes _ c.into_nodes.ensures searched c.loop-steps.trail.once c.loop-steps.invariant.order

@@ -1,5 +1,4 @@
-use Rattle.std.proofs.Common.{◌≡◌, ◌+◌, ◌-◌, ◌≤◌, ◌↔◌, ℕ, [], not, count_by, length, nat_eq}
-use Rattle.std.specs.List.{IsDistinct}
+use Rattle.std.proofs.Common.{◌≡◌, ◌+◌, ◌-◌, ◌≤◌, ◌↔◌, ℕ, [], not, count_by, length}
 use Rattle.std.specs.List.Sorted.{IsNonDecreasing}
 use Rattle.hprof_search.specs.Finds.{finds_of, next_in}
 use Rattle.hprof_search.proofs.Levels.{IsSearched}
@@ -12,8 +11,7 @@ invariant-loop-steps g l = record {
       l.level.items l.levels;
   ascend : IsNonDecreasing l.level.items;
   none : next_in l.trail ≡ [];
-  order : IsByDistance (g.S.Steps.leads l.initial.steps l.numbered.nodes.items) l.numbered.nodes.items l.starts l.trail.order.keys;
-  once : IsDistinct nat_eq l.trail.order.keys;
+  order : IsByDistance (g.S.Steps.leads l.initial.steps l.numbered.nodes.items) l.numbered.nodes.items l.starts l.trail.order.items;
   few : l.levels + (count_by not l.trail.found.items + length l.level.items) ≤ length l.numbered.nodes.items;
   stays : (node to : ℕ) → g.S.Steps.leads l.steps l.numbered.nodes.items node to
       ↔ g.S.Steps.leads l.initial.steps l.numbered.nodes.items node to;

@@ -15,10 +15,10 @@ returns-in-Ok-shown_ids g c =
     let millis = (heap_of c.args.heap.now).millis in
     let objects = c.args.objects.now in
     let id = c.args.id in
-    let few = c.in-Ok-few_of.few in
+    let few = c.in_ok-few.few in
     let some = few.wanted.items in
     let shown = c.in-Ok-shown_ids.shown.items in
-    let was = c.in-Ok-few_of.ensures in
+    let was = c.in_ok-few.ensures in
     found_so (g.O.Objects.make_up objects ids facts) (g.O.Objects.agree objects ids facts) (g.O.Objects.tells objects ids facts)
     (λ all more. IsFew millis ids all more × (more.wanted.items ≡ shown))
     (λ all more. IsFew millis ids all more × HasShownIds ids all id more.wanted.items) c.few_more.result c.few_more.ensures

@@ -12,7 +12,7 @@ returns g c =
     let facts = facts_of c.args.heap.now in
     let millis = (heap_of c.args.heap.now).millis in
     let objects = c.args.objects.now in
-    let some = c.in-Ok.shown.wanted.items in
+    let some = c.in_ok-shown.shown.wanted.items in
     found_so (g.O.Objects.make_up objects ids facts) (g.O.Objects.agree objects ids facts) (g.O.Objects.tells objects ids facts)
     (IsWordsHeap millis ids some) (IsShownHeap ids c.args.id) c.words_of_few.result c.words_of_few.ensures
-    (λ all small make is. shown_heap millis ids all small c.args.id some (c.in-Ok.ensures.1 all make).1 is)
+    (λ all small make is. shown_heap millis ids all small c.args.id some (c.in_ok-shown.ensures.1 all make).1 is)

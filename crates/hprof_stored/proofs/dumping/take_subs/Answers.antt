@@ -1,4 +1,4 @@
-use Rattle.std.proofs.Common.{◌≡◌, ℕ, List, [], ◌∷◌, ◌++◌, map, sym, subst, ap, ◌∙◌, append_assoc}
+use Rattle.std.proofs.Common.{◌≡◌, ℕ, List, [], ◌∷◌, ◌++◌, Result, map, sym, subst, ap, ◌∙◌, append_assoc}
 use Rattle.hprof_values.specs.declared.ids.IdSize.{IdSize}
 use Rattle.hprof_items.specs.FactValue.{FactValue}
 use Rattle.hprof_items.specs.SubRecord.{dump_bytes}
@@ -10,8 +10,10 @@ use Rattle.hprof_segments.specs.ByteSegments.{segment_records}
 use Rattle.hprof_segments.specs.Taking.{HasTaken}
 use Rattle.hprof_segments.specs.Writer.{held_bytes}
 use Rattle.hprof_segments.proofs.Takes.{taken_none}
-use Rattle.hprof_stored.specs.Dumping.{WritesSome}
-use Rattle.hprof_stored.proofs.Subs.{front_of_all, one_behind}
+use Rattle.hprof_segments.specs.declared.segment_fault.SegmentFault.{SegmentFault}
+use Rattle.hprof_objects.specs.declared.object_stop.ObjectStop.{ObjectStop}
+use Rattle.hprof_stored.specs.Dumping.{TakesSubs, WritesSome, subs_of}
+use Rattle.hprof_stored.proofs.Subs.{at_error, front_of_all, one_behind}
 use Rattle.hprof_stored.proofs.dumping.take_subs.Goals as goal
 
 pub loop-row-init : goal.loop-row-init
@@ -26,8 +28,8 @@ loop-row-init g c =
       sound = c.new-buffer.ensures;
     }
 
-pub returns-in-Err-clause-taken : goal.returns-in-Err-clause-taken
-returns-in-Err-clause-taken g c =
+pub returns-in_err-take_sub-clause-taken : goal.returns-in_err-take_sub-clause-taken
+returns-in_err-take_sub-clause-taken g c =
     let heap = heap_of c.args.heap.now in
     let ids = heap.ids in
     let loop = c.loop-row in
@@ -37,12 +39,15 @@ returns-in-Err-clause-taken g c =
     let new = g.W.Target.written c.take_sub.new.target in
     let done = loop.invariant.done in
     let next = subst (λ (i : IdSize). subs_left loop.rows ≡ sub_fact i row ∷ rest) loop.invariant.has_ids c.in-Some.ensures.first in
-    front_of_all (dump_bytes ids) start new done (sub_fact ids row) rest (sub_facts heap.facts)
+    at_error (λ (r : Result (Unit {0}) (ObjectStop SegmentFault)). TakesSubs start new (held_bytes c.take_sub.new.writer) (subs_of heap) r)
+    c.from_residual.result c.in_err-take_sub.field-0.0
+    (front_of_all (dump_bytes ids) start new done (sub_fact ids row) rest (sub_facts heap.facts)
     (loop.invariant.split ∙ ap (λ (l : List FactValue). done ++ l) next)
     (subst (λ (i : IdSize). (more : List (List ℕ))
     → WritesSome start new (segment_records ((map (dump_bytes ids) done ++ dump_bytes i (sub_fact i row) ∷ []) ++ more)))
     (c.ids-ids.ensures ∙ c.sub_rows-rows.ensures.ids)
-    (c.in-Err.ensures.taken start (map (dump_bytes ids) done) loop.invariant.taken))
+    (c.in_err-take_sub.ensures.taken start (map (dump_bytes ids) done) loop.invariant.taken)))
+    c.from_residual.ensures.1
 
 pub loop-row-preserved : goal.loop-row-preserved
 loop-row-preserved g c =
@@ -66,8 +71,8 @@ loop-row-preserved g c =
           subst (HasTaken start new held) (one_behind (dump_bytes ids) done (sub_fact ids row))
           (subst (λ (i : IdSize). HasTaken start new held (map (dump_bytes ids) done ++ dump_bytes i (sub_fact i row) ∷ []))
           (c.ids-ids.ensures ∙ c.sub_rows-rows.ensures.ids)
-          (c.in_default-take_sub.ensures.taken start (map (dump_bytes ids) done) loop.invariant.taken));
+          (c.in_ok-take_sub.ensures.taken start (map (dump_bytes ids) done) loop.invariant.taken));
       has_ids = c.next.ensures.has_ids ∙ loop.invariant.has_ids;
-      well = c.in_default-take_sub.ensures.health;
-      sound = c.in_default-take_sub.ensures.buffer;
+      well = c.in_ok-take_sub.ensures.health;
+      sound = c.in_ok-take_sub.ensures.buffer;
     }

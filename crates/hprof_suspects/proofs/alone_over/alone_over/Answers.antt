@@ -10,12 +10,12 @@ pub returns-in-Ok-alone_of-clause-alone : goal.returns-in-Ok-alone_of-clause-alo
 returns-in-Ok-alone_of-clause-alone g c =
     let ids = size_of c.args.heap.now in
     let facts = facts_of c.args.heap.now in
-    let small = c.in-Ok-small_heap.small in (
-      c.in-Ok-small_heap.ensures.0,
+    let small = c.in_ok-small.small in (
+      c.in_ok-small.ensures.0,
       λ all make labelled.
           let whole = g.met.O.Objects.whole c.args.objects.now ids facts all make in
           let is = subst (λ (l : List ℕ). IsSmallHeap (heap_of c.args.heap.now).millis ids l all small) c.deref.ensures.value
-          (c.in-Ok-small_heap.ensures.1 all make) in
+          (c.in_ok-small.ensures.1 all make) in
           c.in-Ok-alone_of.ensures.alone all (order_agrees all whole.ordered) labelled
           (class_objects ids all (facts_of small) c.args.retained.now c.args.labels.now c.in-Ok.nodes.items is.facts c.in-Ok.ensures.has),
     )

@@ -6,11 +6,11 @@ pub returns-in-Ok-all_told-clause-told : goal.returns-in-Ok-all_told-clause-told
 returns-in-Ok-all_told-clause-told g c =
     let ids = size_of c.args.heap.now in
     let facts = facts_of c.args.heap.now in (
-      c.in-Ok-labels_over.ensures.labels.0,
+      c.in_ok-labels.ensures.labels.0,
       λ all make.
           let whole = g.met.O.Objects.whole c.args.objects.now ids facts all make in
-          let labels = c.in-Ok-labels_over.ensures.labels.1 all make in
-          let alone = c.in-Ok-alone_over.ensures.alone.1 all make labels.0 in
+          let labels = c.in_ok-labels.ensures.labels.1 all make in
+          let alone = c.in_ok-alone.ensures.alone.1 all make labels.0 in
           c.in-Ok-all_told.ensures.told ids all (record {
             agree = order_agrees all whole.ordered;
             tree = c.requires all make;

@@ -11,10 +11,10 @@ use Rattle.hprof_why.proofs.reached.reached_over.Goals as goal
 
 pub returns-in-Ok-Some-clause-reached : goal.returns-in-Ok-Some-clause-reached
 returns-in-Ok-Some-clause-reached g c = (
-  c.in-Ok.ensures.reach.0,
+  c.in_ok-strong.ensures.reach.0,
   λ all make.
       let ids = size_of c.args.heap.now in
-      let strong = c.in-Ok.ensures.reach.1 all make in
+      let strong = c.in_ok-strong.ensures.reach.1 all make in
       path_same (IsKept strong.fields all) (IsStrong all) ids all (strong_kept ids all strong.fields strong.weak) c.args.id
       (Some c.in-Ok-Some.path)
       (subst (IsPathTo (IsKept strong.fields all) ids all c.args.id) c.in-Ok-Some.field-0-is
@@ -30,7 +30,7 @@ returns-in-Ok-None-clause-reached g c =
     (λ all. IsWithoutStrong ids all c.args.id) (λ all. IsReached ids all c.args.id) c.reached_without_strong_over.result
     c.reached_without_strong_over.ensures.reached
     (λ all how make is.
-    let strong = c.in-Ok.ensures.reach.1 all make in
+    let strong = c.in_ok-strong.ensures.reach.1 all make in
     reached_otherwise ids all c.args.id how
     (path_same (IsKept strong.fields all) (IsStrong all) ids all (strong_kept ids all strong.fields strong.weak) c.args.id None
     (subst (IsPathTo (IsKept strong.fields all) ids all c.args.id) c.in-Ok-None.field-0-is

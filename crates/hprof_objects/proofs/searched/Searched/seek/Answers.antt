@@ -5,6 +5,7 @@ use Rattle.hprof_objects.specs.AnyCuts.{Among, AreApart}
 use Rattle.hprof_objects.specs.Searched.{KeepsFrom, StandsOpen}
 use Rattle.hprof_objects.proofs.LookedUp.{finds_above, finds_none, finds_open, first_is, is_open, keeps_passed, ready_behind, stands_then}
 use Rattle.hprof_objects.proofs.LookedUp.{stops_open}
+use Rattle.hprof_objects.proofs.PassedOn.{if_error}
 use Rattle.hprof_objects.proofs.searched.Searched.seek.Goals as goal
 
 pub returns-in_default-clause-finds : goal.returns-in_default-clause-finds
@@ -60,21 +61,23 @@ open_first-requires-clause-ready g c =
     c.requires
     c.pass_below.ensures.passes
 
-pub returns-in-Err-clause-keeps : goal.returns-in-Err-clause-keeps
-returns-in-Err-clause-keeps g c =
+pub returns-in_err-open_first-clause-keeps : goal.returns-in_err-open_first-clause-keeps
+returns-in_err-open_first-clause-keeps g c =
     subst (λ (l : List AnyCut). KeepsFrom c.args.id c.args.self.now.cuts.now l) (sym c.open_first.ensures.cuts)
     (keeps_passed c.args.id c.args.self.now c.pass_below.new.self c.pass_below.ensures.passes)
 
-pub returns-in-Err-clause-stops : goal.returns-in-Err-clause-stops
-returns-in-Err-clause-stops g c =
+pub returns-in_err-open_first-clause-stops : goal.returns-in_err-open_first-clause-stops
+returns-in_err-open_first-clause-stops g c =
     let new = c.pass_below.new.self in
     let keeps = keeps_passed c.args.id c.args.self.now new c.pass_below.ensures.passes in
     let first = first_is new.cuts.now c.in-Some.cut.now c.in-Some.ensures.value in
-    record {
+    if_error _ c.from_residual.result c.in_err-open_first.field-0.0
+    (record {
       cut = c.in-Some.cut.now;
       among = keeps.only c.in-Some.cut.now (subst (λ (l : List AnyCut). Among l c.in-Some.cut.now) (sym first.1) (inl refl));
-      tells = c.in-Err.ensures.tells;
-    }
+      tells = c.in_err-open_first.ensures.tells;
+    })
+    c.from_residual.ensures.1
 
 pub returns-in-Ok-clause-ready : goal.returns-in-Ok-clause-ready
 returns-in-Ok-clause-ready g c =
@@ -88,7 +91,7 @@ returns-in-Ok-clause-ready g c =
     c.requires c.pass_below.ensures.passes in
     let first = first_is new.cuts.now c.in-Some.cut.now c.in-Some.ensures.value in
     let opened = is_open g.S.Target.written g.R.Source.left g.R.Source.health g.R.Source.pulls scratch reader.limits told c.args.id
-    c.in-Some.cut.now c.open_first.new.self.cursor c.in-Some-cursor.cursor c.in_default-open_first.ensures.open c.in-Some-cursor.is in
+    c.in-Some.cut.now c.open_first.new.self.cursor c.in-Some-cursor.cursor c.in_ok-open_first.ensures.open c.in-Some-cursor.is in
     let up = c.in-Ok.ensures.shows in
     let stands = stands_then g.S.Target.written g.S.Scratch.unreadable g.R.Source.left g.R.Source.health g.R.Source.pulls scratch
     reader.limits told c.args.id
@@ -118,7 +121,7 @@ returns-in-Ok-clause-finds g c =
     c.requires c.pass_below.ensures.passes in
     let first = first_is new.cuts.now c.in-Some.cut.now c.in-Some.ensures.value in
     let opened = is_open g.S.Target.written g.R.Source.left g.R.Source.health g.R.Source.pulls scratch reader.limits told c.args.id
-    c.in-Some.cut.now c.open_first.new.self.cursor c.in-Some-cursor.cursor c.in_default-open_first.ensures.open c.in-Some-cursor.is in
+    c.in-Some.cut.now c.open_first.new.self.cursor c.in-Some-cursor.cursor c.in_ok-open_first.ensures.open c.in-Some-cursor.is in
     let up = c.in-Ok.ensures.shows in
     let stands = stands_then g.S.Target.written g.S.Scratch.unreadable g.R.Source.left g.R.Source.health g.R.Source.pulls scratch
     reader.limits told c.args.id
@@ -127,13 +130,13 @@ returns-in-Ok-clause-finds g c =
     c.args.id old.cuts.now new.cuts.now keeps c.in-Some.cut.now first.0 first.1 ready.apart c.pass_below.ensures.from c.in-Ok.found
     c.go_up_to.new.cursor c.in-Ok.ensures.found stands
 
-pub returns-in-Err-go_up_to-clause-keeps : goal.returns-in-Err-go_up_to-clause-keeps
-returns-in-Err-go_up_to-clause-keeps g c =
+pub returns-in-Err-clause-keeps : goal.returns-in-Err-clause-keeps
+returns-in-Err-clause-keeps g c =
     subst (λ (l : List AnyCut). KeepsFrom c.args.id c.args.self.now.cuts.now l) (sym c.open_first.ensures.cuts)
     (keeps_passed c.args.id c.args.self.now c.pass_below.new.self c.pass_below.ensures.passes)
 
-pub returns-in-Err-go_up_to-clause-stops : goal.returns-in-Err-go_up_to-clause-stops
-returns-in-Err-go_up_to-clause-stops g c =
+pub returns-in-Err-clause-stops : goal.returns-in-Err-clause-stops
+returns-in-Err-clause-stops g c =
     let reader = c.args.reader.now in
     let scratch = scratch_of reader.runs.now in
     let told = g.P.Parts.bytes reader.parts.now in
@@ -142,8 +145,8 @@ returns-in-Err-go_up_to-clause-stops g c =
     let keeps = keeps_passed c.args.id old new c.pass_below.ensures.passes in
     let first = first_is new.cuts.now c.in-Some.cut.now c.in-Some.ensures.value in
     let opened = is_open g.S.Target.written g.R.Source.left g.R.Source.health g.R.Source.pulls scratch reader.limits told c.args.id
-    c.in-Some.cut.now c.open_first.new.self.cursor c.in-Some-cursor.cursor c.in_default-open_first.ensures.open c.in-Some-cursor.is in
+    c.in-Some.cut.now c.open_first.new.self.cursor c.in-Some-cursor.cursor c.in_ok-open_first.ensures.open c.in-Some-cursor.is in
     stops_open g.S.Target.written g.S.Scratch.unreadable g.R.Source.left g.R.Source.health g.R.Source.pulls scratch reader.limits told
-    g.row.F.Denot c.args.id old.cuts.now c.in-Some.cut.now c.in-Some-cursor.cursor c.go_up_to.new.cursor c.in-Err-go_up_to.fault
+    g.row.F.Denot c.args.id old.cuts.now c.in-Some.cut.now c.in-Some-cursor.cursor c.go_up_to.new.cursor c.in-Err.fault
     c.cut_stop.result (keeps.only c.in-Some.cut.now (subst (λ (l : List AnyCut). Among l c.in-Some.cut.now) (sym first.1) (inl refl)))
-    c.cut_stop.ensures opened.1 c.in-Err-go_up_to.ensures.fails
+    c.cut_stop.ensures opened.1 c.in-Err.ensures.fails
