@@ -1,5 +1,5 @@
 -- Cuts that are divided into lists.
-use Rattle.std.proofs.Common.{◌≡◌, ◌<◌, ◌≤◌, ◌++◌, ℕ, List, [], ◌∷◌, None, take, drop, refl, sym, ap, subst, ◌∙◌}
+use Rattle.std.proofs.Common.{◌≡◌, ◌<◌, ◌≤◌, ◌++◌, ℕ, List, [], ◌∷◌, None, length, take, drop, refl, sym, ap, subst, ◌∙◌}
 use Rattle.std.proofs.Common.{append_assoc, append-nil, arith}
 use Rattle.std.specs.Prelude.{All}
 use Rattle.std.proofs.lemmas.List.{take-append-drop}
@@ -7,6 +7,7 @@ use Rattle.std.proofs.lemmas.List.Elements.{All-push}
 use Rattle.hprof_objects.specs.declared.any_cut.AnyCut.{AnyCut}
 use Rattle.hprof_objects.specs.declared.searched.Searched.{Searched}
 use Rattle.hprof_objects.specs.AnyCuts.{AreAbove, AreApart, first_in, last_in}
+use Rattle.hprof_objects.specs.DividedCuts.{AreDivided}
 use Rattle.hprof_objects.specs.SearchedLists.{Divides, IsFresh, cuts_in}
 
 -- ---- the first cuts
@@ -40,6 +41,21 @@ apart_all (cut ∷ cuts) end apart = above_all (last_in cut) cuts end apart
 
 pub apart_first : (cuts : List AnyCut) (first : AnyCut) (rest : List AnyCut) → cuts ≡ first ∷ rest → ApartTo (take 1 cuts) (last_in first)
 apart_first cuts first rest is = subst (λ (l : List AnyCut). ApartTo (take 1 l) (last_in first)) (sym is) refl
+
+-- ---- the numbers of cuts of the lists
+
+-- lists of the rest go on behind those before them
+pub counted_more : (cuts rest : List AnyCut) (counts new : List ℕ) (count : ℕ)
+    → ((more : List ℕ) → AreDivided rest more → AreDivided cuts (counts ++ more)) → count ≤ length rest → AreApart (take count rest)
+    → new ≡ counts ++ count ∷ [] → (more : List ℕ) → AreDivided (drop count rest) more → AreDivided cuts (new ++ more)
+counted_more cuts rest counts new count so_far within apart pushed more divided =
+    subst (λ (l : List ℕ). AreDivided cuts l)
+    (sym (ap (λ (l : List ℕ). l ++ more) pushed ∙ append_assoc counts (count ∷ []) more))
+    (so_far (count ∷ more) (within, apart, divided))
+
+pub counted_all : (cuts rest : List AnyCut) (counts : List ℕ)
+    → ((more : List ℕ) → AreDivided rest more → AreDivided cuts (counts ++ more)) → rest ≡ [] → AreDivided cuts counts
+counted_all cuts rest counts so_far none = subst (λ (l : List ℕ). AreDivided cuts l) (append-nil counts) (so_far [] none)
 
 -- ---- the lists
 

@@ -28,6 +28,7 @@ mod LookedUp
 mod GivenOne
 mod GivenAll
 mod Apart
+mod PassedCuts
 mod WantedRows
 mod PickedRows
 mod PickedCuts

@@ -71,25 +71,6 @@ all_above last (first ∷ cuts) above cut (inr among) =
 -- ---- cuts that are passed
 
 module _ {S R : Type 0} (id : ℕ) where
-  pub passes_none : (it : Searched S R) → PassesBelow id it it
-  passes_none it = record { passed = []; are = refl; below = λ cut among. absurd among; opened = inl (refl, refl) }
-
-  pub passes_more : (old mid new : Searched S R) (cut : AnyCut) → PassesBelow id old mid → mid.cuts.now ≡ cut ∷ new.cuts.now
-      → last_in cut < id → new.cursor ≡ None → PassesBelow id old new
-  passes_more old mid new cut passes is lt none = record {
-    passed = passes.passed ++ cut ∷ [];
-    are = passes.are ∙ ap (λ (l : List AnyCut). passes.passed ++ l) is ∙ sym (append_assoc passes.passed (cut ∷ []) new.cuts.now);
-    below = λ other among. elim (among_either passes.passed (cut ∷ []) other among) [
-      | inl there ↦ passes.below other there
-      | inr there ↦ here other there
-    ];
-    opened = inr none;
-  }
-    where
-      here : (other : AnyCut) → Among (cut ∷ []) other → last_in other < id
-      here other (inl same) = subst (λ (c : AnyCut). last_in c < id) (sym same) lt
-      here other (inr never) = absurd never
-
   pub keeps_passed : (old new : Searched S R) → PassesBelow id old new → KeepsFrom id old.cuts.now new.cuts.now
   keeps_passed old new passes = record {
     kept = λ cut among. elim (among_either passes.passed new.cuts.now cut (subst (λ (l : List AnyCut). Among l cut) passes.are among)) [

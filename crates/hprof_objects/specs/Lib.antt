@@ -23,4 +23,6 @@ pub mod AnyCuts
 pub mod Seeking
 pub mod Searched
 pub mod SearchedLists
+pub mod DividedCuts
+pub mod CutLists
 pub mod Giving

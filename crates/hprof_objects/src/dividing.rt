@@ -2,12 +2,9 @@
 
 ghost use Rattle.std.specs.Prelude.{◌<◌, ◌≤◌, length, take, IfOk};
 ghost use Rattle.hprof_objects.specs.AnyCuts.{AreApart};
-ghost use Rattle.hprof_objects.specs.SearchedLists.{Divides};
+ghost use Rattle.hprof_objects.specs.DividedCuts.{AreDivided};
 
 use crate::any_cut::AnyCut;
-use crate::searched::Searched;
-use hprof_devices::Source;
-use hprof_runs::Scratch;
 use std::alloc::{AllocError, Global};
 
 /// Returns the number of the first cuts of which each lies above the one before.
@@ -30,22 +27,17 @@ fn apart_count(cuts: &[AnyCut]) -> usize
     cuts.len()
 }
 
-/// Divides cuts into lists in which identifiers can be looked up.
-pub(crate) fn divide<'a, S: Scratch + Drop, R: Source + Drop>(
-    alloc: Global,
-    cuts: &'a [AnyCut],
-) -> Result<Vec<Searched<'a, S, R>>, AllocError>
-    ensures { IfOk result (λ lists. Divides cuts.now lists.items) }
+/// Divides cuts into lists in which identifiers can be looked up, and returns the number of cuts of each list.
+pub(crate) fn divide(alloc: Global, cuts: &[AnyCut]) -> Result<Vec<usize>, AllocError>
+    ensures { IfOk result (λ counts. AreDivided cuts.now counts.items) }
 {
-    let mut lists = Vec::new(alloc);
+    let mut counts = Vec::new(alloc);
     let mut rest = cuts;
     while !rest.is_empty() {
-        let (front, behind) = rest.split_at(apart_count(rest));
-        lists.push(Searched {
-            cuts: front,
-            cursor: None,
-        })?;
+        let count = apart_count(rest);
+        counts.push(count)?;
+        let (_, behind) = rest.split_at(count);
         rest = behind;
     }
-    Ok(lists)
+    Ok(counts)
 }

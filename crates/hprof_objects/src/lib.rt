@@ -6,11 +6,13 @@
 //! [`StoredObjects::pick`] gives a few objects by their identifiers. While a stretch that stays in its part is read, it is divided into
 //! cuts: a [`Cut`] begins in some piece of the part, and its first and last identifier are kept. If one stretch has all objects, `pick`
 //! reads only cuts in whose range a wanted identifier is. Otherwise it reads all objects. Where it is known that no identifier has two
-//! contents, [`StoredObjects::pick_agreed`] reads only such cuts of all stretches, and of the runs in scratch.
+//! contents, [`StoredObjects::pick_agreed`] reads only such cuts of all stretches, and of the runs in scratch. It looks them up in
+//! [`CutLists`], which [`StoredObjects::cut_lists`] makes once for all picks.
 #![tactic(auto)]
 
 mod any_cut;
 mod cut;
+mod cut_lists;
 mod cut_reader;
 mod dividing;
 mod giving;
@@ -38,6 +40,7 @@ pub mod stretch_laws;
 mod wanted;
 
 pub use cut::Cut;
+pub use cut_lists::CutLists;
 pub use identifying::object_id;
 pub use keeping::Keeping;
 pub use object_log::ObjectLog;

@@ -4,13 +4,14 @@ ghost use Rattle.std.specs.Prelude.{List, IfErr};
 ghost use Rattle.std.specs.List.Sorted.{IsStrictlyIncreasing};
 ghost use Rattle.hprof_merge.specs.Rows.{ByteRow};
 ghost use Rattle.hprof_merge.specs.Union.{IsUnion};
+ghost use Rattle.hprof_objects.specs.CutLists.{AreListsOf};
 ghost use Rattle.hprof_objects.specs.MergedObjects.{IfScratchFails, TellsChange, UnlessRefused};
 ghost use Rattle.hprof_objects.specs.PartsRead.{PartRead};
 ghost use Rattle.hprof_objects.specs.Picks.{Picks};
 ghost use Rattle.hprof_objects.specs.StoredObjects.{AreToldAgain, objects_of, scratch_under};
 
+use crate::cut_lists::CutLists;
 use crate::cut_reader::CutReader;
-use crate::dividing::divide;
 use crate::giving::give_wanted;
 use crate::object_stop::ObjectStop;
 use crate::stored_objects::StoredObjects;
@@ -32,11 +33,11 @@ impl<S: Scratch + Drop> StoredObjects<S> {
     /// sub-record. The wanted identifiers ascend; one that no object has is passed over. No identifier has two contents.
     ///
     /// An identifier is looked up among the objects in memory, and then in the cuts of the stretches and of the runs, until one has it. A
-    /// cut is read if a wanted identifier is in its range, and once at most. The parts are those that were read, and the limits are those
-    /// of the first reading; the reads of a part are counted anew for each cut.
+    /// cut is read if a wanted identifier is in its range, and once at most. The lists are those that `cut_lists` returned. The parts are
+    /// those that were read, and the limits are those of the first reading; the reads of a part are counted anew for each cut.
     ///
-    /// Each identifier may be looked up in each list of cuts that ascend. So all objects are read, as by `pick`, if there are more than 256
-    /// such lists and more than 4096 wanted identifiers: the work does not grow with the product of both.
+    /// Each identifier may be looked up in each list, by binary search. So all objects are read, as by `pick`, if there are more than 256
+    /// lists and more than 4096 wanted identifiers: the work does not grow with the product of both.
     ///
     /// # Errors
     ///
@@ -47,11 +48,13 @@ impl<S: Scratch + Drop> StoredObjects<S> {
     pub fn pick_agreed<R: Source + Drop, P: Parts<Reader = R>, T: RowSink>(
         &self,
         alloc: Global,
+        lists: &CutLists,
         parts: &P,
         limits: Limits,
         wanted: &[u64],
         sink: &mut T,
     ) -> Result<(), ObjectStop<T::Fault>>
+        requires lists { AreListsOf self.now lists.now }
         requires agree { (reads : List PartRead) → AreToldAgain S.written S.health limits (P.bytes parts.now) reads self.now
             → (rows : List ByteRow) × IsUnion (objects_of reads) rows }
         requires sink { T.well sink.old }
@@ -62,15 +65,12 @@ impl<S: Scratch + Drop> StoredObjects<S> {
         ensures read { IfErr result (λ stop. IfScratchFails stop (S.unreadable (scratch_under self.now))) }
         ensures well { UnlessRefused (T.well sink.new) result }
     {
-        let Ok(cuts) = self.all_cuts(alloc) else {
-            return Err(ObjectStop::OutOfMemory);
-        };
-        let Ok(mut lists) = divide(alloc, &cuts) else {
-            return Err(ObjectStop::OutOfMemory);
-        };
         if lists.len() > FEW_LISTS && wanted.len() > FEW_WANTED {
             return self.pick(alloc, parts, limits, wanted, sink);
         }
+        let Ok(mut lists) = lists.searched(alloc) else {
+            return Err(ObjectStop::OutOfMemory);
+        };
         let reader = CutReader {
             alloc,
             runs: &self.runs,

@@ -3,7 +3,7 @@
 ghost use Rattle.std.specs.Prelude.{ℕ, ◌≡◌, ◌∷◌, List, IfOk, OnOk, IfErr};
 ghost use Rattle.hprof_runs.specs.Runs.{scratch_of};
 ghost use Rattle.hprof_objects.specs.declared.any_cut.AnyCut.{AnyCut};
-ghost use Rattle.hprof_objects.specs.AnyCuts.{TellsCut};
+ghost use Rattle.hprof_objects.specs.AnyCuts.{AreApart, TellsCut};
 ghost use Rattle.hprof_objects.specs.Searched.{BeginFrom, Finds, Gives, IsOpenAt, IsReady, KeepsFrom};
 ghost use Rattle.hprof_objects.specs.Searched.{OpenCanGoOn, PassesBelow, StopsIn, open_shown};
 
@@ -26,18 +26,22 @@ pub(crate) struct Searched<'a, S, R: Source + Drop> {
 }
 
 impl<'a, S: Scratch + Drop, R: Source + Drop> Searched<'a, S, R> {
-    /// Passes the cuts that lie below an identifier.
+    /// Passes the cuts that lie below an identifier, by binary search.
     fn pass_below(&mut self, id: u64)
+        requires { AreApart self.old.cuts.now }
         ensures passes { PassesBelow id self.old self.new }
         ensures from { BeginFrom id self.new.cuts.now }
     {
-        while let Some((cut, rest)) = self.cuts.split_first() {
-            if cut.last() >= id {
-                return;
-            }
-            self.cuts = rest;
-            self.cursor = None;
+        let Some(cut) = self.cuts.first() else {
+            return;
+        };
+        if cut.last() >= id {
+            return;
         }
+        let count = self.cuts.partition_point(|cut| cut.last() < id);
+        let (_, rest) = self.cuts.split_at(count);
+        self.cuts = rest;
+        self.cursor = None;
     }
 
     /// Opens the first cut, unless it is open.

@@ -1,12 +1,14 @@
 //! The objects of parts, of which no identifier has two contents.
 
+ghost use Rattle.hprof_objects.specs.CutLists.{AreListsOf};
 ghost use Rattle.hprof_stored.specs.Agreed.{HaveOneContent};
-ghost use Rattle.hprof_stored.specs.InParts.{AreSoMany};
+ghost use Rattle.hprof_stored.specs.InParts.{AreSoMany, objects_under};
 
 use crate::in_parts::InParts;
 use crate::pass_fault::PassFault;
 use hprof_devices::Target;
 use hprof_heap::Heap;
+use hprof_objects::CutLists;
 use hprof_parts::Parts;
 use hprof_passes::{ObjectSink, Objects, PassStop};
 use hprof_runs::Scratch;
@@ -16,11 +18,14 @@ use std::alloc::Global;
 #[derive(Drop)]
 pub struct Agreed<'a, S: Target, P: Parts> {
     objects: InParts<'a, S, P>,
+    /// The lists of their cuts, in which each pick looks identifiers up.
+    lists: CutLists,
     /// The number of objects.
     count: u64,
     // No identifier has two contents.
     ghost agree: { HaveOneContent S.written S.health P.bytes objects },
     ghost counted: { AreSoMany S.written S.health P.bytes objects count },
+    ghost listed: { AreListsOf (objects_under objects) lists },
 }
 
 impl<'a, S: Scratch + Drop, P: Parts> Agreed<'a, S, P> {
@@ -44,9 +49,17 @@ impl<'a, S: Scratch + Drop, P: Parts> Agreed<'a, S, P> {
         ensures tells { IfErr result (λ fault. (ids : IdSize) (facts : List FactValue)
             → TellsPass S.written S.health P.bytes S.unreadable objects.entry ids facts fault) }
     {
-        match objects.count_all(alloc) {
-            Ok(count) => Ok(Agreed { objects, count }),
-            Err(fault) => Err(fault),
+        let count = match objects.count_all(alloc) {
+            Ok(count) => count,
+            Err(fault) => return Err(fault),
+        };
+        match objects.cut_lists(alloc) {
+            Ok(lists) => Ok(Agreed {
+                objects,
+                lists,
+                count,
+            }),
+            Err(_) => Err(PassFault::OutOfMemory),
         }
     }
 }
@@ -79,7 +92,8 @@ impl<S: Scratch + Drop, P: Parts> Objects for Agreed<'_, S, P> {
         wanted: &[u64],
         sink: &mut T,
     ) -> Result<(), PassStop<T::Fault, PassFault>> {
-        self.objects.pick_agreed(alloc, heap, wanted, sink)
+        self.objects
+            .pick_agreed(alloc, heap, &self.lists, wanted, sink)
     }
 
     fn count(&self, _alloc: Global, _heap: &Heap) -> Result<u64, PassFault> {

@@ -7,12 +7,12 @@ use crate::pass_fault::PassFault;
 use crate::row_counter::{CountFull, RowCounter};
 use crate::row_decoder::{RowDecoder, RowRefusal};
 use hprof_heap::{Heap, id_size};
-use hprof_objects::{ObjectStop, StoredObjects};
+use hprof_objects::{CutLists, ObjectStop, StoredObjects};
 use hprof_parts::Parts;
 use hprof_passes::{ObjectSink, Objects, PassStop};
 use hprof_runs::Scratch;
 use hprof_stream::Limits;
-use std::alloc::Global;
+use std::alloc::{AllocError, Global};
 
 /// The objects of parts, which are read again for each pass.
 #[derive(Drop)]
@@ -55,22 +55,33 @@ fn pass_stop<E>(stop: ObjectStop<RowRefusal<E>>) -> PassStop<E, PassFault>
 }
 
 impl<S: Scratch + Drop, P: Parts> InParts<'_, S, P> {
-    ghost use Rattle.std.specs.Prelude.{List, IfErr};
+    ghost use Rattle.std.specs.Prelude.{List, IfErr, IfOk};
     ghost use Rattle.std.specs.List.Sorted.{IsStrictlyIncreasing};
     ghost use Rattle.hprof_items.specs.FactValue.{FactValue};
     ghost use Rattle.hprof_heap.specs.HeapFacts.{facts_of, size_of};
     ghost use Rattle.hprof_passes.specs.Passing.{IfLost, Passes, objects_among};
+    ghost use Rattle.hprof_objects.specs.CutLists.{AreListsOf};
     ghost use Rattle.hprof_passes.specs.Picked.{picked};
-    ghost use Rattle.hprof_stored.specs.InParts.{HaveUnion, MakeUp, TellsPass};
+    ghost use Rattle.hprof_stored.specs.InParts.{HaveUnion, MakeUp, TellsPass, objects_under};
 
-    /// Gives a sink those of the objects whose identifiers are wanted, as `pick` does. No identifier has two contents.
+    /// Returns the lists of the cuts of the objects, for `pick_agreed`.
+    pub(crate) fn cut_lists(&self, alloc: Global) -> Result<CutLists, AllocError>
+        ensures { IfOk result (AreListsOf (objects_under self.now)) }
+    {
+        self.objects.cut_lists(alloc)
+    }
+
+    /// Gives a sink those of the objects whose identifiers are wanted, as `pick` does. No identifier has two contents. The lists are those
+    /// that `cut_lists` returned.
     pub(crate) fn pick_agreed<T: ObjectSink>(
         &self,
         alloc: Global,
         heap: &Heap,
+        lists: &CutLists,
         wanted: &[u64],
         sink: &mut T,
     ) -> Result<(), PassStop<T::Fault, PassFault>>
+        requires lists { AreListsOf (objects_under self.now) lists.now }
         requires agree { HaveUnion S.written S.health P.bytes self.now }
         requires ascend { IsStrictlyIncreasing wanted.now }
         ensures given { (all : List FactValue) → MakeUp S.written S.health P.bytes self.now (size_of heap.now) (facts_of heap.now) all
@@ -79,10 +90,8 @@ impl<S: Scratch + Drop, P: Parts> InParts<'_, S, P> {
             (facts_of heap.now))) }
     {
         let mut rows = RowDecoder::new(id_size(heap), sink);
-        match self
-            .objects
-            .pick_agreed(alloc, self.parts, self.limits, wanted, &mut rows)
-        {
+        let objects = self.objects;
+        match objects.pick_agreed(alloc, lists, self.parts, self.limits, wanted, &mut rows) {
             Ok(()) => Ok(()),
             Err(stop) => Err(pass_stop(stop)),
         }

@@ -1,9 +1,10 @@
-use Rattle.std.proofs.Common.{length}
-use Rattle.hprof_objects.proofs.Apart.{DividedSoFar}
+use Rattle.std.proofs.Common.{◌++◌, ℕ, List, length}
+use Rattle.hprof_objects.specs.DividedCuts.{AreDivided}
 use Rattle.hprof_objects.proofs.dividing.divide.Given as goal
 
+-- lists of the rest go on behind those that were counted
 abbrev pub invariant-loop-rest : goal.invariant-loop-rest
-invariant-loop-rest g l = DividedSoFar l.cuts l.lists.items l.rest
+invariant-loop-rest l = (more : List ℕ) → AreDivided l.rest more → AreDivided l.cuts (l.counts.items ++ more)
 
 abbrev pub decreases-loop-rest : goal.decreases-loop-rest
-decreases-loop-rest g l = length l.rest
+decreases-loop-rest l = length l.rest

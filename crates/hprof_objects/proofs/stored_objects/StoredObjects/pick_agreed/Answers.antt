@@ -14,7 +14,7 @@ pub give_wanted-requires-clause-ready : goal.give_wanted-requires-clause-ready
 give_wanted-requires-clause-ready g c =
     fresh_ready g.S.Target.written g.R.Source.left g.R.Source.health g.R.Source.pulls (scratch_of c.args.self.now.runs) c.args.limits
     (g.P.Parts.bytes c.args.parts.now) 0 c.deref_mut.result.now (subst (All IsFresh) (sym c.deref_mut.ensures.value)
-    c.in-Ok-divide.ensures.fresh)
+    c.in-Ok.ensures.fresh)
 
 pub give_wanted-requires-clause-rises : goal.give_wanted-requires-clause-rises
 give_wanted-requires-clause-rises g c =
@@ -23,7 +23,7 @@ give_wanted-requires-clause-rises g c =
 pub returns-clause-objects : goal.returns-clause-objects
 returns-clause-objects g c =
     let cuts : cuts_in c.deref_mut.result.now ≡ all_cuts c.args.self.now =
-    ap (λ l. cuts_in l) c.deref_mut.ensures.value ∙ c.in-Ok-divide.ensures.same ∙ c.deref.ensures.value ∙ c.in-Ok.ensures in
+    ap (λ l. cuts_in l) c.deref_mut.ensures.value ∙ c.in-Ok.ensures.same ∙ c.requires.lists in
     λ reads again.
     let union = c.requires.agree reads again in
     let told = g.P.Parts.bytes c.args.parts.now in
@@ -36,7 +36,7 @@ returns-clause-objects g c =
 pub returns-clause-again : goal.returns-clause-again
 returns-clause-again g c =
     let cuts : cuts_in c.deref_mut.result.now ≡ all_cuts c.args.self.now =
-    ap (λ l. cuts_in l) c.deref_mut.ensures.value ∙ c.in-Ok-divide.ensures.same ∙ c.deref.ensures.value ∙ c.in-Ok.ensures in
+    ap (λ l. cuts_in l) c.deref_mut.ensures.value ∙ c.in-Ok.ensures.same ∙ c.requires.lists in
     let told = g.P.Parts.bytes c.args.parts.now in
     agreed_change g.S.Target.written g.S.Target.health c.args.limits told c.args.self.now g.row.T-Fault.Denot g.S.Scratch.unreadable
     c.give_wanted.result (subst (λ (l : List AnyCut). IfErr c.give_wanted.result (UnlessOfSink (StopsIn g.S.Target.written
@@ -45,7 +45,7 @@ returns-clause-again g c =
 pub returns-clause-read : goal.returns-clause-read
 returns-clause-read g c =
     let cuts : cuts_in c.deref_mut.result.now ≡ all_cuts c.args.self.now =
-    ap (λ l. cuts_in l) c.deref_mut.ensures.value ∙ c.in-Ok-divide.ensures.same ∙ c.deref.ensures.value ∙ c.in-Ok.ensures in
+    ap (λ l. cuts_in l) c.deref_mut.ensures.value ∙ c.in-Ok.ensures.same ∙ c.requires.lists in
     let told = g.P.Parts.bytes c.args.parts.now in
     agreed_reads g.S.Target.written g.S.Target.health c.args.limits told c.args.self.now g.row.T-Fault.Denot g.S.Scratch.unreadable
     c.give_wanted.result (subst (λ (l : List AnyCut). IfErr c.give_wanted.result (UnlessOfSink (StopsIn g.S.Target.written
