@@ -1,4 +1,4 @@
-use Rattle.std.proofs.Common.{◌<◌, ℕ, List, length, subst, sym, ap, arith}
+use Rattle.std.proofs.Common.{◌<◌, List, length, subst, sym, ap, arith}
 use Rattle.std.proofs.lemmas.Bool.{eqb-false, eqb-true}
 use Rattle.std.proofs.lemmas.List.{length-drop, nil_from_length}
 use Rattle.hprof_objects.specs.declared.any_cut.AnyCut.{AnyCut}
