@@ -7,9 +7,10 @@ Each dump is written by this script, and what the program answers is compared wi
 that is cut short, with what the plain program of bench/real writes. It prints a row for each: how many bytes the dump has, and
 how long the program took.
 
-    bench/hostile/run.py [--less N] [WORD..]        (of those whose title has one of the words; all)
+    bench/hostile/run.py [--less N] [--memory SIZE] [WORD..]        (of those whose title has one of the words; all)
 
-With --less the greater dumps have an Nth of what their titles say. It needs the built program (`rt run` in crates/hprof leaves
+With --less the greater dumps have an Nth of what their titles say. With --memory objects may take so many bytes of memory, and
+are read again if the dump has more. It needs the built program (`rt run` in crates/hprof leaves
 it as crates/hprof/out/hprof), and rustc for the plain one. It is no part of the gate.
 """
 
@@ -121,6 +122,24 @@ def many_roots(count):
     return part([*arrays, array(target, 0, []), *(sticky(i) for i in range(2 * count, 0, -1))])
 
 
+def all_to_one(count):
+    """So many arrays, each of which refers to the last of them, from as many roots."""
+    return part([*(array(i, 0, [count]) for i in range(1, count + 1)), *(sticky(i) for i in range(1, count))])
+
+
+def far_apart(count):
+    """So many arrays of one element with the least identifiers of eight bytes, and as many beyond the middle of them all. Each leads to one
+    on the other side, from one root: up and down again."""
+    far = 1 << 63
+
+    def lone(number, target):
+        return struct.pack(">BQIIQQ", 0x22, number, 1, 1, 0, target)
+
+    subs = [*(lone(i, far + i) for i in range(1, count + 1)), *(lone(far + i, i + 1) for i in range(1, count + 1)), struct.pack(">BQ", 5, 1)]
+    body = b"".join(subs)
+    return b"JAVA PROFILE 1.0.2\0" + struct.pack(">IQ", 8, 1) + struct.pack(">BII", 0x1C, 0, len(body)) + body
+
+
 def many_referrers(count):
     """So many arrays, in descending order, each of which refers to one object, which has no dump."""
     return part(array(i, 0, [5_000_001]) for i in range(count, 0, -1))
@@ -214,6 +233,16 @@ def path_cases(less):
          ends("distance 1", f"{nodes + 1:x}", 3)),
         ("1,000,000 roots", lambda: many_roots(million), ["path", f"{3 * million:x}"],
          lambda lines: lines == ["distance 1", "1", f"{3 * million:x}"]),
+        ("10,000,000 roots", lambda: many_roots(elements), ["path", f"{3 * elements:x}"],
+         lambda lines: lines == ["distance 1", "1", f"{3 * elements:x}"]),
+        ("5,000,000 arrays that lead to one", lambda: all_to_one(5 * million), ["path", f"{5 * million:x}"],
+         lambda lines: lines == ["distance 1", "1", f"{5 * million:x}"]),
+        ("5,000,000 arrays that lead to one", lambda: all_to_one(5 * million), ["keeps", f"{5 * million:x}"],
+         lambda lines: lines[0].split()[1] == "1" and len(lines) == 2),
+        ("an array of 100,000,000 elements", lambda: great_array(10 * elements, nodes), ["path", f"{nodes + 1:x}"],
+         ends("distance 1", f"{nodes + 1:x}", 3)),
+        ("identifiers 2^63 apart", lambda: far_apart(million), ["path", f"{(1 << 63) + million:x}"],
+         ends(f"distance {2 * million - 1}", f"{(1 << 63) + million:x}", 2 * million + 1)),
     ]
 
 
@@ -479,14 +508,14 @@ def write_questions(path, asked):
         file.write(question * (count % at_once))
 
 
-def run_case(folder, title, make, words, test, asked=(b"", 0)):
+def run_case(folder, memory, title, make, words, test, asked=(b"", 0)):
     """Runs the program on a dump, with these questions, and says whether it answers as it should."""
     dump, out, questions = folder / "dump.hprof", folder / "out", folder / "questions"
     dump.write_bytes(make())
     write_questions(questions, asked)
     start = time.perf_counter()
     with open(out, "wb") as file, open(questions, "rb") as lines:
-        status = subprocess.run([PROGRAM, *words, dump], stdin=lines, stdout=file).returncode
+        status = subprocess.run([PROGRAM, words[0], *memory, *words[1:], dump], stdin=lines, stdout=file).returncode
     seconds = time.perf_counter() - start
     size = dump.stat().st_size
     print(f"| {title} | {size / 1e6:.1f} MB | {' '.join(words)} | {seconds:.2f} |", flush=True)
@@ -538,12 +567,14 @@ def salvage(folder, count):
 def main():
     words = argparse.ArgumentParser()
     words.add_argument("--less", type=int, default=1)
+    words.add_argument("--memory")
     words.add_argument("wanted", nargs="*")
     words = words.parse_args()
 
     def is_wanted(title, command):
         return not words.wanted or any(word in title or word in command for word in words.wanted)
 
+    memory = ["--memory", words.memory] if words.memory else []
     wrong = 0
     print("| dump | its bytes | words | seconds |")
     print("|---|---|---|---|")
@@ -552,7 +583,7 @@ def main():
         made = [path_cases, refs_cases, asked_cases, partial(leak_cases, folder), keeps_cases]
         for case in [*CASES, *(case for cases in made for case in cases(words.less))]:
             if is_wanted(case[0], case[2]):
-                wrong += not run_case(folder, *case)
+                wrong += not run_case(folder, memory, *case)
         if is_wanted("cut short at 20 places", ["salvage"]):
             wrong += not salvage(folder, 1_000_000 // words.less)
     sys.exit(wrong != 0)

@@ -68,7 +68,7 @@ def passed_over(length):
     return b"\x7f\0\0\0\0" + length.to_bytes(4, "big") + bytes(length)
 
 
-def is_want(text):
+def is_resource_fault(text):
     """Whether the text is that of want of memory, for the file of scratch, too, which cannot be created without memory.
 
     `diff` says of which of its two dumps that file is.
@@ -139,7 +139,7 @@ def main():
                     break
                 if answer == ample:
                     answers["the answer"] += 1
-                elif answer[0] == 1 and ample[1].startswith(answer[1]) and answer[3] is None and is_want(answer[2]):
+                elif answer[0] == 1 and ample[1].startswith(answer[1]) and answer[3] is None and is_resource_fault(answer[2]):
                     answers["want of memory"] += 1
                 else:
                     wrong += 1

@@ -19,8 +19,8 @@ use Rattle.hprof_engine.specs.Makes.{Reads}
 use Rattle.hprof_engine.specs.Summaries.{AreSummaries}
 use Rattle.hprof_ask.specs.declared.ask_fault.AskFault.{AskFault}
 use Rattle.hprof_ask.specs.declared.ask_fault.AskFault.TheVariants as faults
-use Rattle.hprof_questions.specs.declared.stop.DialogueStop.{DialogueStop}
-use Rattle.hprof_questions.specs.declared.stop.DialogueStop.TheVariants as stops
+use Rattle.hprof_questions.specs.declared.dialogue_fault.DialogueFault.{DialogueFault}
+use Rattle.hprof_questions.specs.declared.dialogue_fault.DialogueFault.TheVariants as stops
 use Rattle.hprof_ask.specs.Asks.{Asks}
 use Rattle.hprof_questions.specs.Answering.{TellsLoss}
 use Rattle.hprof_questions.specs.Dialogue.{AnswersDialogue, EndsDialogue}
@@ -62,7 +62,7 @@ module _ {R Q W : Type 0} (left : R → Option (List ℕ)) (health : R → Healt
   }
 
   -- the fault that a dialogue ended with, if any
-  abbrev pub fault_of_dialogue : Result (Unit {0}) DialogueStop → Option AskFault
+  abbrev pub fault_of_dialogue : Result (Unit {0}) DialogueFault → Option AskFault
   fault_of_dialogue (Ok done) = None
   fault_of_dialogue (Err stop) = Some (faults.Dialogue stop)
 
@@ -71,7 +71,7 @@ module _ {R Q W : Type 0} (left : R → Option (List ℕ)) (health : R → Healt
       (summaries : List PartSummary) (of_parts : (parts : List (List ℕ)) → Tell left old parts → AreSummaries parts summaries)
       (reads : Reads left health pulls none_known limits old new None) (is : Q) (after : W) where
     -- none of it was lost
-    pub asks : (r : Result (Unit {0}) DialogueStop)
+    pub asks : (r : Result (Unit {0}) DialogueFault)
         → AnswersDialogue (IsHeapAnswer summaries heap.ids heap.facts) asked asking turns written well was is before after r
         → EndsDialogue asked asking turns well was is after r → TellsLoss (λ loss. ⊥) r
         → Asks left health pulls asked asking turns written well limits old new was is before after (fault_of_dialogue r)

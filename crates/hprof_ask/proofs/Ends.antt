@@ -9,10 +9,10 @@ use Rattle.hprof_values.specs.declared.ids.IdSize.{IdSize}
 use Rattle.hprof_items.specs.FactValue.{FactValue}
 use Rattle.hprof_stream.specs.declared.summary.PartSummary.{PartSummary}
 use Rattle.hprof_rows.specs.Conflict.{IsConsistent}
-use Rattle.hprof_engine.specs.declared.product_refusal.ProductRefusal.{ProductRefusal}
-use Rattle.hprof_engine.specs.declared.product_refusal.ProductRefusal.TheVariants as refusals
-use Rattle.hprof_engine.specs.declared.product.WriteStop.{WriteStop}
-use Rattle.hprof_engine.specs.declared.product.WriteStop.TheVariants as stops
+use Rattle.hprof_engine.specs.declared.heap_fault.HeapFault.{HeapFault}
+use Rattle.hprof_engine.specs.declared.heap_fault.HeapFault.TheVariants as refusals
+use Rattle.hprof_engine.specs.declared.product.ProductFault.{ProductFault}
+use Rattle.hprof_engine.specs.declared.product.ProductFault.TheVariants as stops
 use Rattle.hprof_engine.specs.Makes.{EndsWriting}
 use Rattle.hprof_reports.specs.Check.{IsCheck}
 use Rattle.hprof_lines.specs.Stopping.{LeavesTarget, WritesText}
@@ -25,7 +25,7 @@ use Rattle.hprof_ask.specs.Summarised.{Holds}
 
 -- memory: whether writing takes memory
 pub text_ends : {W : Type 0} (written : W → Option (List ℕ)) (well : W → Health) (IsText : List ℕ → Type 0)
-    (Refuses : ProductRefusal → Type 0) (memory : Type 0) (before after : W) (r : Result (Unit {0}) WriteStop) (text : List ℕ)
+    (Refuses : HeapFault → Type 0) (memory : Type 0) (before after : W) (r : Result (Unit {0}) ProductFault) (text : List ℕ)
     → IsText text → WritesText (written before) (written after) r text
     → LeavesTarget r (well after) → (r ≡ Err stops.OutOfMemory → memory) → EndsWriting written well IsText Refuses memory before after r
 text_ends written well IsText Refuses memory before after (Ok done) text is writes health wants = (health, (text, is, writes))
@@ -37,7 +37,7 @@ text_ends written well IsText Refuses memory before after (Err (stops.Refused re
 
 -- what is said of one text is said of another, where each of the first is one of the others
 pub ends_as : {W : Type 0} (written : W → Option (List ℕ)) (well : W → Health) (IsText IsOther : List ℕ → Type 0)
-    (Refuses : ProductRefusal → Type 0) (memory : Type 0) (before after : W) (r : Result (Unit {0}) WriteStop)
+    (Refuses : HeapFault → Type 0) (memory : Type 0) (before after : W) (r : Result (Unit {0}) ProductFault)
     → ((text : List ℕ) → IsText text → IsOther text) → EndsWriting written well IsText Refuses memory before after r
     → EndsWriting written well IsOther Refuses memory before after r
 ends_as written well IsText IsOther Refuses memory before after (Ok done) same (health, (text, is, writes)) =

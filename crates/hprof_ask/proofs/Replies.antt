@@ -7,10 +7,10 @@ use Rattle.hprof_devices.specs.declared.health.Health.{Health}
 use Rattle.hprof_values.specs.declared.ids.IdSize.{IdSize}
 use Rattle.hprof_items.specs.FactValue.{FactValue}
 use Rattle.hprof_stream.specs.declared.summary.PartSummary.{PartSummary}
-use Rattle.hprof_engine.specs.declared.product_refusal.ProductRefusal.{ProductRefusal}
-use Rattle.hprof_engine.specs.declared.product_refusal.ProductRefusal.TheVariants as refusals
-use Rattle.hprof_engine.specs.declared.product.WriteStop.{WriteStop}
-use Rattle.hprof_engine.specs.declared.product.WriteStop.TheVariants as stops
+use Rattle.hprof_engine.specs.declared.heap_fault.HeapFault.{HeapFault}
+use Rattle.hprof_engine.specs.declared.heap_fault.HeapFault.TheVariants as refusals
+use Rattle.hprof_engine.specs.declared.product.ProductFault.{ProductFault}
+use Rattle.hprof_engine.specs.declared.product.ProductFault.TheVariants as stops
 use Rattle.hprof_engine.specs.Makes.{EndsWriting}
 use Rattle.hprof_lines.specs.Stopping.{LeavesTarget, WritesText}
 use Rattle.hprof_questions.specs.declared.report.Report.{Report}
@@ -33,7 +33,7 @@ module _ {W : Type 0} (written : W → Option (List ℕ)) (well : W → Health) 
       let it = within count text in (it.0, it.1, subst (Appends (written before) (written after)) it.2 appends)
 
   -- nothing was written
-  none : (refusal : ProductRefusal) → RefusesReport facts report refusal → after ≡ before
+  none : (refusal : HeapFault) → RefusesReport facts report refusal → after ≡ before
       → (text : List ℕ) × IsReportReply summaries ids facts report text
       × ((n : ℕ) × (n ≤ length text) × Appends (written before) (written after) (take n text))
   none refusals.DumpTooLong refuses same = absurd refuses
@@ -43,7 +43,7 @@ module _ {W : Type 0} (written : W → Option (List ℕ)) (well : W → Health) 
     (0, omega arith, subst (λ (w : W). Appends (written before) (written w) []) (sym same) (Appends-nil (written before))),
   )
 
-  pub stopped : (stop : WriteStop) → ((refusal : ProductRefusal) → stop ≡ stops.Refused refusal → ⊥)
+  pub stopped : (stop : ProductFault) → ((refusal : HeapFault) → stop ≡ stops.Refused refusal → ⊥)
       → EndsWriting written well (IsReport summaries ids facts report) (RefusesReport facts report) (TakesMemory report) before after
       (Err stop)
       → ((text : List ℕ) × IsReportReply summaries ids facts report text

@@ -4,7 +4,7 @@ use Rattle.std.specs.List.{flat_map}
 use Rattle.std.proofs.lemmas.Grind.{flat_map-append}
 use Rattle.hprof_devices.proofs.OneByOne.{Wrote}
 use Rattle.hprof_devices.proofs.Writes.{WritesFront, WritesFront-more, WritesFront-then}
-use Rattle.hprof_engine.specs.declared.product.WriteStop.{WriteStop}
+use Rattle.hprof_engine.specs.declared.product.ProductFault.{ProductFault}
 use Rattle.hprof_lines.specs.Stopping.{WritesText}
 use Rattle.hprof_lines.proofs.TextWriting.{text_stopped}
 use Rattle.hprof_rows.proofs.Tables.{drop_from}
@@ -14,7 +14,7 @@ use Rattle.hprof_questions.specs.declared.report_word.ReportWord.TheVariants.{He
 use Rattle.hprof_questions.specs.Words.{all_words, usage_line}
 
 -- one of them stopped the writing
-pub usage_stops : {A : Type 0} (r : Result A WriteStop) (stop : WriteStop) (old mid new : Option (List ℕ)) (place : ℕ)
+pub usage_stops : {A : Type 0} (r : Result A ProductFault) (stop : ProductFault) (old mid new : Option (List ℕ)) (place : ℕ)
     → place < length all_words → r ≡ Err stop → Wrote usage_line old mid all_words (drop place all_words)
     → WritesFront mid new (usage_line (get_or all_words place (Heap Check))) → WritesText old new r (flat_map usage_line all_words)
 usage_stops r stop old mid new place within e w front =

@@ -19,7 +19,7 @@ use Rattle.hprof_engine.specs.Joining.{Tell, Agree, IsHindered, IsOfReading, IsO
 use Rattle.hprof_engine.specs.Makes.{Reads}
 use Rattle.hprof_engine.specs.Summaries.{AreSummaries}
 use Rattle.hprof_questions.specs.declared.question.Question.{Question}
-use Rattle.hprof_questions.specs.declared.stop.DialogueStop.TheVariants as stops
+use Rattle.hprof_questions.specs.declared.dialogue_fault.DialogueFault.TheVariants as stops
 use Rattle.hprof_questions.specs.Answering.{PassesOn}
 use Rattle.hprof_questions.specs.Dialogue.{AnswersLines, AnswersSome, AreOpenLines, Came, IsOver, LetsReadOn}
 use Rattle.hprof_ask.specs.declared.ask_fault.AskFault.{AskFault}

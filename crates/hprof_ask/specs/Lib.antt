@@ -10,5 +10,5 @@ pub mod InMemory
 pub mod SomeHeapAnswer
 pub mod Asks
 pub mod Surveys
-pub mod Kept
+pub mod Cache
 pub mod PartsAnswers

@@ -4,8 +4,8 @@ use Rattle.hprof_values.specs.declared.ids.IdSize.{IdSize}
 use Rattle.hprof_items.specs.FactValue.{FactValue}
 use Rattle.hprof_stream.specs.declared.summary.PartSummary.{PartSummary}
 use Rattle.hprof_rows.specs.HeapValue.{HeapValue}
-use Rattle.hprof_engine.specs.declared.product_refusal.ProductRefusal.{ProductRefusal}
-use Rattle.hprof_engine.specs.declared.product_refusal.ProductRefusal.TheVariants as refusals
+use Rattle.hprof_engine.specs.declared.heap_fault.HeapFault.{HeapFault}
+use Rattle.hprof_engine.specs.declared.heap_fault.HeapFault.TheVariants as refusals
 use Rattle.hprof_engine.specs.Makes.{Making, making_of}
 use Rattle.hprof_naming.specs.MeantLabel.{Means}
 use Rattle.hprof_meaning.specs.MeantClasses.{AreMeantClasses, AreMeantDumps}
@@ -116,7 +116,7 @@ LacksClass facts (reports.Node report (that.Named name)) = AreMeantDumps facts n
 LacksClass facts other = ⊥
 
 -- the report on these facts is refused for that reason
-abbrev pub RefusesReport : List FactValue → Report → ProductRefusal → Type 0
+abbrev pub RefusesReport : List FactValue → Report → HeapFault → Type 0
 RefusesReport facts report refusals.DumpTooLong = ⊥
 RefusesReport facts report refusals.NoClass = LacksClass facts report
 

@@ -7,12 +7,12 @@ ghost use Rattle.hprof_heap.specs.HeapFacts.{facts_of, size_of};
 ghost use Rattle.hprof_lines.specs.Stopping.{LeavesTarget, WritesText};
 ghost use Rattle.hprof_keeps.specs.BiggestText.{IsBiggestText};
 ghost use Rattle.hprof_keeps.specs.Chosen.{ClassesAscend, IsChosen};
-ghost use Rattle.hprof_ask.specs.Kept.{IsKept};
+ghost use Rattle.hprof_ask.specs.Cache.{IsCacheOf};
 ghost use Rattle.hprof_ask.specs.Report.{IsKindReport, IsReport, RefusesReport, TakesMemory};
 
-use crate::kept::{Kept, kept_or_made, retained_or_made};
+use crate::cache::{Cache, cached_or_made, retained_or_made};
 use hprof_devices::Target;
-use hprof_engine::WriteStop;
+use hprof_engine::ProductFault;
 use hprof_heap::{Heap, holds_of_heap};
 use hprof_histogram::Kind;
 use hprof_keeps::{Choice, write_biggest};
@@ -35,28 +35,28 @@ impl<'a> Answerer<'a> {
     pub(crate) fn write_biggest<W: Target>(
         &self,
         alloc: Global,
-        kept: &mut Kept,
+        cache: &mut Cache,
         choice: Choice<'_>,
         target: &mut W,
-    ) -> Result<(), WriteStop>
+    ) -> Result<(), ProductFault>
         requires well { W.health target.old ≡ Well }
         requires ascend { ClassesAscend choice }
-        requires kept { IsKept (size_of self.now.heap.now) (facts_of self.now.heap.now) kept.old }
+        requires kept { IsCacheOf (size_of self.now.heap.now) (facts_of self.now.heap.now) cache.old }
         ensures bytes { (text : List ℕ)
             × IsBiggestText (size_of self.now.heap.now) (facts_of self.now.heap.now)
             (IsChosen (facts_of self.now.heap.now) choice.entry) text
             × WritesText (W.written target.old) (W.written target.new) result text }
         ensures health { LeavesTarget result (W.health target.new) }
-        ensures kept { IsKept (size_of self.now.heap.now) (facts_of self.now.heap.now) kept.new }
+        ensures kept { IsCacheOf (size_of self.now.heap.now) (facts_of self.now.heap.now) cache.new }
     {
         holds_of_heap(self.heap);
-        let survey = kept_or_made(alloc, self.heap, kept.survey.take())?;
-        let references = kept_or_made(alloc, self.heap, kept.references.take())?;
-        let retained = retained_or_made(alloc, self.heap, &references.weak, kept.retained.take())?;
+        let survey = cached_or_made(alloc, self.heap, cache.survey.take())?;
+        let references = cached_or_made(alloc, self.heap, cache.references.take())?;
+        let retained = retained_or_made(alloc, self.heap, &references.weak, cache.retained.take())?;
         let outcome = write_biggest(alloc, self.heap, &survey.classes, &retained, choice, target);
-        kept.survey = Some(survey);
-        kept.references = Some(references);
-        kept.retained = Some(retained);
+        cache.survey = Some(survey);
+        cache.references = Some(references);
+        cache.retained = Some(retained);
         outcome
     }
 
@@ -64,20 +64,20 @@ impl<'a> Answerer<'a> {
     fn write_kind_report<W: Target>(
         &self,
         alloc: Global,
-        kept: &mut Kept,
+        cache: &mut Cache,
         report: KindReport,
         kind: Kind,
         target: &mut W,
-    ) -> Result<(), WriteStop>
+    ) -> Result<(), ProductFault>
         requires well { W.health target.old ≡ Well }
-        requires kept { IsKept (size_of self.now.heap.now) (facts_of self.now.heap.now) kept.old }
+        requires kept { IsCacheOf (size_of self.now.heap.now) (facts_of self.now.heap.now) cache.old }
         ensures bytes { (text : List ℕ) × IsKindReport (size_of self.now.heap.now) (facts_of self.now.heap.now) report kind text
             × WritesText (W.written target.old) (W.written target.new) result text }
         ensures health { LeavesTarget result (W.health target.new) }
-        ensures kept { IsKept (size_of self.now.heap.now) (facts_of self.now.heap.now) kept.new }
+        ensures kept { IsCacheOf (size_of self.now.heap.now) (facts_of self.now.heap.now) cache.new }
     {
         match report {
-            KindReport::Biggest => self.write_biggest(alloc, kept, Choice::Of(kind), target),
+            KindReport::Biggest => self.write_biggest(alloc, cache, Choice::Of(kind), target),
             KindReport::Objects => write_objects(alloc, self.heap, kind, target),
         }
     }
@@ -88,30 +88,30 @@ impl<'a> Answerer<'a> {
     pub fn write<W: Target>(
         &self,
         alloc: Global,
-        kept: &mut Kept,
+        cache: &mut Cache,
         report: Report<'_>,
         target: &mut W,
-    ) -> Result<(), WriteStop>
+    ) -> Result<(), ProductFault>
         requires well { W.health target.old ≡ Well }
-        requires kept { IsKept (size_of self.now.heap.now) (facts_of self.now.heap.now) kept.old }
+        requires kept { IsCacheOf (size_of self.now.heap.now) (facts_of self.now.heap.now) cache.old }
         ensures ends { EndsWriting W.written W.health
             (IsReport self.now.summaries.now (size_of self.now.heap.now) (facts_of self.now.heap.now) report.entry)
             (RefusesReport (facts_of self.now.heap.now) report.entry) (TakesMemory report.entry) target.old target.new result }
-        ensures kept { IsKept (size_of self.now.heap.now) (facts_of self.now.heap.now) kept.new }
+        ensures kept { IsCacheOf (size_of self.now.heap.now) (facts_of self.now.heap.now) cache.new }
     {
         match report {
-            Report::Heap(report) => self.write_heap_report(alloc, kept, report, target),
+            Report::Heap(report) => self.write_heap_report(alloc, cache, report, target),
             Report::Kind(report, Kinds::Of(kind)) => {
-                self.write_kind_report(alloc, kept, report, kind, target)
+                self.write_kind_report(alloc, cache, report, kind, target)
             }
             Report::Kind(report, Kinds::Named(name)) => {
-                self.write_kind_named(alloc, kept, report, name, target)
+                self.write_kind_named(alloc, cache, report, name, target)
             }
             Report::Node(report, Node::Identifier(id)) => {
-                self.write_node_report(alloc, kept, report, id, target)
+                self.write_node_report(alloc, cache, report, id, target)
             }
             Report::Node(report, Node::Named(name)) => {
-                self.write_node_named(alloc, kept, report, name, target)
+                self.write_node_named(alloc, cache, report, name, target)
             }
         }
     }

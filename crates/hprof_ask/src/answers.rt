@@ -6,15 +6,15 @@ ghost use Rattle.hprof_devices.specs.declared.health.Health.TheVariants.{Well};
 ghost use Rattle.hprof_heap.specs.HeapFacts.{facts_of, size_of};
 ghost use Rattle.hprof_lines.specs.Stopping.{LeavesTarget, WritesText};
 ghost use Rattle.hprof_ask.specs.HeapAnswers.{IsHeapAnswer, IsReply, IsReportReply, behind_reply, reply_without_report};
-ghost use Rattle.hprof_ask.specs.Kept.{IsKept};
+ghost use Rattle.hprof_ask.specs.Cache.{IsCacheOf};
 ghost use Rattle.hprof_questions.specs.Words.{all_words, follows_text, help_text, usage_line};
 
 use crate::answerer::Answerer;
-use crate::kept::Kept;
+use crate::cache::Cache;
 use hprof_devices::Target;
-use hprof_engine::WriteStop;
+use hprof_engine::ProductFault;
 use hprof_lines::write_str;
-use hprof_questions::{Answers, DialogueStop, Follows, Misnamed, Question, Report, ReportWord};
+use hprof_questions::{Answers, DialogueFault, Follows, Misnamed, Question, Report, ReportWord};
 use std::alloc::Global;
 
 /// Returns what stands in help for that which follows a word.
@@ -29,7 +29,7 @@ fn follows_text(follows: Follows) -> &'static str
 }
 
 /// Writes the line of a report in help.
-fn write_usage<W: Target>(word: ReportWord, target: &mut W) -> Result<(), WriteStop>
+fn write_usage<W: Target>(word: ReportWord, target: &mut W) -> Result<(), ProductFault>
     requires { W.health target.old ≡ Well }
     ensures bytes { WritesText (W.written target.old) (W.written target.new) result (usage_line word) }
     ensures health { LeavesTarget result (W.health target.new) }
@@ -40,7 +40,7 @@ fn write_usage<W: Target>(word: ReportWord, target: &mut W) -> Result<(), WriteS
 }
 
 /// Writes the line of each report in help.
-fn write_usages<W: Target>(target: &mut W) -> Result<(), WriteStop>
+fn write_usages<W: Target>(target: &mut W) -> Result<(), ProductFault>
     requires { W.health target.old ≡ Well }
     ensures bytes { WritesText (W.written target.old) (W.written target.new) result (flat_map usage_line all_words) }
     ensures health { LeavesTarget result (W.health target.new) }
@@ -52,7 +52,7 @@ fn write_usages<W: Target>(target: &mut W) -> Result<(), WriteStop>
 }
 
 /// Writes the questions that can be asked, one a line.
-fn write_help<W: Target>(target: &mut W) -> Result<(), WriteStop>
+fn write_help<W: Target>(target: &mut W) -> Result<(), ProductFault>
     requires { W.health target.old ≡ Well }
     ensures bytes { WritesText (W.written target.old) (W.written target.new) result help_text }
     ensures health { LeavesTarget result (W.health target.new) }
@@ -68,7 +68,7 @@ fn write_help<W: Target>(target: &mut W) -> Result<(), WriteStop>
 pub fn write_reply_without_report<W: Target>(
     question: Question<'_>,
     target: &mut W,
-) -> Result<(), WriteStop>
+) -> Result<(), ProductFault>
     requires { W.health target.old ≡ Well }
     ensures bytes { WritesText (W.written target.old) (W.written target.new) result (reply_without_report question.entry) }
     ensures health { LeavesTarget result (W.health target.new) }
@@ -98,23 +98,26 @@ pub fn behind_reply(question: Question<'_>) -> &'static str
 fn write_report<W: Target>(
     alloc: Global,
     answerer: &Answerer<'_>,
-    kept: &mut Kept,
+    cache: &mut Cache,
     report: Report<'_>,
     target: &mut W,
-) -> Result<(), WriteStop>
+) -> Result<(), ProductFault>
     requires well { W.health target.old ≡ Well }
-    requires kept { IsKept (size_of answerer.now.heap.now) (facts_of answerer.now.heap.now) kept.old }
+    requires kept { IsCacheOf (size_of answerer.now.heap.now) (facts_of answerer.now.heap.now) cache.old }
     ensures bytes { (text : List ℕ)
         × IsReportReply answerer.now.summaries.now (size_of answerer.now.heap.now) (facts_of answerer.now.heap.now) report.entry text
         × WritesText (W.written target.old) (W.written target.new) result text }
     ensures health { LeavesTarget result (W.health target.new) }
-    ensures kept { IsKept (size_of answerer.now.heap.now) (facts_of answerer.now.heap.now) kept.new }
+    ensures kept { IsCacheOf (size_of answerer.now.heap.now) (facts_of answerer.now.heap.now) cache.new }
 {
-    match answerer.write(alloc, kept, report, target) {
+    match answerer.write(alloc, cache, report, target) {
         Ok(()) => Ok(()),
-        Err(WriteStop::Refused(_)) => write_reply_without_report(Question::Report(report), target),
-        Err(WriteStop::Write(fault)) => Err(WriteStop::Write(fault)),
-        Err(WriteStop::OutOfMemory) => Err(WriteStop::OutOfMemory),
+        Err(ProductFault::Refused(_)) => write_reply_without_report(
+            Question::Report(report),
+            target,
+        ),
+        Err(ProductFault::Write(fault)) => Err(ProductFault::Write(fault)),
+        Err(ProductFault::OutOfMemory) => Err(ProductFault::OutOfMemory),
     }
 }
 
@@ -122,20 +125,20 @@ fn write_report<W: Target>(
 fn write_reply<W: Target>(
     alloc: Global,
     answerer: &Answerer<'_>,
-    kept: &mut Kept,
+    cache: &mut Cache,
     question: Question<'_>,
     target: &mut W,
-) -> Result<(), WriteStop>
+) -> Result<(), ProductFault>
     requires well { W.health target.old ≡ Well }
-    requires kept { IsKept (size_of answerer.now.heap.now) (facts_of answerer.now.heap.now) kept.old }
+    requires kept { IsCacheOf (size_of answerer.now.heap.now) (facts_of answerer.now.heap.now) cache.old }
     ensures bytes { (text : List ℕ)
         × IsReply answerer.now.summaries.now (size_of answerer.now.heap.now) (facts_of answerer.now.heap.now) question.entry text
         × WritesText (W.written target.old) (W.written target.new) result text }
     ensures health { LeavesTarget result (W.health target.new) }
-    ensures kept { IsKept (size_of answerer.now.heap.now) (facts_of answerer.now.heap.now) kept.new }
+    ensures kept { IsCacheOf (size_of answerer.now.heap.now) (facts_of answerer.now.heap.now) cache.new }
 {
     match question {
-        Question::Report(report) => write_report(alloc, answerer, kept, report, target),
+        Question::Report(report) => write_report(alloc, answerer, cache, report, target),
         _ => write_reply_without_report(question, target),
     }
 }
@@ -145,19 +148,19 @@ fn write_reply<W: Target>(
 fn write_answer<W: Target>(
     alloc: Global,
     answerer: &Answerer<'_>,
-    kept: &mut Kept,
+    cache: &mut Cache,
     question: Question<'_>,
     target: &mut W,
-) -> Result<(), WriteStop>
+) -> Result<(), ProductFault>
     requires well { W.health target.old ≡ Well }
-    requires kept { IsKept (size_of answerer.now.heap.now) (facts_of answerer.now.heap.now) kept.old }
+    requires kept { IsCacheOf (size_of answerer.now.heap.now) (facts_of answerer.now.heap.now) cache.old }
     ensures bytes { (text : List ℕ)
         × IsHeapAnswer answerer.now.summaries.now (size_of answerer.now.heap.now) (facts_of answerer.now.heap.now) question.entry text
         × WritesText (W.written target.old) (W.written target.new) result text }
     ensures health { LeavesTarget result (W.health target.new) }
-    ensures kept { IsKept (size_of answerer.now.heap.now) (facts_of answerer.now.heap.now) kept.new }
+    ensures kept { IsCacheOf (size_of answerer.now.heap.now) (facts_of answerer.now.heap.now) cache.new }
 {
-    match write_reply(alloc, answerer, kept, question, target) {
+    match write_reply(alloc, answerer, cache, question, target) {
         Ok(()) => write_str(behind_reply(question), target),
         Err(stop) => Err(stop),
     }
@@ -175,23 +178,23 @@ impl<'a> Answers for Answerer<'a> {
     // A heap in memory is never lost.
     ghost loses = { λ answers loss. ⊥ };
 
-    ghost keeps = { λ answers kept. IsKept (size_of answers.heap.now) (facts_of answers.heap.now) kept };
+    ghost keeps = { λ answers cache. IsCacheOf (size_of answers.heap.now) (facts_of answers.heap.now) cache };
 
-    type Kept = Kept;
+    type Cache = Cache;
 
     fn answer<W: Target>(
         &self,
         alloc: Global,
-        kept: &mut Kept,
+        cache: &mut Cache,
         question: Question<'_>,
         target: &mut W,
-    ) -> Result<(), DialogueStop> {
-        match write_answer(alloc, self, kept, question, target) {
+    ) -> Result<(), DialogueFault> {
+        match write_answer(alloc, self, cache, question, target) {
             Ok(()) => Ok(()),
-            Err(WriteStop::Write(fault)) => Err(DialogueStop::Write(fault)),
-            Err(WriteStop::OutOfMemory) => Err(DialogueStop::OutOfMemory),
+            Err(ProductFault::Write(fault)) => Err(DialogueFault::Write(fault)),
+            Err(ProductFault::OutOfMemory) => Err(DialogueFault::OutOfMemory),
             // A report that is refused is answered by a line.
-            Err(WriteStop::Refused(_)) => unreachable!(),
+            Err(ProductFault::Refused(_)) => unreachable!(),
         }
     }
 

@@ -8,7 +8,7 @@ ghost use Rattle.hprof_ask.specs.Asks.{Asks, LetsAsk, PassesAnswersOn, fault_of_
 
 use crate::answerer::Answerer;
 use crate::ask_fault::AskFault;
-use crate::kept::Kept;
+use crate::cache::Cache;
 use hprof_devices::{Flush, Source};
 use hprof_engine::{AllSummaries, Summaries, ToolFault, read_heap};
 use hprof_heap::{Gatherer, Heap};
@@ -17,7 +17,7 @@ use hprof_stream::Limits;
 use std::alloc::Global;
 
 /// Does what [`ask_to`] does, and returns the heap: a program that ends need not free it row by row.
-pub fn ask_kept<R: Source, Q: Asker<W>, W: Flush>(
+pub fn ask_returning_heap<R: Source, Q: Asker<W>, W: Flush>(
     alloc: Global,
     readers: &mut [R],
     questions: &mut Q,
@@ -56,8 +56,8 @@ pub fn ask_kept<R: Source, Q: Asker<W>, W: Flush>(
         heap: &heap,
         summaries: &summaries,
     };
-    let mut kept = Kept::for_many();
-    match converse(alloc, &answerer, &mut kept, questions, target) {
+    let mut cache = Cache::for_many();
+    match converse(alloc, &answerer, &mut cache, questions, target) {
         Ok(()) => Ok(heap),
         Err(stop) => Err(AskFault::Dialogue(stop)),
     }
@@ -85,7 +85,7 @@ pub fn ask_to<R: Source, Q: Asker<W>, W: Flush>(
         questions.old questions.new target.old target.new (fault_of_asking result) }
     ensures flushed { PassesAnswersOn (fault_of_asking result) (W.flushed target.new) }
 {
-    match ask_kept(alloc, readers, questions, target, limits) {
+    match ask_returning_heap(alloc, readers, questions, target, limits) {
         Ok(_heap) => Ok(()),
         Err(fault) => Err(fault),
     }

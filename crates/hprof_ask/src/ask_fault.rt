@@ -1,7 +1,7 @@
 //! Why asking ended.
 
 use hprof_engine::ToolFault;
-use hprof_questions::DialogueStop;
+use hprof_questions::DialogueFault;
 use thiserror::Error;
 
 /// Why a call ended that reads parts and answers questions.
@@ -12,7 +12,7 @@ pub enum AskFault {
     Parts(ToolFault),
     /// The dialogue stopped.
     #[error("{0}")]
-    Dialogue(DialogueStop),
+    Dialogue(DialogueFault),
 }
 
 impl From<ToolFault> for AskFault {
@@ -26,13 +26,13 @@ impl From<ToolFault> for AskFault {
     }
 }
 
-impl From<DialogueStop> for AskFault {
+impl From<DialogueFault> for AskFault {
     ghost use Rattle.std.specs.Prelude.{◌≡◌};
     ghost use Rattle.hprof_ask.specs.declared.ask_fault.AskFault.TheVariants.{Dialogue};
 
     ghost from_gives = { λ stop given. given ≡ Dialogue stop };
 
-    fn from(stop: DialogueStop) -> AskFault {
+    fn from(stop: DialogueFault) -> AskFault {
         AskFault::Dialogue(stop)
     }
 }

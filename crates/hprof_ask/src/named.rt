@@ -8,15 +8,15 @@ ghost use Rattle.hprof_heap.specs.HeapFacts.{facts_of, size_of};
 ghost use Rattle.hprof_meaning.specs.MeantClasses.{AreMeantClasses, AreMeantDumps};
 ghost use Rattle.hprof_meaning.specs.NamedText.{IsNamedText};
 ghost use Rattle.hprof_lines.specs.Stopping.{LeavesTarget, WritesText};
-ghost use Rattle.hprof_ask.specs.Kept.{IsKept};
+ghost use Rattle.hprof_ask.specs.Cache.{IsCacheOf};
 ghost use Rattle.hprof_ask.specs.Report.{IsNamedKind, IsNamedReport, IsReportOfClasses, NamesClasses, RefusesReport};
 ghost use Rattle.hprof_questions.specs.declared.report.Kinds.TheVariants as these;
 ghost use Rattle.hprof_questions.specs.declared.report.Node.TheVariants as that;
 
 use crate::answerer::Answerer;
-use crate::kept::{Kept, kept_or_made};
+use crate::cache::{Cache, cached_or_made};
 use hprof_devices::Target;
-use hprof_engine::{ProductRefusal, WriteStop};
+use hprof_engine::{HeapFault, ProductFault};
 use hprof_heap::holds_of_heap;
 use hprof_keeps::Choice;
 use hprof_meaning::{
@@ -38,16 +38,16 @@ impl<'a> Answerer<'a> {
     fn classes_named(
         &self,
         alloc: Global,
-        kept: &mut Kept,
+        cache: &mut Cache,
         name: &[u8],
     ) -> Result<Vec<u64>, AllocError>
-        requires { IsKept (size_of self.now.heap.now) (facts_of self.now.heap.now) kept.old }
+        requires { IsCacheOf (size_of self.now.heap.now) (facts_of self.now.heap.now) cache.old }
         ensures classes { IfOk result (λ classes. AreMeantClasses (facts_of self.now.heap.now) name.now classes.items) }
-        ensures kept { IsKept (size_of self.now.heap.now) (facts_of self.now.heap.now) kept.new }
+        ensures kept { IsCacheOf (size_of self.now.heap.now) (facts_of self.now.heap.now) cache.new }
     {
-        let survey = kept_or_made(alloc, self.heap, kept.survey.take())?;
+        let survey = cached_or_made(alloc, self.heap, cache.survey.take())?;
         let classes = classes_meant(alloc, self.heap, &survey.classes, &MeantLabel::of(name));
-        kept.survey = Some(survey);
+        cache.survey = Some(survey);
         classes
     }
 
@@ -55,16 +55,16 @@ impl<'a> Answerer<'a> {
     fn dumps_named(
         &self,
         alloc: Global,
-        kept: &mut Kept,
+        cache: &mut Cache,
         name: &[u8],
     ) -> Result<Vec<u64>, AllocError>
-        requires { IsKept (size_of self.now.heap.now) (facts_of self.now.heap.now) kept.old }
+        requires { IsCacheOf (size_of self.now.heap.now) (facts_of self.now.heap.now) cache.old }
         ensures dumps { IfOk result (λ dumps. AreMeantDumps (facts_of self.now.heap.now) name.now dumps.items) }
-        ensures kept { IsKept (size_of self.now.heap.now) (facts_of self.now.heap.now) kept.new }
+        ensures kept { IsCacheOf (size_of self.now.heap.now) (facts_of self.now.heap.now) cache.new }
     {
-        let survey = kept_or_made(alloc, self.heap, kept.survey.take())?;
+        let survey = cached_or_made(alloc, self.heap, cache.survey.take())?;
         let dumps = class_dumps_meant(alloc, self.heap, &survey.classes, &MeantLabel::of(name));
-        kept.survey = Some(survey);
+        cache.survey = Some(survey);
         dumps
     }
 
@@ -72,20 +72,20 @@ impl<'a> Answerer<'a> {
     fn write_of_classes<W: Target>(
         &self,
         alloc: Global,
-        kept: &mut Kept,
+        cache: &mut Cache,
         report: KindReport,
         name: &[u8],
         classes: &[u64],
         target: &mut W,
-    ) -> Result<(), WriteStop>
+    ) -> Result<(), ProductFault>
         requires well { W.health target.old ≡ Well }
         requires ascend { IsStrictlyIncreasing classes.now }
-        requires kept { IsKept (size_of self.now.heap.now) (facts_of self.now.heap.now) kept.old }
+        requires kept { IsCacheOf (size_of self.now.heap.now) (facts_of self.now.heap.now) cache.old }
         ensures bytes { (text : List ℕ)
             × IsReportOfClasses (size_of self.now.heap.now) (facts_of self.now.heap.now) report name.now classes.now text
             × WritesText (W.written target.old) (W.written target.new) result text }
         ensures health { LeavesTarget result (W.health target.new) }
-        ensures kept { IsKept (size_of self.now.heap.now) (facts_of self.now.heap.now) kept.new }
+        ensures kept { IsCacheOf (size_of self.now.heap.now) (facts_of self.now.heap.now) cache.new }
     {
         match report {
             KindReport::Biggest => {
@@ -94,7 +94,7 @@ impl<'a> Answerer<'a> {
                     classes,
                     with_class_dumps,
                 };
-                self.write_biggest(alloc, kept, choice, target)
+                self.write_biggest(alloc, cache, choice, target)
             }
             KindReport::Objects => write_objects_of_classes(alloc, self.heap, classes, target),
         }
@@ -105,46 +105,46 @@ impl<'a> Answerer<'a> {
     pub(crate) fn write_kind_named<W: Target>(
         &self,
         alloc: Global,
-        kept: &mut Kept,
+        cache: &mut Cache,
         report: KindReport,
         name: &[u8],
         target: &mut W,
-    ) -> Result<(), WriteStop>
+    ) -> Result<(), ProductFault>
         requires well { W.health target.old ≡ Well }
-        requires kept { IsKept (size_of self.now.heap.now) (facts_of self.now.heap.now) kept.old }
+        requires kept { IsCacheOf (size_of self.now.heap.now) (facts_of self.now.heap.now) cache.old }
         ensures ends { EndsWriting W.written W.health (IsNamedKind (size_of self.now.heap.now) (facts_of self.now.heap.now) report name.now)
             (RefusesReport (facts_of self.now.heap.now) (Report.Kind report (these.Named name.entry))) ⊤ target.old target.new result }
-        ensures kept { IsKept (size_of self.now.heap.now) (facts_of self.now.heap.now) kept.new }
+        ensures kept { IsCacheOf (size_of self.now.heap.now) (facts_of self.now.heap.now) cache.new }
     {
         holds_of_heap(self.heap);
-        let Ok(classes) = self.classes_named(alloc, kept, name) else {
-            return Err(WriteStop::OutOfMemory);
+        let Ok(classes) = self.classes_named(alloc, cache, name) else {
+            return Err(ProductFault::OutOfMemory);
         };
         if classes.is_empty() && !names_classes(name) {
-            return Err(WriteStop::Refused(ProductRefusal::NoClass));
+            return Err(ProductFault::Refused(HeapFault::NoClass));
         }
-        self.write_of_classes(alloc, kept, report, name, &classes, target)
+        self.write_of_classes(alloc, cache, report, name, &classes, target)
     }
 
     /// Writes which classes have the name that was asked for.
     fn write_which<W: Target>(
         &self,
         alloc: Global,
-        kept: &mut Kept,
+        cache: &mut Cache,
         dumps: &[u64],
         target: &mut W,
-    ) -> Result<(), WriteStop>
+    ) -> Result<(), ProductFault>
         requires well { W.health target.old ≡ Well }
-        requires kept { IsKept (size_of self.now.heap.now) (facts_of self.now.heap.now) kept.old }
+        requires kept { IsCacheOf (size_of self.now.heap.now) (facts_of self.now.heap.now) cache.old }
         ensures bytes { (text : List ℕ) × IsNamedText (size_of self.now.heap.now) (facts_of self.now.heap.now) dumps.now text
             × WritesText (W.written target.old) (W.written target.new) result text }
         ensures health { LeavesTarget result (W.health target.new) }
-        ensures kept { IsKept (size_of self.now.heap.now) (facts_of self.now.heap.now) kept.new }
+        ensures kept { IsCacheOf (size_of self.now.heap.now) (facts_of self.now.heap.now) cache.new }
     {
         holds_of_heap(self.heap);
-        let survey = kept_or_made(alloc, self.heap, kept.survey.take())?;
+        let survey = cached_or_made(alloc, self.heap, cache.survey.take())?;
         let outcome = write_classes_of_name(alloc, self.heap, &survey.classes, dumps, target);
-        kept.survey = Some(survey);
+        cache.survey = Some(survey);
         outcome
     }
 
@@ -152,29 +152,29 @@ impl<'a> Answerer<'a> {
     pub(crate) fn write_node_named<W: Target>(
         &self,
         alloc: Global,
-        kept: &mut Kept,
+        cache: &mut Cache,
         report: NodeReport,
         name: &[u8],
         target: &mut W,
-    ) -> Result<(), WriteStop>
+    ) -> Result<(), ProductFault>
         requires well { W.health target.old ≡ Well }
-        requires kept { IsKept (size_of self.now.heap.now) (facts_of self.now.heap.now) kept.old }
+        requires kept { IsCacheOf (size_of self.now.heap.now) (facts_of self.now.heap.now) cache.old }
         ensures ends { EndsWriting W.written W.health
             (IsNamedReport (size_of self.now.heap.now) (facts_of self.now.heap.now) report name.now)
             (RefusesReport (facts_of self.now.heap.now) (Report.Node report (that.Named name.entry))) ⊤ target.old target.new result }
-        ensures kept { IsKept (size_of self.now.heap.now) (facts_of self.now.heap.now) kept.new }
+        ensures kept { IsCacheOf (size_of self.now.heap.now) (facts_of self.now.heap.now) cache.new }
     {
         holds_of_heap(self.heap);
-        let Ok(dumps) = self.dumps_named(alloc, kept, name) else {
-            return Err(WriteStop::OutOfMemory);
+        let Ok(dumps) = self.dumps_named(alloc, cache, name) else {
+            return Err(ProductFault::OutOfMemory);
         };
         let Some((first, others)) = dumps.split_first() else {
-            return Err(WriteStop::Refused(ProductRefusal::NoClass));
+            return Err(ProductFault::Refused(HeapFault::NoClass));
         };
         if others.is_empty() {
-            self.write_node_report(alloc, kept, report, *first, target)
+            self.write_node_report(alloc, cache, report, *first, target)
         } else {
-            self.write_which(alloc, kept, &dumps, target)
+            self.write_which(alloc, cache, &dumps, target)
         }
     }
 }

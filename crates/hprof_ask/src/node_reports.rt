@@ -11,15 +11,15 @@ ghost use Rattle.hprof_show.specs.ShowText.{IsShowText};
 ghost use Rattle.hprof_holders.specs.WhoText.{IsWhoText};
 ghost use Rattle.hprof_keeps.specs.KeepsText.{IsKeepsText};
 ghost use Rattle.hprof_why.specs.WhyText.{IsWhyText};
-ghost use Rattle.hprof_ask.specs.Kept.{IsKept};
+ghost use Rattle.hprof_ask.specs.Cache.{IsCacheOf};
 ghost use Rattle.hprof_ask.specs.Report.{IsNodeReport};
 
 use crate::answerer::Answerer;
-use crate::kept::{Kept, kept_or_made, retained_or_made};
+use crate::cache::{Cache, cached_or_made, retained_or_made};
 use crate::survey::view_of;
 use hprof_devices::Target;
 use hprof_edges::{Edge, referrers};
-use hprof_engine::WriteStop;
+use hprof_engine::ProductFault;
 use hprof_heap::holds_of_heap;
 use hprof_holders::write_who;
 use hprof_keeps::write_keeps;
@@ -31,17 +31,17 @@ use std::alloc::{AllocError, Global};
 
 impl<'a> Answerer<'a> {
     /// Returns each edge to an identifier, in order; for one of many reports from the index that is kept.
-    fn edges_to(&self, alloc: Global, kept: &mut Kept, id: u64) -> Result<Vec<Edge>, AllocError>
-        requires { IsKept (size_of self.now.heap.now) (facts_of self.now.heap.now) kept.old }
+    fn edges_to(&self, alloc: Global, cache: &mut Cache, id: u64) -> Result<Vec<Edge>, AllocError>
+        requires { IsCacheOf (size_of self.now.heap.now) (facts_of self.now.heap.now) cache.old }
         ensures edges { IfOk result (λ edges. AreReferrers (size_of self.now.heap.now) (facts_of self.now.heap.now) id edges.items) }
-        ensures kept { IsKept (size_of self.now.heap.now) (facts_of self.now.heap.now) kept.new }
+        ensures kept { IsCacheOf (size_of self.now.heap.now) (facts_of self.now.heap.now) cache.new }
     {
-        if !kept.is_for_many {
+        if !cache.is_for_many {
             return referrers(alloc, self.heap, id);
         }
-        let index = kept_or_made(alloc, self.heap, kept.referrers.take())?;
+        let index = cached_or_made(alloc, self.heap, cache.referrers.take())?;
         let edges = index.referrers(alloc, self.heap, id);
-        kept.referrers = Some(index);
+        cache.referrers = Some(index);
         edges
     }
 
@@ -49,19 +49,19 @@ impl<'a> Answerer<'a> {
     fn write_refs<W: Target>(
         &self,
         alloc: Global,
-        kept: &mut Kept,
+        cache: &mut Cache,
         id: u64,
         target: &mut W,
-    ) -> Result<(), WriteStop>
+    ) -> Result<(), ProductFault>
         requires well { W.health target.old ≡ Well }
-        requires kept { IsKept (size_of self.now.heap.now) (facts_of self.now.heap.now) kept.old }
+        requires kept { IsCacheOf (size_of self.now.heap.now) (facts_of self.now.heap.now) cache.old }
         ensures bytes { (text : List ℕ) × IsRefsText (size_of self.now.heap.now) (facts_of self.now.heap.now) id text
             × WritesText (W.written target.old) (W.written target.new) result text }
         ensures health { LeavesTarget result (W.health target.new) }
-        ensures kept { IsKept (size_of self.now.heap.now) (facts_of self.now.heap.now) kept.new }
+        ensures kept { IsCacheOf (size_of self.now.heap.now) (facts_of self.now.heap.now) cache.new }
     {
         holds_of_heap(self.heap);
-        let edges = self.edges_to(alloc, kept, id)?;
+        let edges = self.edges_to(alloc, cache, id)?;
         write_refs(alloc, self.heap, &edges, target)
     }
 
@@ -69,21 +69,21 @@ impl<'a> Answerer<'a> {
     fn write_path<W: Target>(
         &self,
         alloc: Global,
-        kept: &mut Kept,
+        cache: &mut Cache,
         id: u64,
         target: &mut W,
-    ) -> Result<(), WriteStop>
+    ) -> Result<(), ProductFault>
         requires well { W.health target.old ≡ Well }
-        requires kept { IsKept (size_of self.now.heap.now) (facts_of self.now.heap.now) kept.old }
+        requires kept { IsCacheOf (size_of self.now.heap.now) (facts_of self.now.heap.now) cache.old }
         ensures bytes { (text : List ℕ) × IsPathText (size_of self.now.heap.now) (facts_of self.now.heap.now) id text
             × WritesText (W.written target.old) (W.written target.new) result text }
         ensures health { LeavesTarget result (W.health target.new) }
-        ensures kept { IsKept (size_of self.now.heap.now) (facts_of self.now.heap.now) kept.new }
+        ensures kept { IsCacheOf (size_of self.now.heap.now) (facts_of self.now.heap.now) cache.new }
     {
         holds_of_heap(self.heap);
-        let reach = kept_or_made(alloc, self.heap, kept.reach.take())?;
+        let reach = cached_or_made(alloc, self.heap, cache.reach.take())?;
         let outcome = write_path(alloc, &reach, id, target);
-        kept.reach = Some(reach);
+        cache.reach = Some(reach);
         outcome
     }
 
@@ -91,21 +91,21 @@ impl<'a> Answerer<'a> {
     fn write_show<W: Target>(
         &self,
         alloc: Global,
-        kept: &mut Kept,
+        cache: &mut Cache,
         id: u64,
         target: &mut W,
-    ) -> Result<(), WriteStop>
+    ) -> Result<(), ProductFault>
         requires well { W.health target.old ≡ Well }
-        requires kept { IsKept (size_of self.now.heap.now) (facts_of self.now.heap.now) kept.old }
+        requires kept { IsCacheOf (size_of self.now.heap.now) (facts_of self.now.heap.now) cache.old }
         ensures bytes { (text : List ℕ) × IsShowText (size_of self.now.heap.now) (facts_of self.now.heap.now) id text
             × WritesText (W.written target.old) (W.written target.new) result text }
         ensures health { LeavesTarget result (W.health target.new) }
-        ensures kept { IsKept (size_of self.now.heap.now) (facts_of self.now.heap.now) kept.new }
+        ensures kept { IsCacheOf (size_of self.now.heap.now) (facts_of self.now.heap.now) cache.new }
     {
         holds_of_heap(self.heap);
-        let survey = kept_or_made(alloc, self.heap, kept.survey.take())?;
+        let survey = cached_or_made(alloc, self.heap, cache.survey.take())?;
         let outcome = write_show(alloc, self.heap, &survey.classes, id, target);
-        kept.survey = Some(survey);
+        cache.survey = Some(survey);
         outcome
     }
 
@@ -113,25 +113,25 @@ impl<'a> Answerer<'a> {
     fn write_who<W: Target>(
         &self,
         alloc: Global,
-        kept: &mut Kept,
+        cache: &mut Cache,
         id: u64,
         target: &mut W,
-    ) -> Result<(), WriteStop>
+    ) -> Result<(), ProductFault>
         requires well { W.health target.old ≡ Well }
-        requires kept { IsKept (size_of self.now.heap.now) (facts_of self.now.heap.now) kept.old }
+        requires kept { IsCacheOf (size_of self.now.heap.now) (facts_of self.now.heap.now) cache.old }
         ensures bytes { (text : List ℕ) × IsWhoText (size_of self.now.heap.now) (facts_of self.now.heap.now) id text
             × WritesText (W.written target.old) (W.written target.new) result text }
         ensures health { LeavesTarget result (W.health target.new) }
-        ensures kept { IsKept (size_of self.now.heap.now) (facts_of self.now.heap.now) kept.new }
+        ensures kept { IsCacheOf (size_of self.now.heap.now) (facts_of self.now.heap.now) cache.new }
     {
         holds_of_heap(self.heap);
-        let edges = self.edges_to(alloc, kept, id)?;
-        let survey = kept_or_made(alloc, self.heap, kept.survey.take())?;
-        let references = kept_or_made(alloc, self.heap, kept.references.take())?;
+        let edges = self.edges_to(alloc, cache, id)?;
+        let survey = cached_or_made(alloc, self.heap, cache.survey.take())?;
+        let references = cached_or_made(alloc, self.heap, cache.references.take())?;
         let view = view_of(self.heap, &survey, &references);
         let outcome = write_who(alloc, view, id, &edges, target);
-        kept.survey = Some(survey);
-        kept.references = Some(references);
+        cache.survey = Some(survey);
+        cache.references = Some(references);
         outcome
     }
 
@@ -139,34 +139,34 @@ impl<'a> Answerer<'a> {
     fn write_keeps<W: Target>(
         &self,
         alloc: Global,
-        kept: &mut Kept,
+        cache: &mut Cache,
         id: u64,
         target: &mut W,
-    ) -> Result<(), WriteStop>
+    ) -> Result<(), ProductFault>
         requires well { W.health target.old ≡ Well }
-        requires kept { IsKept (size_of self.now.heap.now) (facts_of self.now.heap.now) kept.old }
+        requires kept { IsCacheOf (size_of self.now.heap.now) (facts_of self.now.heap.now) cache.old }
         ensures bytes { (text : List ℕ) × IsKeepsText (size_of self.now.heap.now) (facts_of self.now.heap.now) id text
             × WritesText (W.written target.old) (W.written target.new) result text }
         ensures health { LeavesTarget result (W.health target.new) }
-        ensures kept { IsKept (size_of self.now.heap.now) (facts_of self.now.heap.now) kept.new }
+        ensures kept { IsCacheOf (size_of self.now.heap.now) (facts_of self.now.heap.now) cache.new }
     {
         holds_of_heap(self.heap);
-        let survey = kept_or_made(alloc, self.heap, kept.survey.take())?;
-        let references = kept_or_made(alloc, self.heap, kept.references.take())?;
-        let retained = retained_or_made(alloc, self.heap, &references.weak, kept.retained.take())?;
+        let survey = cached_or_made(alloc, self.heap, cache.survey.take())?;
+        let references = cached_or_made(alloc, self.heap, cache.references.take())?;
+        let retained = retained_or_made(alloc, self.heap, &references.weak, cache.retained.take())?;
         let outcome = write_keeps(
             alloc,
             self.heap,
             &survey.classes,
             &references.weak,
             &retained,
-            &mut kept.weakly,
+            &mut cache.weakly,
             id,
             target,
         );
-        kept.survey = Some(survey);
-        kept.references = Some(references);
-        kept.retained = Some(retained);
+        cache.survey = Some(survey);
+        cache.references = Some(references);
+        cache.retained = Some(retained);
         outcome
     }
 
@@ -174,26 +174,26 @@ impl<'a> Answerer<'a> {
     fn write_why<W: Target>(
         &self,
         alloc: Global,
-        kept: &mut Kept,
+        cache: &mut Cache,
         id: u64,
         target: &mut W,
-    ) -> Result<(), WriteStop>
+    ) -> Result<(), ProductFault>
         requires well { W.health target.old ≡ Well }
-        requires kept { IsKept (size_of self.now.heap.now) (facts_of self.now.heap.now) kept.old }
+        requires kept { IsCacheOf (size_of self.now.heap.now) (facts_of self.now.heap.now) cache.old }
         ensures bytes { (text : List ℕ) × IsWhyText (size_of self.now.heap.now) (facts_of self.now.heap.now) id text
             × WritesText (W.written target.old) (W.written target.new) result text }
         ensures health { LeavesTarget result (W.health target.new) }
-        ensures kept { IsKept (size_of self.now.heap.now) (facts_of self.now.heap.now) kept.new }
+        ensures kept { IsCacheOf (size_of self.now.heap.now) (facts_of self.now.heap.now) cache.new }
     {
         holds_of_heap(self.heap);
-        let survey = kept_or_made(alloc, self.heap, kept.survey.take())?;
-        let mut references = kept_or_made(alloc, self.heap, kept.references.take())?;
+        let survey = cached_or_made(alloc, self.heap, cache.survey.take())?;
+        let mut references = cached_or_made(alloc, self.heap, cache.references.take())?;
         let strong = references.take_strong(alloc, self.heap)?;
         let view = view_of(self.heap, &survey, &references);
-        let outcome = write_why(alloc, view, &strong, &mut kept.reach, id, target);
+        let outcome = write_why(alloc, view, &strong, &mut cache.reach, id, target);
         references.strong = Some(strong);
-        kept.survey = Some(survey);
-        kept.references = Some(references);
+        cache.survey = Some(survey);
+        cache.references = Some(references);
         outcome
     }
 
@@ -201,27 +201,27 @@ impl<'a> Answerer<'a> {
     pub(crate) fn write_node_report<W: Target>(
         &self,
         alloc: Global,
-        kept: &mut Kept,
+        cache: &mut Cache,
         report: NodeReport,
         id: u64,
         target: &mut W,
-    ) -> Result<(), WriteStop>
+    ) -> Result<(), ProductFault>
         requires well { W.health target.old ≡ Well }
-        requires kept { IsKept (size_of self.now.heap.now) (facts_of self.now.heap.now) kept.old }
+        requires kept { IsCacheOf (size_of self.now.heap.now) (facts_of self.now.heap.now) cache.old }
         ensures bytes { (text : List ℕ) × IsNodeReport (size_of self.now.heap.now) (facts_of self.now.heap.now) report id text
             × WritesText (W.written target.old) (W.written target.new) result text }
         ensures health { LeavesTarget result (W.health target.new) }
-        ensures kept { IsKept (size_of self.now.heap.now) (facts_of self.now.heap.now) kept.new }
+        ensures kept { IsCacheOf (size_of self.now.heap.now) (facts_of self.now.heap.now) cache.new }
     {
         match report {
-            NodeReport::Show => self.write_show(alloc, kept, id, target),
-            NodeReport::Why => self.write_why(alloc, kept, id, target),
-            NodeReport::Who => self.write_who(alloc, kept, id, target),
-            NodeReport::Keeps => self.write_keeps(alloc, kept, id, target),
+            NodeReport::Show => self.write_show(alloc, cache, id, target),
+            NodeReport::Why => self.write_why(alloc, cache, id, target),
+            NodeReport::Who => self.write_who(alloc, cache, id, target),
+            NodeReport::Keeps => self.write_keeps(alloc, cache, id, target),
             NodeReport::Text => write_text(alloc, self.heap, id, target),
             NodeReport::Object => write_object(alloc, self.heap, id, target),
-            NodeReport::Refs => self.write_refs(alloc, kept, id, target),
-            NodeReport::Path => self.write_path(alloc, kept, id, target),
+            NodeReport::Refs => self.write_refs(alloc, cache, id, target),
+            NodeReport::Path => self.write_path(alloc, cache, id, target),
         }
     }
 }

@@ -3,9 +3,9 @@
 ghost use Rattle.std.specs.Prelude.{◌∷◌, []};
 
 use crate::answerer::Answerer;
-use crate::kept::Kept;
+use crate::cache::Cache;
 use hprof_devices::Target;
-use hprof_engine::{Product, Summaries, WriteStop};
+use hprof_engine::{Product, ProductFault, Summaries};
 use hprof_heap::Heap;
 use hprof_questions::{HeapReport, Report};
 use hprof_stream::PartSummary;
@@ -29,7 +29,7 @@ impl Summaries for Reporting<'_> {
 
     ghost takes_room = { λ it. TakesRoom it.report };
 
-    type Kept = Vec<PartSummary>;
+    type Cache = Vec<PartSummary>;
 
     fn with_room(&self, alloc: Global, parts: usize) -> Result<Vec<PartSummary>, AllocError> {
         match self.report {
@@ -64,12 +64,12 @@ impl Product for Reporting<'_> {
         kept: &Vec<PartSummary>,
         heap: &Heap,
         target: &mut W,
-    ) -> Result<(), WriteStop> {
+    ) -> Result<(), ProductFault> {
         let answerer = Answerer {
             heap,
             summaries: kept,
         };
-        answerer.write(alloc, &mut Kept::for_one(), self.report, target)
+        answerer.write(alloc, &mut Cache::for_one(), self.report, target)
     }
 
     ghost one_text = { λ it summaries heap. one_report summaries heap.ids heap.facts it.report };

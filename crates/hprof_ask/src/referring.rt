@@ -7,11 +7,11 @@ ghost use Rattle.hprof_heap.specs.HeapFacts.{facts_of, size_of};
 ghost use Rattle.hprof_holders.specs.WhoText.{IsWhoText};
 ghost use Rattle.hprof_lines.specs.Stopping.{LeavesTarget, WritesText};
 
-use crate::kept::OfHeap;
+use crate::cache::OfHeap;
 use crate::survey::{References, Survey, view_of};
 use hprof_devices::Target;
 use hprof_edges::Edge;
-use hprof_engine::WriteStop;
+use hprof_engine::ProductFault;
 use hprof_heap::{Heap, holds_of_heap};
 use hprof_holders::write_who;
 use std::alloc::Global;
@@ -24,7 +24,7 @@ pub(crate) fn write_who_once<W: Target>(
     id: u64,
     edges: &[Edge],
     target: &mut W,
-) -> Result<(), WriteStop>
+) -> Result<(), ProductFault>
     requires edges { AreReferrers (size_of heap.now) (facts_of heap.now) id edges.now }
     requires well { W.health target.old ≡ Well }
     ensures bytes { (text : List ℕ) × IsWhoText (size_of heap.now) (facts_of heap.now) id text

@@ -7,7 +7,7 @@ ghost use Rattle.hprof_holders.specs.Views.{IsView};
 ghost use Rattle.hprof_reach.specs.Reaching.{IsReachBy};
 ghost use Rattle.hprof_ask.specs.Surveys.{AreReferences, IsSurvey};
 
-use crate::kept::OfHeap;
+use crate::cache::OfHeap;
 use hprof_edges::LeftOut;
 use hprof_heap::Heap;
 use hprof_holders::HeapView;

@@ -11,7 +11,7 @@ use crate::label_sink::LabelSink;
 use crate::node_labels::NodeLabels;
 use hprof_heap::{Heap, holds_of_heap};
 use hprof_naming::ClassNames;
-use hprof_passes::{InHeap, Objects, PassStop};
+use hprof_passes::{InHeap, Objects, PassFault};
 use hprof_retained::Retained;
 use std::alloc::{AllocError, Global};
 
@@ -31,7 +31,7 @@ pub fn labels_over<O: Objects>(
     objects: &O,
     names: &ClassNames,
     retained: &Retained,
-) -> Result<NodeLabels, PassStop<AllocError, O::Fault>>
+) -> Result<NodeLabels, PassFault<AllocError, O::Fault>>
     requires { AreClassNames (facts_of heap.now) names.now }
     ensures as_many { IfOk result (λ labels. place_count labels ≡ count_of retained.now) }
     ensures labels { Finds (O.make_up objects.now (size_of heap.now) (facts_of heap.now))
@@ -42,7 +42,7 @@ pub fn labels_over<O: Objects>(
     holds_of_heap(heap);
     let mut sink = match LabelSink::new(alloc, heap, names, retained) {
         Ok(sink) => sink,
-        Err(fault) => return Err(PassStop::Sink(fault)),
+        Err(fault) => return Err(PassFault::Sink(fault)),
     };
     match objects.pass(alloc, heap, &mut sink) {
         Ok(()) => {}
@@ -51,7 +51,7 @@ pub fn labels_over<O: Objects>(
     // What a pass does to its sink is said only of objects that make up a heap, so `finish` compares the number of places.
     match sink.finish(retained.len()) {
         Ok(labels) => Ok(labels),
-        Err(fault) => Err(PassStop::Sink(fault)),
+        Err(fault) => Err(PassFault::Sink(fault)),
     }
 }
 

@@ -11,7 +11,7 @@ ghost use Rattle.hprof_passes.specs.Finding.{Finds};
 ghost use Rattle.hprof_naming.specs.ClassNames.{AreClassNames};
 ghost use Rattle.hprof_lines.specs.Passed.{EndsPassed};
 ghost use Rattle.hprof_lines.specs.Stopping.{LeavesTarget, WritesText};
-ghost use Rattle.hprof_retained.specs.KeptReferences.{AreKeptReferences};
+ghost use Rattle.hprof_retained.specs.CachedReferences.{AreCachedReferences};
 ghost use Rattle.hprof_retained.specs.Tree.{IsTreeOf, count_of};
 ghost use Rattle.hprof_by_label.specs.Labels.{AreNodeLabels, HaveSizes, place_count};
 ghost use Rattle.hprof_by_label.specs.RetainedText.{IsRetainedText, row_line};
@@ -22,12 +22,12 @@ use crate::node_labels::NodeLabels;
 use crate::row::Row;
 use crate::rows::rows_in;
 use hprof_devices::Target;
-use hprof_engine::WriteStop;
+use hprof_engine::ProductFault;
 use hprof_heap::{Heap, holds_of_heap};
 use hprof_lines::{stop_of_pass, write_line};
 use hprof_naming::ClassNames;
-use hprof_passes::{Objects, PassStop};
-use hprof_retained::{KeptReferences, Retained};
+use hprof_passes::{Objects, PassFault};
+use hprof_retained::{CachedReferences, Retained};
 use std::alloc::{AllocError, Global};
 
 /// Returns the line of a row. If memory runs out, the answer is `AllocError`.
@@ -42,7 +42,11 @@ fn row_line(alloc: Global, row: &Row<'_>) -> Result<String, AllocError>
 }
 
 /// Writes the lines of rows. If it stops, some of them were written, from the front.
-fn write_rows<W: Target>(alloc: Global, rows: &[Row<'_>], target: &mut W) -> Result<(), WriteStop>
+fn write_rows<W: Target>(
+    alloc: Global,
+    rows: &[Row<'_>],
+    target: &mut W,
+) -> Result<(), ProductFault>
     requires { W.health target.old ≡ Well }
     ensures bytes { WritesText (W.written target.old) (W.written target.new) result (flat_map row_line (map row_value rows.now)) }
     ensures health { LeavesTarget result (W.health target.new) }
@@ -59,7 +63,7 @@ fn write_labels<W: Target>(
     retained: &Retained,
     labels: &NodeLabels,
     target: &mut W,
-) -> Result<(), WriteStop>
+) -> Result<(), ProductFault>
     requires as_many { place_count labels.now ≡ count_of retained.now }
     requires well { W.health target.old ≡ Well }
     ensures bytes { (ids : IdSize) (facts : List FactValue) → IsConsistent facts → IsTreeOf ids facts retained.now
@@ -79,7 +83,7 @@ pub fn write_retained<W: Target>(
     names: &ClassNames,
     retained: &Retained,
     target: &mut W,
-) -> Result<(), WriteStop>
+) -> Result<(), ProductFault>
     requires names { AreClassNames (facts_of heap.now) names.now }
     requires retained { IsTreeOf (size_of heap.now) (facts_of heap.now) retained.now }
     requires well { W.health target.old ≡ Well }
@@ -104,9 +108,9 @@ fn labelled_tree<O: Objects>(
     alloc: Global,
     heap: &Heap,
     objects: &O,
-    references: &mut KeptReferences,
-) -> Result<LabelledTree, PassStop<AllocError, O::Fault>>
-    requires references { AreKeptReferences (O.make_up objects.now (size_of heap.now) (facts_of heap.now))
+    references: &mut CachedReferences,
+) -> Result<LabelledTree, PassFault<AllocError, O::Fault>>
+    requires references { AreCachedReferences (O.make_up objects.now (size_of heap.now) (facts_of heap.now))
         (O.agree objects.now (size_of heap.now) (facts_of heap.now)) (size_of heap.now) references.old }
     ensures as_many { IfOk result (λ made. place_count made.labels ≡ count_of made.retained) }
     ensures made { Finds (O.make_up objects.now (size_of heap.now) (facts_of heap.now))
@@ -114,11 +118,11 @@ fn labelled_tree<O: Objects>(
         (O.tells objects.now (size_of heap.now) (facts_of heap.now))
         (λ all made. IsTreeOf (size_of heap.now) all made.retained × AreNodeLabels all made.retained made.labels
         × HaveSizes (size_of heap.now) all made.retained made.labels) result }
-    ensures references { AreKeptReferences (O.make_up objects.now (size_of heap.now) (facts_of heap.now))
+    ensures references { AreCachedReferences (O.make_up objects.now (size_of heap.now) (facts_of heap.now))
         (O.agree objects.now (size_of heap.now) (facts_of heap.now)) (size_of heap.now) references.new }
 {
     let Ok(names) = ClassNames::of(alloc, heap) else {
-        return Err(PassStop::Sink(AllocError));
+        return Err(PassFault::Sink(AllocError));
     };
     let retained = match references.take_retained(alloc, heap, objects) {
         Ok(retained) => retained,
@@ -144,16 +148,16 @@ pub fn write_retained_over<O: Objects, W: Target>(
     alloc: Global,
     heap: &Heap,
     objects: &O,
-    references: &mut KeptReferences,
+    references: &mut CachedReferences,
     target: &mut W,
-) -> Result<(), PassStop<WriteStop, O::Fault>>
-    requires references { AreKeptReferences (O.make_up objects.now (size_of heap.now) (facts_of heap.now))
+) -> Result<(), PassFault<ProductFault, O::Fault>>
+    requires references { AreCachedReferences (O.make_up objects.now (size_of heap.now) (facts_of heap.now))
         (O.agree objects.now (size_of heap.now) (facts_of heap.now)) (size_of heap.now) references.old }
     requires well { W.health target.old ≡ Well }
     ensures ends { EndsPassed (O.make_up objects.now (size_of heap.now) (facts_of heap.now))
         (O.agree objects.now (size_of heap.now) (facts_of heap.now)) (O.tells objects.now (size_of heap.now) (facts_of heap.now))
         (IsRetainedText (size_of heap.now)) W.written W.health target.old target.new result }
-    ensures references { AreKeptReferences (O.make_up objects.now (size_of heap.now) (facts_of heap.now))
+    ensures references { AreCachedReferences (O.make_up objects.now (size_of heap.now) (facts_of heap.now))
         (O.agree objects.now (size_of heap.now) (facts_of heap.now)) (size_of heap.now) references.new }
 {
     let LabelledTree { retained, labels } = match labelled_tree(alloc, heap, objects, references) {
@@ -164,6 +168,6 @@ pub fn write_retained_over<O: Objects, W: Target>(
     references.keep_retained(retained);
     match outcome {
         Ok(()) => Ok(()),
-        Err(stop) => Err(PassStop::Sink(stop)),
+        Err(stop) => Err(PassFault::Sink(stop)),
     }
 }

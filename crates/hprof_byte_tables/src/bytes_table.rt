@@ -14,7 +14,7 @@ ghost use Rattle.hprof_tables.specs.SortedTable.{entries_of, entries_left};
 use crate::framed_rows::{Front, Span, StatedBytes, append_rows};
 use crate::lent_bytes::LentBytes;
 use hprof_tables::{
-    Entries, Finger, SortedTable, Stated, first_difference, missing_rows, same_rows,
+    Cursor, Entries, SortedTable, Stated, first_difference, missing_rows, same_rows,
 };
 use std::alloc::{AllocError, Global};
 
@@ -46,6 +46,15 @@ impl BytesTable {
             bytes: Vec::new(alloc),
             alloc,
         }
+    }
+
+    /// Returns a table with the same rows. If memory runs out, the answer is `AllocError`.
+    pub fn copied(&self, alloc: Global) -> Result<Self, AllocError>
+        ensures { IfOk result (λ table. byte_rows table ≡ byte_rows self.now) }
+    {
+        let bytes = Vec::from_slice(alloc, &self.bytes)?;
+        let rows = self.rows.copied(alloc)?;
+        Ok(BytesTable { rows, bytes, alloc })
     }
 
     /// States a row under a key, as [`BytesTable::state`] does.
@@ -88,7 +97,7 @@ impl BytesTable {
 
     /// States bytes under a key, as [`BytesTable::state`] does. The first byte is given separately.
     #[inline(always)]
-    pub fn state_apart(&mut self, key: u64, first: u8, rest: &[u8]) -> Result<Stated, AllocError>
+    pub fn state_split(&mut self, key: u64, first: u8, rest: &[u8]) -> Result<Stated, AllocError>
         ensures ok { IfOk result (λ stated. States the_bytes (byte_rows self.old) key (first ∷ rest.now) stated (byte_rows self.new)) }
         ensures err { OnErr result (byte_rows self.new ≡ byte_rows self.old) }
         ensures absent { OnErr result (lookup (is_at (nat_cmp key)) (byte_rows self.old) ≡ None) }
@@ -107,7 +116,7 @@ impl BytesTable {
     }
 
     /// States bytes under a key, as [`BytesTable::state`] does. The first four bytes are given separately.
-    pub fn state_four_apart(
+    pub fn state_prefixed(
         &mut self,
         key: u64,
         front: [u8; 4],
@@ -134,13 +143,13 @@ impl BytesTable {
     pub fn get(&self, key: u64) -> Option<&[u8]>
         ensures { option_copied result ≡ lookup (is_at (nat_cmp key)) (byte_rows self.now) }
     {
-        self.get_near(key, &mut Finger::start())
+        self.get_near(key, &mut Cursor::start())
     }
 
-    /// Returns the bytes under a key, looking near the finger first, and moves the finger there. Keys that are asked for in order are found
+    /// Returns the bytes under a key, looking near the cursor first, and moves the cursor there. Keys that are asked for in order are found
     /// one after the other.
     #[inline(always)]
-    pub fn get_near(&self, key: u64, near: &mut Finger) -> Option<&[u8]>
+    pub fn get_near(&self, key: u64, near: &mut Cursor) -> Option<&[u8]>
         ensures { option_copied result ≡ lookup (is_at (nat_cmp key)) (byte_rows self.now) }
     {
         let span = self.rows.get_near(key, near)?;

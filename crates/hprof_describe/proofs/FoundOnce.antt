@@ -6,9 +6,9 @@ use Rattle.hprof_items.specs.FactValue.{FactValue}
 use Rattle.hprof_rows.specs.Conflict.{IsConsistent}
 use Rattle.hprof_heap.specs.declared.class_dump.ClassDump.{ClassDump}
 use Rattle.hprof_heap.specs.declared.object_dump.ObjectDump.{ObjectDump}
-use Rattle.hprof_heap.specs.ClassDump.{IsFoundClass, class_value}
+use Rattle.hprof_heap.specs.ClassDump.{AnswersClass, class_value}
 use Rattle.hprof_heap.specs.Classes.{ClassValue}
-use Rattle.hprof_heap.specs.ObjectDump.{IsFoundObject, fact_of_object}
+use Rattle.hprof_heap.specs.ObjectDump.{AnswersObject, fact_of_object}
 use Rattle.hprof_naming.specs.Texts.{IsText, TextValue}
 use Rattle.hprof_naming.proofs.Lookups.{class_is_found, class_once, object_is_found, object_once}
 use Rattle.hprof_naming.proofs.OneText.{text_once}
@@ -22,11 +22,11 @@ module _ (ids : IdSize) (facts : List FactValue) (agree : IsConsistent facts) (f
     (id : ℕ) where
   -- ---- the answers
 
-  pub class_found : (row : Option ClassDump) → IsFoundClass ids facts id row → option_map class_value row ≡ found.class id
+  pub class_found : (row : Option ClassDump) → AnswersClass ids facts id row → option_map class_value row ≡ found.class id
   class_found row is =
       class_once facts agree id (option_map class_value row) (found.class id) (class_is_found ids facts id row is) (are.classes id)
 
-  pub object_found : (row : Option ObjectDump) → IsFoundObject ids facts id row → option_map fact_of_object row ≡ found.object id
+  pub object_found : (row : Option ObjectDump) → AnswersObject ids facts id row → option_map fact_of_object row ≡ found.object id
   object_found row is =
       object_once facts agree id (option_map fact_of_object row) (found.object id) (object_is_found ids facts id row is) (are.objects id)
 
@@ -38,16 +38,16 @@ module _ (ids : IdSize) (facts : List FactValue) (agree : IsConsistent facts) (f
 
   -- ---- the words for them
 
-  pub kind_found : (class : Option ClassDump) (object : Option ObjectDump) → IsFoundClass ids facts id class
-      → IsFoundObject ids facts id object
+  pub kind_found : (class : Option ClassDump) (object : Option ObjectDump) → AnswersClass ids facts id class
+      → AnswersObject ids facts id object
       → kind_of found.naming id (option_map class_value class) (option_map fact_of_object object) ≡ kind_text found id
   unfolding kind_text
   kind_found class object is_class is_object =
       ap (λ (dump : Option ClassValue). kind_of found.naming id dump (option_map fact_of_object object)) (class_found class is_class)
       ∙ ap (λ (fact : Option FactValue). kind_of found.naming id (found.class id) fact) (object_found object is_object)
 
-  pub words_found : (class : Option ClassDump) (object : Option ObjectDump) → IsFoundClass ids facts id class
-      → IsFoundObject ids facts id object
+  pub words_found : (class : Option ClassDump) (object : Option ObjectDump) → AnswersClass ids facts id class
+      → AnswersObject ids facts id object
       → reference_words found id (option_map class_value class) (option_map fact_of_object object)
       ≡ reference_words found id (found.class id) (found.object id)
   words_found class object is_class is_object =

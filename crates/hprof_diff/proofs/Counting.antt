@@ -12,15 +12,15 @@ use Rattle.hprof_heap.specs.State.{IsState}
 use Rattle.hprof_objects.specs.declared.stretch_fault.StretchFault.TheVariants as stretches
 use Rattle.hprof_runs.specs.declared.run_fault.RunFault.TheVariants as runs
 use Rattle.hprof_runs.specs.declared.scratch_fault.ScratchFault.TheVariants as scratches
-use Rattle.hprof_engine.specs.declared.product.WriteStop.TheVariants as writes
-use Rattle.hprof_engine.specs.declared.product_refusal.ProductRefusal.{ProductRefusal}
+use Rattle.hprof_engine.specs.declared.product.ProductFault.TheVariants as writes
+use Rattle.hprof_engine.specs.declared.heap_fault.HeapFault.{HeapFault}
 use Rattle.hprof_engine.specs.declared.tool_fault.ToolFault.{ToolFault}
 use Rattle.hprof_engine.specs.declared.tool_fault.ToolFault.TheVariants as tool
 use Rattle.hprof_engine.specs.Joining.{AreReadOut, IsHindered, IsOfReading, IsOkOrConflict, Tell, none_known}
 use Rattle.hprof_engine.specs.Makes.{Makes, Reads}
 use Rattle.hprof_engine.proofs.Making.{stopped}
-use Rattle.hprof_stored.specs.declared.pass_fault.PassFault.{PassFault}
-use Rattle.hprof_stored.specs.declared.pass_fault.PassFault.TheVariants as passes
+use Rattle.hprof_stored.specs.declared.in_parts_fault.InPartsFault.{InPartsFault}
+use Rattle.hprof_stored.specs.declared.in_parts_fault.InPartsFault.TheVariants as passes
 use Rattle.hprof_stored.specs.declared.stored_fault.StoredFault.{StoredFault}
 use Rattle.hprof_stored.specs.declared.stored_fault.StoredFault.TheVariants as stops
 use Rattle.hprof_stored.specs.Reading.{AreSoMany, IsHinderedStored, IsOkOrConflictStored, ReadsStored}
@@ -52,7 +52,7 @@ of_stored_reading (stops.Scratch scratches.OutOfMemory) = tt
 of_stored_reading (stops.Scratch scratches.Full) = tt
 of_stored_reading (stops.Scratch (scratches.Write fault)) = tt
 
-of_pass : (fault : PassFault) → IsOfCounting (Some (fault_of_pass fault))
+of_pass : (fault : InPartsFault) → IsOfCounting (Some (fault_of_pass fault))
 of_pass passes.OutOfMemory = tt
 of_pass (passes.TwoContents id) = tt
 of_pass (passes.Scratch runs.OutOfMemory) = tt
@@ -69,7 +69,7 @@ of_pass passes.TooMany = tt
 abbrev NoText : List PartSummary → HeapValue → List ℕ → Type 0
 NoText summaries heap text = ⊤
 
-abbrev refuses_none : ProductRefusal → HeapValue → Type 0
+abbrev refuses_none : HeapFault → HeapValue → Type 0
 refuses_none refusal heap = ⊥
 
 abbrev nothing_written : Unit {0} → Option (List ℕ)
@@ -163,7 +163,7 @@ module _ {R : Type 0} (left : R → Option (List ℕ)) (health : R → Health) (
       }
 
       -- their objects cannot be gone through
-      pub pass_counts : (fault : PassFault) → ((parts : List (List ℕ)) → Tell left old parts → IsOfLoss parts fault)
+      pub pass_counts : (fault : InPartsFault) → ((parts : List (List ℕ)) → Tell left old parts → IsOfLoss parts fault)
           → CountsStored (Some (fault_of_pass fault))
       pass_counts fault tells = made_counts (Some (fault_of_pass fault)) (of_pass fault)
           (pass_makes left health pulls limits old new nothing_written always_well NoText refuses_none tt tt some stored out refl refl fault

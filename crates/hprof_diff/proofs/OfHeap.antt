@@ -8,9 +8,9 @@ use Rattle.hprof_passes.specs.Passing.{IsWhole}
 use Rattle.hprof_histogram.specs.declared.row.Row.{Row}
 use Rattle.hprof_histogram.specs.Histogram.{IsHistogram}
 use Rattle.hprof_diff.specs.declared.counted.Counted.{Counted}
-use Rattle.hprof_diff.specs.declared.part.Part.{Part}
-use Rattle.hprof_diff.specs.declared.part.Source.{Source}
-use Rattle.hprof_diff.specs.declared.part.Source.TheVariants.{Class, Prim}
+use Rattle.hprof_diff.specs.declared.label_count.LabelCount.{LabelCount}
+use Rattle.hprof_diff.specs.declared.label_count.LabelSource.{LabelSource}
+use Rattle.hprof_diff.specs.declared.label_count.LabelSource.TheVariants.{Class, Prim}
 use Rattle.hprof_diff.specs.declared.label_counts.LabelCounts.{LabelCounts}
 use Rattle.hprof_diff.specs.Counts.{AreTotals}
 use Rattle.hprof_diff.specs.Kept.{AreKept, totals_in}
@@ -23,13 +23,13 @@ use Rattle.hprof_diff.specs.LabelTexts.{source_labels_exist}
 use Rattle.hprof_diff.proofs.Sums.{sum_of_filter, under_moved}
 
 module _ (ids : IdSize) (facts all : List FactValue) (whole : IsWhole ids facts all) where
-  source_label_same : (source : Source) (text : List ℕ) → IsSourceLabel all source text → IsSourceLabel facts source text
+  source_label_same : (source : LabelSource) (text : List ℕ) → IsSourceLabel all source text → IsSourceLabel facts source text
   source_label_same (Class name) text is = bare_label_of_same ids facts all whole name text is
   source_label_same (Prim elem) text is = is
 
-  module _ (rows : List Row) (is : IsHistogram ids all rows) (parts sorted : List Part) (moved : IsPermutation parts sorted) where
+  module _ (rows : List Row) (is : IsHistogram ids all rows) (parts sorted : List LabelCount) (moved : IsPermutation parts sorted) where
     -- what is kept of them are totals
-    pub kept_are_totals : ((label : Source → List ℕ) (class_label : ℕ → List ℕ) → AreSourceLabels facts label
+    pub kept_are_totals : ((label : LabelSource → List ℕ) (class_label : ℕ → List ℕ) → AreSourceLabels facts label
         → AreBareLabels facts class_label
         → (text : List ℕ) → parts_under label text parts ≡ rows_under class_label text rows) → (counts : LabelCounts)
         → AreKept facts sorted counts → AreTotals ids all (totals_in counts)
@@ -38,7 +38,7 @@ module _ (ids : IdSize) (facts all : List FactValue) (whole : IsWhole ids facts 
         let of_class = labels_exist all in
         let here : AreSourceLabels facts of_source.0 = λ source. source_label_same source (of_source.0 source) (of_source.1 source) in
         let each = λ (text : List ℕ). kept of_source.0 here text
-        ∙ under_moved (λ (p : Part). of_source.0 p.source) (λ (p : Part). p.counted) text parts sorted moved
+        ∙ under_moved (λ (p : LabelCount). of_source.0 p.source) (λ (p : LabelCount). p.counted) text parts sorted moved
         ∙ labelled of_source.0 of_class.0 here (bare_labels_same ids facts all whole of_class.0 of_class.1) text in
         record {
           rows = rows;

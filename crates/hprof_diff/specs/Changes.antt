@@ -2,12 +2,12 @@
 use Rattle.std.specs.Prelude.{ℕ, List, Bool, map, not, ◌==◌, ◌&&◌}
 use Rattle.std.specs.List.{filter}
 use Rattle.hprof_diff.specs.declared.change.Change.{Change}
-use Rattle.hprof_diff.specs.declared.change.Step.{Step}
+use Rattle.hprof_diff.specs.declared.change.Delta.{Delta}
 use Rattle.hprof_diff.specs.Counts.{Totals}
 use Rattle.hprof_diff.specs.Difference.{ChangeValue, StepValue, change_of}
 
 -- what a step says
-abbrev pub step_value : Step → StepValue
+abbrev pub step_value : Delta → StepValue
 step_value step = record { old = step.old; new = step.new }
 
 -- what a change says

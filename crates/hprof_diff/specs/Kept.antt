@@ -3,8 +3,8 @@ use Rattle.std.specs.Prelude.{◌≡◌, ℕ, List, Bool, unwrap_or, is_some, ma
 use Rattle.std.specs.BTreeMap.{get_by_text, keys}
 use Rattle.hprof_items.specs.FactValue.{FactValue}
 use Rattle.hprof_diff.specs.declared.counted.Counted.{Counted}
-use Rattle.hprof_diff.specs.declared.part.Part.{Part}
-use Rattle.hprof_diff.specs.declared.part.Source.{Source}
+use Rattle.hprof_diff.specs.declared.label_count.LabelCount.{LabelCount}
+use Rattle.hprof_diff.specs.declared.label_count.LabelSource.{LabelSource}
 use Rattle.hprof_diff.specs.declared.label_counts.LabelCounts.{LabelCounts}
 use Rattle.hprof_diff.specs.Counts.{Totals}
 use Rattle.hprof_diff.specs.Sources.{AreSourceLabels, nothing, parts_under}
@@ -26,6 +26,6 @@ abbrev pub labels_in : LabelCounts → List (List ℕ)
 labels_in counts = map string_bytes (keys counts.labels)
 
 -- the objects of the parts are kept under their labels
-abbrev pub AreKept : List FactValue → List Part → LabelCounts → Type 0
-AreKept facts parts counts = (label : Source → List ℕ) → AreSourceLabels facts label → (text : List ℕ)
+abbrev pub AreKept : List FactValue → List LabelCount → LabelCounts → Type 0
+AreKept facts parts counts = (label : LabelSource → List ℕ) → AreSourceLabels facts label → (text : List ℕ)
     → kept_in counts text ≡ parts_under label text parts

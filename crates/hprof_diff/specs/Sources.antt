@@ -7,9 +7,9 @@ use Rattle.hprof_histogram.specs.declared.row.Kind.TheVariants as kinds
 use Rattle.hprof_histogram.specs.declared.row.Row.{Row}
 use Rattle.hprof_naming.specs.TypeWord.{type_word}
 use Rattle.hprof_diff.specs.declared.counted.Counted.{Counted}
-use Rattle.hprof_diff.specs.declared.part.Part.{Part}
-use Rattle.hprof_diff.specs.declared.part.Source.{Source}
-use Rattle.hprof_diff.specs.declared.part.Source.TheVariants.{Class, Prim}
+use Rattle.hprof_diff.specs.declared.label_count.LabelCount.{LabelCount}
+use Rattle.hprof_diff.specs.declared.label_count.LabelSource.{LabelSource}
+use Rattle.hprof_diff.specs.declared.label_count.LabelSource.TheVariants.{Class, Prim}
 use Rattle.hprof_meaning.specs.BareLabels.{IsBareLabelOf}
 use Rattle.hprof_diff.specs.Labels.{kind_label}
 
@@ -26,29 +26,29 @@ abbrev pub counted_of_row : Row → Counted
 counted_of_row row = record { count = row.count; bytes = row.bytes }
 
 -- the class has that name, or the type is that
-abbrev pub IsSource : List FactValue → Kind → Source → Type 0
+abbrev pub IsSource : List FactValue → Kind → LabelSource → Type 0
 IsSource facts (kinds.Class class) (Class name) = NamesClass facts class name
 IsSource facts (kinds.Prim elem) (Prim other) = elem ≡ other
 IsSource facts kind source = ⊥
 
 -- the part has the objects of the row, and the source of its label
-pub record IsPart (facts : List FactValue) (row : Row) (part : Part) : Type 0 where
+pub record IsPart (facts : List FactValue) (row : Row) (part : LabelCount) : Type 0 where
   pub source : IsSource facts row.kind part.source
   pub counted : part.counted ≡ counted_of_row row
 
 -- the identifier of a class's name, if it is the source
-abbrev pub name_of : Source → Option ℕ
+abbrev pub name_of : LabelSource → Option ℕ
 name_of (Class name) = name
 name_of (Prim elem) = None
 
 -- the label from a source
-abbrev pub IsSourceLabel : List FactValue → Source → List ℕ → Type 0
+abbrev pub IsSourceLabel : List FactValue → LabelSource → List ℕ → Type 0
 IsSourceLabel facts (Class name) text = IsBareLabelOf facts name text
 IsSourceLabel facts (Prim elem) text = text ≡ type_word elem ++ codes "[]"
 
 -- these are the labels from all sources
-abbrev pub AreSourceLabels : List FactValue → (Source → List ℕ) → Type 0
-AreSourceLabels facts label = (source : Source) → IsSourceLabel facts source (label source)
+abbrev pub AreSourceLabels : List FactValue → (LabelSource → List ℕ) → Type 0
+AreSourceLabels facts label = (source : LabelSource) → IsSourceLabel facts source (label source)
 
 -- the objects of all that has the label
 abbrev pub sum_under : {X : Type 0} → (X → List ℕ) → (X → Counted) → List ℕ → List X → Counted
@@ -62,5 +62,5 @@ abbrev pub rows_under : (ℕ → List ℕ) → List ℕ → List Row → Counted
 rows_under label text rows = sum_under (λ row. kind_label label row.kind) counted_of_row text rows
 
 -- the objects of the parts with that label
-abbrev pub parts_under : (Source → List ℕ) → List ℕ → List Part → Counted
+abbrev pub parts_under : (LabelSource → List ℕ) → List ℕ → List LabelCount → Counted
 parts_under label text parts = sum_under (λ part. label part.source) (λ part. part.counted) text parts

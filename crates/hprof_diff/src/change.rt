@@ -2,7 +2,7 @@
 
 /// A number before and after.
 #[derive(Clone, Copy, Debug, PartialEq, Eq)]
-pub struct Step {
+pub struct Delta {
     /// The number in the older heap.
     pub old: u128,
     /// The number in the newer heap.
@@ -15,7 +15,7 @@ pub struct Change<'a> {
     /// The label.
     pub label: &'a str,
     /// The bytes of its objects.
-    pub bytes: Step,
+    pub bytes: Delta,
     /// The number of its objects.
-    pub count: Step,
+    pub count: Delta,
 }

@@ -6,11 +6,11 @@ ghost use Rattle.std.specs.List.Sorted.{IsPermutation, IsStrictlySortedBy};
 ghost use Rattle.hprof_diff.specs.Changes.{change_value, step_value};
 ghost use Rattle.hprof_diff.specs.Difference.{change_cmp, step_cmp};
 
-use crate::change::{Change, Step};
+use crate::change::{Change, Delta};
 use std::cmp::Ordering;
 
 /// Compares steps by the number that they add, which is negative if they fall.
-fn compare_steps(step: Step, other: Step) -> Ordering
+fn compare_steps(step: Delta, other: Delta) -> Ordering
     ensures { result ≡ step_cmp (step_value step) (step_value other) }
 {
     let grew = step.old <= step.new;

@@ -6,7 +6,7 @@ ghost use Rattle.hprof_diff.specs.Changes.{change_value, changes_among, differs}
 ghost use Rattle.hprof_diff.specs.Difference.{IsDifference, change_of};
 ghost use Rattle.hprof_diff.specs.Kept.{has_label, labels_in, totals_in};
 
-use crate::change::{Change, Step};
+use crate::change::{Change, Delta};
 use crate::comparing::sort_changes;
 use crate::label_counts::LabelCounts;
 use std::alloc::{AllocError, Global};
@@ -19,11 +19,11 @@ fn change_of<'a>(old: &LabelCounts, new: &LabelCounts, label: &'a str) -> Change
     let after = new.counted(label);
     Change {
         label,
-        bytes: Step {
+        bytes: Delta {
             old: before.bytes,
             new: after.bytes,
         },
-        count: Step {
+        count: Delta {
             old: before.count,
             new: after.count,
         },

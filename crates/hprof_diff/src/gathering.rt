@@ -3,29 +3,29 @@
 ghost use Rattle.std.specs.Prelude.{◌≡◌, ℕ, List, IfOk};
 ghost use Rattle.hprof_heap.specs.HeapFacts.{facts_of};
 ghost use Rattle.hprof_naming.specs.ClassNames.{AreClassNames};
-ghost use Rattle.hprof_diff.specs.declared.part.Source.{Source};
+ghost use Rattle.hprof_diff.specs.declared.label_count.LabelSource.{LabelSource};
 ghost use Rattle.hprof_meaning.specs.BareLabels.{AreBareLabels};
 ghost use Rattle.hprof_diff.specs.Sources.{AreSourceLabels, IsPart, parts_under, rows_under};
 
 use crate::counted::Counted;
-use crate::part::{Part, Source};
+use crate::label_count::{LabelCount, LabelSource};
 use hprof_heap::{Heap, holds_of_heap};
 use hprof_histogram::{Kind, Row};
 use hprof_naming::ClassNames;
 use std::alloc::{AllocError, Global};
 
 /// Returns the objects of a row, with the source of their label.
-fn part_of(heap: &Heap, names: &ClassNames, row: &Row) -> Part
+fn part_of(heap: &Heap, names: &ClassNames, row: &Row) -> LabelCount
     requires { AreClassNames (facts_of heap.now) names.now }
     ensures { IsPart (facts_of heap.now) row.now result }
 {
     let Row { kind, count, bytes } = *row;
     let source = match kind {
-        Kind::Class(class) => Source::Class(names.name_of(class)),
-        Kind::Prim(elem) => Source::Prim(elem),
+        Kind::Class(class) => LabelSource::Class(names.name_of(class)),
+        Kind::Prim(elem) => LabelSource::Prim(elem),
     };
     let count = u128::from(count);
-    Part {
+    LabelCount {
         source,
         counted: Counted { count, bytes },
     }
@@ -37,9 +37,9 @@ pub(crate) fn parts_of(
     heap: &Heap,
     names: &ClassNames,
     rows: &[Row],
-) -> Result<Vec<Part>, AllocError>
+) -> Result<Vec<LabelCount>, AllocError>
     requires { AreClassNames (facts_of heap.now) names.now }
-    ensures labelled { IfOk result (λ parts. (label : Source → List ℕ) (class_label : ℕ → List ℕ)
+    ensures labelled { IfOk result (λ parts. (label : LabelSource → List ℕ) (class_label : ℕ → List ℕ)
         → AreSourceLabels (facts_of heap.now) label
         → AreBareLabels (facts_of heap.now) class_label → (text : List ℕ)
         → parts_under label text parts.items ≡ rows_under class_label text rows.now) }

@@ -2,12 +2,12 @@
 
 use crate::counted::Counted;
 use crate::gathering::parts_of;
+use crate::label_count::{LabelCount, first_run, sort_parts};
 use crate::labels::source_label;
-use crate::part::{Part, first_run, sort_parts};
 use hprof_heap::{Heap, holds_of_heap};
 use hprof_histogram::{CountedKinds, Row, histogram_over};
 use hprof_naming::ClassNames;
-use hprof_passes::{InHeap, Objects, PassStop};
+use hprof_passes::{InHeap, Objects, PassFault};
 use std::alloc::{AllocError, Global};
 use std::collections::BTreeMap;
 
@@ -69,7 +69,7 @@ impl LabelCounts {
     }
 
     /// Returns the counts of parts, by label. Consecutive parts with the same source are labelled once.
-    fn of_parts(alloc: Global, heap: &Heap, parts: &[Part]) -> Result<LabelCounts, AllocError>
+    fn of_parts(alloc: Global, heap: &Heap, parts: &[LabelCount]) -> Result<LabelCounts, AllocError>
         ensures { IfOk result (AreKept (facts_of heap.now) parts.now) }
     {
         holds_of_heap(heap);
@@ -110,7 +110,7 @@ impl LabelCounts {
         heap: &Heap,
         objects: &O,
         known: Option<CountedKinds>,
-    ) -> Result<LabelCounts, PassStop<AllocError, O::Fault>>
+    ) -> Result<LabelCounts, PassFault<AllocError, O::Fault>>
         requires { IsSome known → O.agree objects.now (size_of heap.now) (facts_of heap.now) }
         ensures { Finds (MadeUpWith (O.make_up objects.now (size_of heap.now) (facts_of heap.now)) (size_of heap.now) known)
             (O.agree objects.now (size_of heap.now) (facts_of heap.now)) (O.tells objects.now (size_of heap.now) (facts_of heap.now))
@@ -122,7 +122,7 @@ impl LabelCounts {
         };
         match LabelCounts::of_rows(alloc, heap, &rows) {
             Ok(counts) => Ok(counts),
-            Err(fault) => Err(PassStop::Sink(fault)),
+            Err(fault) => Err(PassFault::Sink(fault)),
         }
     }
 

@@ -10,14 +10,14 @@ mod counted;
 mod differences;
 mod fault;
 mod gathering;
+mod label_count;
 mod label_counts;
 mod labels;
 pub mod laws;
-mod part;
 mod parts;
 mod report;
 
-pub use change::{Change, Step};
+pub use change::{Change, Delta};
 pub use differences::difference;
 pub use fault::DiffFault;
 pub use label_counts::LabelCounts;

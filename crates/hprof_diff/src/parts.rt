@@ -15,13 +15,13 @@ use crate::fault::DiffFault;
 use crate::label_counts::LabelCounts;
 use crate::report::{write_growth, write_growth_over};
 use hprof_devices::{Source, Target};
-use hprof_engine::{HeapProduct, NoSummaries, ToolFault, WriteStop, read_heap, write_to};
+use hprof_engine::{HeapProduct, NoSummaries, ProductFault, ToolFault, read_heap, write_to};
 use hprof_heap::{Gatherer, Heap};
 use hprof_histogram::CountedKinds;
 use hprof_making::{PassProduct, counts_known, counts_to_watch};
 use hprof_objects::Keeping;
 use hprof_parts::Parts;
-use hprof_passes::{Objects, PassStop};
+use hprof_passes::{Objects, PassFault};
 use hprof_runs::Scratch;
 use hprof_stored::laws::{stored_objects_are_those_of_the_parts, what_was_watched_is_a_pass};
 use hprof_stored::{InParts, StoredHeap, read_watched};
@@ -52,7 +52,7 @@ impl<'a> HeapProduct for GrowthReport<'a> {
         alloc: Global,
         heap: &Heap,
         target: &mut W,
-    ) -> Result<(), WriteStop> {
+    ) -> Result<(), ProductFault> {
         write_growth(alloc, self.old, heap, target)
     }
 
@@ -83,7 +83,7 @@ impl<'a> PassProduct for GrowthReport<'a> {
         objects: &O,
         known: Option<CountedKinds>,
         target: &mut W,
-    ) -> Result<(), PassStop<WriteStop, O::Fault>> {
+    ) -> Result<(), PassFault<ProductFault, O::Fault>> {
         write_growth_over(alloc, self.old, heap, objects, known, target)
     }
 }
@@ -165,8 +165,8 @@ pub fn count_stored<R: Source, S: Scratch + Drop, P: Parts>(
     let objects = InParts::new(&objects, parts, limits);
     match LabelCounts::over(alloc, &heap, &objects, known) {
         Ok(counts) => Ok(counts),
-        Err(PassStop::Sink(_)) => Err(ToolFault::OutOfMemory),
-        Err(PassStop::Lost(fault)) => Err(ToolFault::from(fault)),
+        Err(PassFault::Sink(_)) => Err(ToolFault::OutOfMemory),
+        Err(PassFault::Lost(fault)) => Err(ToolFault::from(fault)),
     }
 }
 

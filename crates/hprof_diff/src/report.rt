@@ -10,20 +10,20 @@ ghost use Rattle.hprof_lines.specs.Passed.{EndsPassed};
 ghost use Rattle.hprof_lines.specs.Stopping.{LeavesTarget, WritesText};
 ghost use Rattle.hprof_diff.specs.DifferenceText.{IsDifferenceText, IsGrowthText, change_line, changes_text, step_text};
 
-use crate::change::{Change, Step};
+use crate::change::{Change, Delta};
 use crate::differences::difference;
 use crate::label_counts::LabelCounts;
 use hprof_devices::Target;
-use hprof_engine::WriteStop;
+use hprof_engine::ProductFault;
 use hprof_heap::{Heap, holds_of_heap};
 use hprof_histogram::CountedKinds;
 use hprof_lines::{stop_of_pass, write_str};
-use hprof_passes::{InHeap, Objects, PassStop};
+use hprof_passes::{InHeap, Objects, PassFault};
 use itoa::Buffer;
 use std::alloc::{AllocError, Global};
 
 /// Appends the newer number less the older one, with its sign.
-fn push_step(line: &mut String, step: Step) -> Result<(), AllocError>
+fn push_step(line: &mut String, step: Delta) -> Result<(), AllocError>
     ensures { OnOk result (string_bytes line.new ≡ string_bytes line.old ++ step_text (step_value step)) }
 {
     let mut digits = Buffer::new();
@@ -56,7 +56,7 @@ fn write_all<W: Target>(
     alloc: Global,
     changes: &[Change<'_>],
     target: &mut W,
-) -> Result<(), WriteStop>
+) -> Result<(), ProductFault>
     requires { W.health target.old ≡ Well }
     ensures bytes { WritesText (W.written target.old) (W.written target.new) result (changes_text (map change_value changes.now)) }
     ensures health { LeavesTarget result (W.health target.new) }
@@ -77,7 +77,7 @@ pub fn write_difference<W: Target>(
     old: &LabelCounts,
     new: &LabelCounts,
     target: &mut W,
-) -> Result<(), WriteStop>
+) -> Result<(), ProductFault>
     requires { W.health target.old ≡ Well }
     ensures bytes { (text : List ℕ) × IsDifferenceText (totals_in old.now) (totals_in new.now) text
         × WritesText (W.written target.old) (W.written target.new) result text }
@@ -101,7 +101,7 @@ pub fn write_growth_over<O: Objects, W: Target>(
     objects: &O,
     known: Option<CountedKinds>,
     target: &mut W,
-) -> Result<(), PassStop<WriteStop, O::Fault>>
+) -> Result<(), PassFault<ProductFault, O::Fault>>
     requires well { W.health target.old ≡ Well }
     requires agree { IsSome known → O.agree objects.now (size_of heap.now) (facts_of heap.now) }
     ensures { EndsPassed (MadeUpWith (O.make_up objects.now (size_of heap.now) (facts_of heap.now)) (size_of heap.now) known)
@@ -114,7 +114,7 @@ pub fn write_growth_over<O: Objects, W: Target>(
     };
     match write_difference(alloc, old, &new, target) {
         Ok(()) => Ok(()),
-        Err(stop) => Err(PassStop::Sink(stop)),
+        Err(stop) => Err(PassFault::Sink(stop)),
     }
 }
 
@@ -125,7 +125,7 @@ pub(crate) fn write_growth<W: Target>(
     old: &LabelCounts,
     heap: &Heap,
     target: &mut W,
-) -> Result<(), WriteStop>
+) -> Result<(), ProductFault>
     requires { W.health target.old ≡ Well }
     ensures bytes { (text : List ℕ) × IsGrowthText (totals_in old.now) (size_of heap.now) (facts_of heap.now) text
         × WritesText (W.written target.old) (W.written target.new) result text }

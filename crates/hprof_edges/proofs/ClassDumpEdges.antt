@@ -58,7 +58,7 @@ module _ (dump : ClassValue) where
   constants = numbered dump.id vias.Constant 0 (targets_of_constants dump.constants)
 
   abbrev statics : List Edge
-  statics = numbered dump.id vias.Fixed 0 (targets_of_statics dump.statics)
+  statics = numbered dump.id vias.Static 0 (targets_of_statics dump.statics)
 
   named_there : (via : Via) (position to given : ℕ) → position ≡ 0 → given ≡ to → to ≢ 0
       → Contains (named_edge dump via given) (record { from = dump.id; via = via; position = position; to = to })
@@ -119,10 +119,10 @@ module _ (dump : ClassValue) where
       (Contains-append_left constants statics _
       (entry_there vias.Constant dump.constants (targets_of_constants dump.constants) position to not_zero
       (constants_same dump.constants) is))
-  put vias.Fixed position to not_zero is =
+  put vias.Static position to not_zero is =
       Contains-append_right (named_edges dump) (constants ++ statics) _
       (Contains-append_right constants statics _
-      (entry_there vias.Fixed dump.statics (targets_of_statics dump.statics) position to not_zero (statics_same dump.statics) is))
+      (entry_there vias.Static dump.statics (targets_of_statics dump.statics) position to not_zero (statics_same dump.statics) is))
   put vias.Field position to not_zero is = absurd is
   put vias.Element position to not_zero is = absurd is
 
@@ -136,7 +136,7 @@ module _ (dump : ClassValue) where
       | inr behind ↦ elim (Contains-append_cases constants statics edge behind) [
         | inl here ↦ by_entries vias.Constant dump.constants (targets_of_constants dump.constants) edge (λ position to is. is)
             (constants_same dump.constants) here
-        | inr later ↦ by_entries vias.Fixed dump.statics (targets_of_statics dump.statics) edge (λ position to is. is)
+        | inr later ↦ by_entries vias.Static dump.statics (targets_of_statics dump.statics) edge (λ position to is. is)
             (statics_same dump.statics) later
       ]
     ]

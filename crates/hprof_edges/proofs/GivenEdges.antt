@@ -43,7 +43,7 @@ module _ (ids : IdSize) (facts : List FactValue) where
   given from vias.Signers position to not_zero is = inl (by_dump from vias.Signers position to _ not_zero is.1 (λ dump e. (is.0, e)))
   given from vias.Domain position to not_zero is = inl (by_dump from vias.Domain position to _ not_zero is.1 (λ dump e. (is.0, e)))
   given from vias.Constant position to not_zero is = inl (by_dump from vias.Constant position to _ not_zero is (λ dump e. e))
-  given from vias.Fixed position to not_zero is = inl (by_dump from vias.Fixed position to _ not_zero is (λ dump e. e))
+  given from vias.Static position to not_zero is = inl (by_dump from vias.Static position to _ not_zero is (λ dump e. e))
   given from vias.Field position to not_zero is = inr (record {
     fact = Instance from is.instance.trace is.class is.bytes;
     has = is.instance.has;
@@ -68,7 +68,7 @@ module _ (ids : IdSize) (facts : List FactValue) where
   dump_refers dump has vias.Signers position to is = (is.0, record { dump = dump; has = has; id = refl; holds = is.1 })
   dump_refers dump has vias.Domain position to is = (is.0, record { dump = dump; has = has; id = refl; holds = is.1 })
   dump_refers dump has vias.Constant position to is = record { dump = dump; has = has; id = refl; holds = is }
-  dump_refers dump has vias.Fixed position to is = record { dump = dump; has = has; id = refl; holds = is }
+  dump_refers dump has vias.Static position to is = record { dump = dump; has = has; id = refl; holds = is }
   dump_refers dump has vias.Field position to is = absurd is
   dump_refers dump has vias.Element position to is = absurd is
 

@@ -109,8 +109,8 @@ module _ {X : Type 0} (p q : X → Bool) where
 abbrev pub stays : List FieldPlace → Reference → Bool
 stays fields reference = not (has_place fields reference.place)
 
-abbrev pub kept_references : List FieldPlace → List Reference → List Reference
-kept_references fields references = filter (stays fields) references
+abbrev pub cached_references : List FieldPlace → List Reference → List Reference
+cached_references fields references = filter (stays fields) references
 
 not-true : (b : Bool) → not b ≡ true → b ≡ false
 not-true true e = absurd cc
@@ -119,13 +119,13 @@ not-true false e = refl
 -- the edges by these
 pub by_kept : (ids : IdSize) (facts : List FactValue) (object class : ℕ) (bytes : List ℕ) (fields : List FieldPlace)
     (references : List Reference) → AreReferences ids facts class bytes references → (edge : Edge)
-    → Contains (reference_edges object (kept_references fields references)) edge
+    → Contains (reference_edges object (cached_references fields references)) edge
     ↔ (IsFieldEdge ids facts object class bytes edge × (has_place fields edge.position ≡ false))
 by_kept ids facts object class bytes fields references are edge = (there, back) where
-  there : Contains (reference_edges object (kept_references fields references)) edge
+  there : Contains (reference_edges object (cached_references fields references)) edge
       → IsFieldEdge ids facts object class bytes edge × (has_place fields edge.position ≡ false)
   there has =
-      let is = referred_is object (kept_references fields references) edge has in
+      let is = referred_is object (cached_references fields references) edge has in
       let both = (kept_are (stays fields) references (record { place = edge.position; to = edge.to })).0 is.there in (
         record {
           not_zero = is.not_zero;
@@ -137,10 +137,10 @@ by_kept ids facts object class bytes fields references are edge = (there, back) 
       )
 
   back : IsFieldEdge ids facts object class bytes edge × (has_place fields edge.position ≡ false)
-      → Contains (reference_edges object (kept_references fields references)) edge
+      → Contains (reference_edges object (cached_references fields references)) edge
   back both =
       let is = both.0 in
-      is_referred object (kept_references fields references) edge (record {
+      is_referred object (cached_references fields references) edge (record {
         not_zero = is.not_zero;
         from_is = is.from_is;
         via_is = is.via_is;

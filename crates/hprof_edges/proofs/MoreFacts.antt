@@ -73,7 +73,7 @@ module _ (facts more : List FactValue) (all : (fact : FactValue) → Has facts f
   refers_still ids from vias.Signers position to is = (is.0, dump_stays from _ is.1)
   refers_still ids from vias.Domain position to is = (is.0, dump_stays from _ is.1)
   refers_still ids from vias.Constant position to is = dump_stays from _ is
-  refers_still ids from vias.Fixed position to is = dump_stays from _ is
+  refers_still ids from vias.Static position to is = dump_stays from _ is
   refers_still ids from vias.Field position to is = field_stays ids from position to is
   refers_still ids from vias.Element position to is = element_stays from position to is
 

@@ -21,7 +21,7 @@ ClassRefers dump vias.Loader position to = (position ≡ 0) × (dump.loader ≡ 
 ClassRefers dump vias.Signers position to = (position ≡ 0) × (dump.signers ≡ to)
 ClassRefers dump vias.Domain position to = (position ≡ 0) × (dump.domain ≡ to)
 ClassRefers dump vias.Constant position to = EntryRefers dump.constants position to
-ClassRefers dump vias.Fixed position to = EntryRefers dump.statics position to
+ClassRefers dump vias.Static position to = EntryRefers dump.statics position to
 ClassRefers dump vias.Field position to = ⊥
 ClassRefers dump vias.Element position to = ⊥
 

@@ -13,7 +13,7 @@ number_of_via vias.Loader = 3
 number_of_via vias.Signers = 4
 number_of_via vias.Domain = 5
 number_of_via vias.Constant = 6
-number_of_via vias.Fixed = 7
+number_of_via vias.Static = 7
 number_of_via vias.Field = 8
 number_of_via vias.Element = 9
 

@@ -58,7 +58,7 @@ Refers ids facts from vias.Signers position to = (position ≡ 0) × OfDump fact
 Refers ids facts from vias.Domain position to = (position ≡ 0) × OfDump facts from (λ dump. dump.domain ≡ to)
 -- HPROF_GC_CLASS_DUMP, the values of the constant pool, and of the static fields
 Refers ids facts from vias.Constant position to = OfDump facts from (λ dump. EntryRefers dump.constants position to)
-Refers ids facts from vias.Fixed position to = OfDump facts from (λ dump. EntryRefers dump.statics position to)
+Refers ids facts from vias.Static position to = OfDump facts from (λ dump. EntryRefers dump.statics position to)
 -- HPROF_GC_INSTANCE_DUMP, instance field values
 Refers ids facts from vias.Field position to = FieldRefers ids facts from position to
 -- HPROF_GC_OBJ_ARRAY_DUMP, elements

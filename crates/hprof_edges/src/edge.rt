@@ -16,7 +16,7 @@ pub enum Via {
     /// A constant of a class.
     Constant,
     /// A static field of a class.
-    Fixed,
+    Static,
     /// A field of an instance.
     Field,
     /// An element of an object array.

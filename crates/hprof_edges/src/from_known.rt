@@ -14,29 +14,29 @@ use crate::collect::Collect;
 use crate::kept_edges::kept_object_edges;
 use crate::left_out::LeftOut;
 use crate::of_identifier::put_of_class;
-use hprof_heap::{Finger, Heap, find_object_near, id_size};
+use hprof_heap::{Cursor, Heap, find_object_near, id_size};
 use hprof_layouts::{KnownLayouts, Reference};
 use std::alloc::AllocError;
 
 /// The places of the class dump and the object dump that were looked up last. The next ones are looked for near them. The answers are the
 /// same for all places.
 #[derive(Clone, Copy, Debug, PartialEq, Eq)]
-pub struct Near {
+pub struct Cursors {
     /// The place of the class dump.
-    pub class: Finger,
+    pub class: Cursor,
     /// The place of the object dump.
-    pub object: Finger,
+    pub object: Cursor,
 }
 
-impl Near {
+impl Cursors {
     /// Returns the places to start with.
-    pub fn start() -> Near
+    pub fn start() -> Cursors
         ensures class { (result.class.page ≡ 0) × (result.class.place ≡ 0) }
         ensures object { (result.object.page ≡ 0) × (result.object.place ≡ 0) }
     {
-        Near {
-            class: Finger::start(),
-            object: Finger::start(),
+        Cursors {
+            class: Cursor::start(),
+            object: Cursor::start(),
         }
     }
 }
@@ -47,7 +47,7 @@ fn put_of_known_object<C: Collect>(
     known: &KnownLayouts,
     id: u64,
     left_out: &LeftOut,
-    near: &mut Finger,
+    near: &mut Cursor,
     references: &mut Vec<Reference>,
     into: &mut C,
 ) -> Result<(), AllocError>
@@ -72,7 +72,7 @@ pub fn known_edges<C: Collect>(
     known: &KnownLayouts,
     id: u64,
     left_out: &LeftOut,
-    near: &mut Near,
+    near: &mut Cursors,
     references: &mut Vec<Reference>,
     into: &mut C,
 ) -> Result<(), AllocError>
@@ -100,7 +100,7 @@ pub fn known_object_edges<C: Collect>(
     known: &KnownLayouts,
     id: u64,
     left_out: &LeftOut,
-    near: &mut Finger,
+    near: &mut Cursor,
     references: &mut Vec<Reference>,
     into: &mut C,
 ) -> Result<(), AllocError>

@@ -58,7 +58,7 @@ fn kept_field_edges<C: Collect>(
         (λ edge. IsFieldEdge ids facts instance class bytes.now edge × (has_place fields.now edge.position ≡ false))) }
     ensures keeps { OnOk result (C.keeps into.new ≡ C.keeps into.old) }
 {
-    known.lay(class, bytes, ids, into.wanted(), references)?;
+    known.set_references(class, bytes, ids, into.wanted(), references)?;
     leave_out(references, fields);
     put_references(instance, references, into)?;
     Ok(())

@@ -9,7 +9,7 @@ ghost use Rattle.hprof_edges.specs.LeftOut.{IsKept, fields_in};
 
 use crate::collect::Collect;
 use crate::edge::Edge;
-use crate::from_known::{Near, known_edges};
+use crate::from_known::{Cursors, known_edges};
 use crate::left_out::LeftOut;
 use hprof_heap::Heap;
 use hprof_layouts::{KnownLayouts, Reference, Wanted};
@@ -72,7 +72,7 @@ pub fn least_edge(
     from: u64,
     to: u64,
     left_out: &LeftOut,
-    near: &mut Near,
+    near: &mut Cursors,
     references: &mut Vec<Reference>,
 ) -> Result<Option<Edge>, AllocError>
     ensures kept { Knows (size_of heap.now) (facts_of heap.now) known.now

@@ -24,7 +24,7 @@ pub use collect::Collect;
 pub use edge::{Edge, Via};
 pub use edge_set::EdgeSet;
 pub use field_place::FieldPlace;
-pub use from_known::{Near, known_edges, known_object_edges};
+pub use from_known::{Cursors, known_edges, known_object_edges};
 pub use kept_edges::kept_object_edges;
 pub use least::least_edge;
 pub use left_out::LeftOut;

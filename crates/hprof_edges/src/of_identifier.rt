@@ -14,7 +14,7 @@ use crate::of_class::class_edges;
 use crate::of_object::{array_edges, edge_to_class};
 use crate::putting::put_values;
 use crate::sorting::sort_edges;
-use hprof_heap::{Finger, Heap, ObjectDump, find_class_near, find_object, holds_of_heap};
+use hprof_heap::{Cursor, Heap, ObjectDump, find_class_near, find_object, holds_of_heap};
 use hprof_layouts::{Fields, Wanted, fields};
 use std::alloc::{AllocError, Global};
 
@@ -22,7 +22,7 @@ use std::alloc::{AllocError, Global};
 pub(crate) fn put_of_class<C: Collect>(
     heap: &Heap,
     id: u64,
-    near: &mut Finger,
+    near: &mut Cursor,
     into: &mut C,
 ) -> Result<(), AllocError>
     ensures holds { OnOk result ((edges : List Edge) → C.holds into.old edges
@@ -96,7 +96,7 @@ pub fn edges_of(alloc: Global, heap: &Heap, id: u64) -> Result<Vec<Edge>, AllocE
     ensures { IfOk result (λ edges. AreEdgesFrom (size_of heap.now) (facts_of heap.now) id edges.items) }
 {
     let mut set = EdgeSet::new(alloc, Wanted::All);
-    put_of_class(heap, id, &mut Finger::start(), &mut set)?;
+    put_of_class(heap, id, &mut Cursor::start(), &mut set)?;
     put_of_object(alloc, heap, id, &mut set)?;
     let mut edges = set.edges;
     sort_edges(&mut edges);

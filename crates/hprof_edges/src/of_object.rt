@@ -58,7 +58,7 @@ pub fn field_edges<C: Collect>(
     ensures unlaid { IfOk result (λ laid. laid ≡ false → into.new ≡ into.old) }
     ensures keeps { OnOk result (C.keeps into.new ≡ C.keeps into.old) }
 {
-    if !known.lay(class, bytes, ids, into.wanted(), references)? {
+    if !known.set_references(class, bytes, ids, into.wanted(), references)? {
         return Ok(false);
     }
     put_references(instance, references, into)?;

@@ -65,14 +65,14 @@ pub(crate) fn put_statics<C: Collect>(
     into: &mut C,
 ) -> Result<(), AllocError>
     ensures holds { OnOk result ((edges : List Edge) → C.holds into.old edges
-        → C.holds into.new (edges ++ numbered class vias.Fixed 0 (targets_of_statics (entries_of statics.entry)))) }
+        → C.holds into.new (edges ++ numbered class vias.Static 0 (targets_of_statics (entries_of statics.entry)))) }
     ensures keeps { OnOk result (C.keeps into.new ≡ C.keeps into.old) }
 {
     let mut position = 0;
     for field in statics.iter() {
         let edge = Edge {
             from: class,
-            via: Via::Fixed,
+            via: Via::Static,
             position,
             to: target_of(field.value.basic, field.value.bits),
         };

@@ -19,7 +19,7 @@ use crate::referrer_sink::ReferrerSink;
 use crate::sorting::sort_edges;
 use hprof_heap::{Heap, Table, holds_of_heap, table_facts, to_class_dump};
 use hprof_layouts::{Wanted, known_layouts};
-use hprof_passes::{InHeap, Objects, PassStop};
+use hprof_passes::{InHeap, Objects, PassFault};
 use std::alloc::{AllocError, Global};
 
 /// Puts the edges from all class dumps of a heap.
@@ -66,20 +66,14 @@ pub fn referrers_over<O: Objects>(
     heap: &Heap,
     objects: &O,
     id: u64,
-) -> Result<Vec<Edge>, PassStop<AllocError, O::Fault>>
+) -> Result<Vec<Edge>, PassFault<AllocError, O::Fault>>
     ensures { Finds (O.make_up objects.now (size_of heap.now) (facts_of heap.now))
         (O.agree objects.now (size_of heap.now) (facts_of heap.now))
         (O.tells objects.now (size_of heap.now) (facts_of heap.now))
         (λ all edges. AreReferrers (size_of heap.now) all id edges.items) result }
 {
-    let mut sink = match begun(alloc, heap, id) {
-        Ok(sink) => sink,
-        Err(fault) => return Err(PassStop::Sink(fault)),
-    };
-    match objects.pass(alloc, heap, &mut sink) {
-        Ok(()) => {}
-        Err(stop) => return Err(stop),
-    }
+    let mut sink = begun(alloc, heap, id).map_err(|fault| PassFault::Sink(fault))?;
+    objects.pass(alloc, heap, &mut sink)?;
     let ReferrerSink { set, .. } = sink;
     let mut edges = set.edges;
     sort_edges(&mut edges);

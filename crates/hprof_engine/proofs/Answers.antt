@@ -32,7 +32,8 @@ use Rattle.hprof_engine.specs.declared.tool_fault.ToolFault.{ToolFault}
 use Rattle.hprof_engine.specs.declared.tool_fault.ToolFault.TheVariants as tool
 use Rattle.hprof_engine.specs.Summaries.{AreSummaries, AreSummarised, HoldsFirst}
 use Rattle.hprof_engine.specs.Joining.{Tell, Agree, Disagree, IsPartFault, IsOfPart, IsAccepted, RefusesPart, AreGiven}
-use Rattle.hprof_engine.specs.Joining.{RefusesReader, AreReadOut, fault_of, read_count, ReadsAll, is_want, IsHindered, IsOkOrConflict}
+use Rattle.hprof_engine.specs.Joining.{RefusesReader, AreReadOut, fault_of, read_count, ReadsAll, is_resource_fault, IsHindered}
+use Rattle.hprof_engine.specs.Joining.{IsOkOrConflict}
 use Rattle.hprof_engine.specs.Joining.{IsOfReading, none_known}
 use Rattle.hprof_engine.specs.Makes.{Reads}
 use Rattle.hprof_engine.specs.Through.{TellsHeap}
@@ -110,7 +111,8 @@ unexpected : {R : Type 0} (left : R → Option (List ℕ)) (health : R → Healt
     (limits : Limits) (earlier : List Given) (bytes came : List ℕ) (was is : R) (ids : IdSize) (millis : ℕ) (facts : List FactValue)
     (fault : PartFault)
     → limits.max_item ≤ longest_body → IsPart bytes ids millis facts → IsOfPart limits bytes fault
-    → IsPartFault left health pulls TakesKnown limits earlier was came is fault → health is ≡ healths.Well → (is_want fault ≡ true → ⊥) → ⊥
+    → IsPartFault left health pulls TakesKnown limits earlier was came is fault → health is ≡ healths.Well
+    → (is_resource_fault fault ≡ true → ⊥) → ⊥
 unexpected left health pulls TakesKnown limits earlier bytes came was is ids millis facts
     (faults.Malformed at reason) le part of_part why well
     unhindered = never_malformed limits bytes ids millis facts at reason le part of_part
@@ -249,7 +251,7 @@ module _ {R : Type 0} (left : R → Option (List ℕ)) (health : R → Health) (
   pub never_refused : (TakesKnown : List FactValue → Type 0) (limits : Limits) (parts : List (List ℕ)) (ids : IdSize) (millis : ℕ)
       (facts : List FactValue) (old new : List R) (index : ℕ) (fault : PartFault) → limits.max_item ≤ longest_body
       → IsState parts ids millis facts → RefusesPart left health pulls TakesKnown limits parts old new index fault
-      → All (λ reader. health reader ≡ healths.Well) new → (is_want fault ≡ true → ⊥) → ⊥
+      → All (λ reader. health reader ≡ healths.Well) new → (is_resource_fault fault ≡ true → ⊥) → ⊥
   never_refused TakesKnown limits parts ids millis facts old new index fault le state is well unhindered =
       let part = part_at state.states is.before is.bytes is.after (state.of_parts ∙ is.in_order) state.each in
       unexpected left health pulls TakesKnown limits is.given is.bytes is.at.came is.at.was is.at.is part.0 part.1 part.2 fault le part.3

@@ -13,9 +13,9 @@ use Rattle.hprof_stream.specs.declared.summary.PartSummary.{PartSummary}
 use Rattle.hprof_rows.specs.HeapValue.{HeapValue}
 use Rattle.hprof_heap.specs.State.{IsState}
 use Rattle.hprof_engine.specs.declared.tool_fault.ToolFault.{ToolFault}
-use Rattle.hprof_engine.specs.declared.product_refusal.ProductRefusal.{ProductRefusal}
-use Rattle.hprof_engine.specs.declared.product.WriteStop.{WriteStop}
-use Rattle.hprof_engine.specs.declared.product.WriteStop.TheVariants as stops
+use Rattle.hprof_engine.specs.declared.heap_fault.HeapFault.{HeapFault}
+use Rattle.hprof_engine.specs.declared.product.ProductFault.{ProductFault}
+use Rattle.hprof_engine.specs.declared.product.ProductFault.TheVariants as stops
 use Rattle.hprof_engine.specs.Summaries.{AreSummaries}
 use Rattle.hprof_engine.specs.Joining.{Tell, Agree, IsOfReading, IsHindered, IsOkOrConflict, none_known}
 use Rattle.hprof_engine.specs.Makes.{Reads, Making, Makes, EndsWriting, IsMadeOf, making_of, fault_of_stop}
@@ -43,7 +43,7 @@ module _ {R W : Type 0} (left : R → Option (List ℕ)) (health : R → Health)
 -- ---- all parts were read, and the writing ended
 
 -- the fault with which the call ends, if any
-abbrev pub fault_of_end : Result (Unit {0}) WriteStop → Option ToolFault
+abbrev pub fault_of_end : Result (Unit {0}) ProductFault → Option ToolFault
 fault_of_end (Ok done) = None
 fault_of_end (Err stop) = Some (fault_of_stop stop)
 
@@ -54,7 +54,7 @@ ill health faults.Stuck is was = cc
 
 module _ {R : Type 0} (left : R → Option (List ℕ)) (health : R → Health) (pulls : R → ℕ) (limits : Limits) (old new : List R) where
   -- where all parts were read, a stop says nothing else of them
-  pub stopped : (TakesKnown : List FactValue → Type 0) (stop : WriteStop) → Reads left health pulls TakesKnown limits old new None
+  pub stopped : (TakesKnown : List FactValue → Type 0) (stop : ProductFault) → Reads left health pulls TakesKnown limits old new None
       → Reads left health pulls TakesKnown limits old new (Some (fault_of_stop stop))
   stopped TakesKnown (stops.Write fault) reads = record {
     no_parts = (λ e. absurd cc, λ none. let no = reads.no_parts.1 none in absurd cc);
@@ -82,7 +82,7 @@ module _ {R : Type 0} (left : R → Option (List ℕ)) (health : R → Health) (
   }
 
   module _ {W : Type 0} (written : W → Option (List ℕ)) (well : W → Health)
-      (IsText : List PartSummary → HeapValue → List ℕ → Type 0) (Refuses : ProductRefusal → HeapValue → Type 0) (TakesRoom : ℕ → Type 0)
+      (IsText : List PartSummary → HeapValue → List ℕ → Type 0) (Refuses : HeapFault → HeapValue → Type 0) (TakesRoom : ℕ → Type 0)
       (TakesMemory : Type 0)
       (before after : W) (heap : HeapValue) (summaries : List PartSummary)
       (agree : (parts : List (List ℕ)) → Tell left old parts → Agree parts heap.ids heap.millis heap.facts)
@@ -96,7 +96,7 @@ module _ {R : Type 0} (left : R → Option (List ℕ)) (health : R → Health) (
       is = is;
     }
 
-    pub ended : Reads left health pulls none_known limits old new None → (result : Result (Unit {0}) WriteStop)
+    pub ended : Reads left health pulls none_known limits old new None → (result : Result (Unit {0}) ProductFault)
         → EndsWriting written well (IsText summaries heap) (λ refusal. Refuses refusal heap) TakesMemory before after result
         → Makes left health pulls written well limits (making_of IsText Refuses TakesRoom TakesMemory) old new before after
         (fault_of_end result)
@@ -148,7 +148,7 @@ module _ {R : Type 0} (left : R → Option (List ℕ)) (health : R → Health) (
       unwritten = λ _. ends.1;
       refused = λ other e.
           let same : refusal ≡ other = cc in
-          let is = subst (λ (r : ProductRefusal). Refuses r heap) same ends.0 in
+          let is = subst (λ (r : HeapFault). Refuses r heap) same ends.0 in
           (inr (heap, is, agree), λ parts told. (heap, is, agree parts told));
       write = λ fault e. absurd cc;
       lost = λ loss e. absurd cc;

@@ -25,9 +25,9 @@ use Rattle.hprof_heap.specs.State.{IsState}
 use Rattle.hprof_heap.specs.Gathering.{Gathered, Given, Tells}
 use Rattle.hprof_engine.specs.declared.tool_fault.ToolFault.{ToolFault}
 use Rattle.hprof_engine.specs.declared.tool_fault.ToolFault.TheVariants as tool
-use Rattle.hprof_engine.specs.declared.product.WriteStop.{WriteStop}
-use Rattle.hprof_engine.specs.declared.product.WriteStop.TheVariants as stops
-use Rattle.hprof_engine.specs.Joining.{Tell, Agree, IsAccepted, AreGiven, AreReadOut, RefusesPart, fault_of, is_want, IsOfReading}
+use Rattle.hprof_engine.specs.declared.product.ProductFault.{ProductFault}
+use Rattle.hprof_engine.specs.declared.product.ProductFault.TheVariants as stops
+use Rattle.hprof_engine.specs.Joining.{Tell, Agree, IsAccepted, AreGiven, AreReadOut, RefusesPart, fault_of, is_resource_fault, IsOfReading}
 use Rattle.hprof_engine.specs.Joining.{IsHindered, IsOkOrConflict}
 use Rattle.hprof_engine.specs.Joining.{none_known}
 use Rattle.hprof_engine.specs.Makes.{Reads, Makes, dump_making, IsDumpText, EndsWriting}
@@ -81,7 +81,7 @@ told_once (bytes ∷ parts) (other ∷ others) same =
     ap (λ (b : List ℕ). b ∷ parts) first ∙ ap (λ (ps : List (List ℕ)). other ∷ ps) (told_once parts others behind)
 
 -- want of memory hinders
-hinders : (fault : PartFault) → is_want_of_memory fault ≡ true → is_want fault ≡ true
+hinders : (fault : PartFault) → is_want_of_memory fault ≡ true → is_resource_fault fault ≡ true
 hinders faults.OutOfMemory memory = refl
 hinders (faults.Sink sinks.OutOfMemory) memory = refl
 hinders (faults.Sink sinks.Failed) memory = absurd cc
@@ -324,7 +324,7 @@ module _ {R : Type 0} (left : R → Option (List ℕ)) (health : R → Health) (
                   (its.state.of_parts ∙ told_once parts others (sym have.told ∙ told)) some.1,
             )
 
-        writes : (end : Result (Unit {0}) WriteStop) → EndsWriting written well (IsDumpText summarised.0 heap)
+        writes : (end : Result (Unit {0}) ProductFault) → EndsWriting written well (IsDumpText summarised.0 heap)
             (λ refusal. ⊥) ⊥ before after end
             → Makes left health pulls written well limits dump_making old new before after (fault_of_end end)
         writes end ends = ended left health pulls limits old new written well IsDumpText (λ refusal other. ⊥)

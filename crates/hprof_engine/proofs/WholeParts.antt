@@ -4,8 +4,8 @@ use Rattle.std.proofs.Common.{subst, ◌∙◌, append-nil, is_ok}
 use Rattle.std.specs.List.{AllByRecursion}
 use Rattle.std.proofs.Math.Seq.{take-length}
 use Rattle.hprof_items.specs.declared.header.Header.{Header}
-use Rattle.hprof_values.specs.declared.stop.Stop.{Stop}
-use Rattle.hprof_values.specs.declared.stop.Stop.TheVariants.{Short, TooLong, Fault}
+use Rattle.hprof_values.specs.declared.parse_stop.ParseStop.{ParseStop}
+use Rattle.hprof_values.specs.declared.parse_stop.ParseStop.TheVariants.{Short, TooLong, Fault}
 use Rattle.hprof_items.specs.FactValue.{FactValue}
 use Rattle.hprof_stream.specs.declared.limits.Limits.{Limits}
 use Rattle.hprof_stream.specs.declared.part_fault.PartFault.{PartFault}
@@ -24,7 +24,7 @@ use Rattle.hprof_engine.specs.Saved.{Saved, IsSaved, given_with, given_of, AreSa
 use Rattle.hprof_engine.specs.Sound.{JoinsTo, StandsBefore, IsAllOf}
 
 -- where a step is at fault it is not whole
-at_fault : (offset : ℕ) (step : Result (Found × ℕ) Stop) (fault : PartFault) → fault_at offset step ≡ Some fault → is_ok step ≡ false
+at_fault : (offset : ℕ) (step : Result (Found × ℕ) ParseStop) (fault : PartFault) → fault_at offset step ≡ Some fault → is_ok step ≡ false
 at_fault offset (Ok (found, n)) fault e = absurd cc
 at_fault offset (Err stop) fault e = refl
 

@@ -2,8 +2,8 @@
 use Rattle.std.specs.Prelude.{◌≡◌, ℕ, List, ◌++◌, Option, None, Some, codes, decimal}
 use Rattle.hprof_rows.specs.declared.key.Key.{Key}
 use Rattle.hprof_rows.specs.KeyText.{key_text}
-use Rattle.hprof_engine.specs.declared.product_refusal.ProductRefusal.{ProductRefusal}
-use Rattle.hprof_engine.specs.declared.product_refusal.ProductRefusal.TheVariants as products
+use Rattle.hprof_engine.specs.declared.heap_fault.HeapFault.{HeapFault}
+use Rattle.hprof_engine.specs.declared.heap_fault.HeapFault.TheVariants as products
 use Rattle.hprof_engine.specs.declared.loss.Loss.{Loss}
 use Rattle.hprof_engine.specs.declared.loss.Loss.TheVariants as losses
 use Rattle.hprof_engine.specs.declared.tool_fault.ToolFault.{ToolFault}
@@ -14,7 +14,7 @@ abbrev pub conflict_text : Key → List ℕ
 conflict_text key = codes "conflict at " ++ key_text key
 
 -- why a heap was refused
-abbrev pub refusal_text : ProductRefusal → List ℕ
+abbrev pub refusal_text : HeapFault → List ℕ
 refusal_text products.DumpTooLong = codes "dump too long"
 refusal_text products.NoClass = codes "no class has this name"
 

@@ -186,19 +186,19 @@ AreRead (Some (tool.Lost losses.Scratch)) = ⊥
 AreRead other = ⊤
 
 -- want of memory was answered, or a limit was met
-abbrev pub is_want : PartFault → Bool
-is_want faults.OutOfMemory = true
-is_want (faults.Sink sinks.OutOfMemory) = true
-is_want (faults.ItemTooLong at) = true
-is_want faults.ReadsExceeded = true
-is_want faults.BytesExceeded = true
-is_want (faults.Sink sinks.Failed) = false
-is_want (faults.Malformed at reason) = false
-is_want faults.Failed = false
-is_want faults.Read = false
+abbrev pub is_resource_fault : PartFault → Bool
+is_resource_fault faults.OutOfMemory = true
+is_resource_fault (faults.Sink sinks.OutOfMemory) = true
+is_resource_fault (faults.ItemTooLong at) = true
+is_resource_fault faults.ReadsExceeded = true
+is_resource_fault faults.BytesExceeded = true
+is_resource_fault (faults.Sink sinks.Failed) = false
+is_resource_fault (faults.Malformed at reason) = false
+is_resource_fault faults.Failed = false
+is_resource_fault faults.Read = false
 
 abbrev pub IsHindered : Option ToolFault → Type 0
-IsHindered (Some (tool.Part index fault)) = is_want fault ≡ true
+IsHindered (Some (tool.Part index fault)) = is_resource_fault fault ≡ true
 IsHindered (Some tool.OutOfMemory) = ⊤
 IsHindered (Some (tool.Refused refusal)) = ⊤
 IsHindered (Some (tool.Lost loss)) = ⊤

@@ -3,8 +3,8 @@ use Rattle.std.specs.Prelude.{◌≡◌, ℕ, ◌≤◌, List}
 use Rattle.hprof_items.specs.Spelling.{longest_body}
 use Rattle.hprof_stream.specs.declared.summary.PartSummary.{PartSummary}
 use Rattle.hprof_rows.specs.HeapValue.{HeapValue}
-use Rattle.hprof_engine.specs.declared.product_refusal.ProductRefusal.{ProductRefusal}
-use Rattle.hprof_engine.specs.declared.product_refusal.ProductRefusal.TheVariants as products
+use Rattle.hprof_engine.specs.declared.heap_fault.HeapFault.{HeapFault}
+use Rattle.hprof_engine.specs.declared.heap_fault.HeapFault.TheVariants as products
 use Rattle.hprof_engine.specs.Makes.{Making, making_of}
 use Rattle.hprof_dump.specs.Dump101.{dump101, sub_len, IsTooLong}
 
@@ -14,7 +14,7 @@ IsDump101Text summaries heap text =
     (sub_len heap.ids heap.facts ≤ longest_body) × (text ≡ dump101 heap.ids heap.millis heap.facts)
 
 -- the heap's sub-records are longer than that
-abbrev pub Refuses101 : ProductRefusal → HeapValue → Type 0
+abbrev pub Refuses101 : HeapFault → HeapValue → Type 0
 Refuses101 products.DumpTooLong heap = IsTooLong longest_body heap.ids heap.facts
 Refuses101 products.NoClass heap = ⊥
 

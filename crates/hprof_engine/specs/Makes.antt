@@ -19,9 +19,9 @@ use Rattle.hprof_engine.specs.declared.tool_fault.ToolFault.{ToolFault}
 use Rattle.hprof_engine.specs.declared.tool_fault.ToolFault.TheVariants as tool
 use Rattle.hprof_engine.specs.declared.loss.Loss.{Loss}
 use Rattle.hprof_engine.specs.declared.loss.Loss.TheVariants as losses
-use Rattle.hprof_engine.specs.declared.product_refusal.ProductRefusal.{ProductRefusal}
-use Rattle.hprof_engine.specs.declared.product.WriteStop.{WriteStop}
-use Rattle.hprof_engine.specs.declared.product.WriteStop.TheVariants as stops
+use Rattle.hprof_engine.specs.declared.heap_fault.HeapFault.{HeapFault}
+use Rattle.hprof_engine.specs.declared.product.ProductFault.{ProductFault}
+use Rattle.hprof_engine.specs.declared.product.ProductFault.TheVariants as stops
 use Rattle.hprof_engine.specs.Joining.{Tell, Agree, Disagree, IsAccepted, RefusesPart, AreReadOut, read_count, AreRead, IsHindered}
 use Rattle.hprof_engine.specs.Joining.{IsOkOrConflict, IsBeforeWriting, none_known}
 use Rattle.hprof_engine.specs.Summaries.{AreSummaries}
@@ -66,7 +66,7 @@ pub record Making : Type 1 where
   -- the text is made of the parts
   pub IsMade : List (List ℕ) → List ℕ → Type 0
   -- the heap is refused for that reason, before the first byte
-  pub Refuses : ProductRefusal → HeapValue → Type 0
+  pub Refuses : HeapFault → HeapValue → Type 0
   -- memory is taken before any of so many parts is read, beside that for reading
   pub TakesRoom : ℕ → Type 0
   -- memory is taken while it is written
@@ -93,7 +93,7 @@ pub record Makes {R W : Type 0} (left : R → Option (List ℕ)) (health : R →
   -- a refusal before writing leaves the writer as it was
   pub unwritten : IsBeforeWriting ended → after ≡ before
   -- the heap that the parts state is refused for that reason; where they tell nothing, some heap is, unless objects are read again
-  pub refused : (refusal : ProductRefusal) → ended ≡ Some (tool.Refused refusal)
+  pub refused : (refusal : HeapFault) → ended ≡ Some (tool.Refused refusal)
       → (making.ReadsAgain ⊎ RefusesHeap left old (making.Refuses refusal))
       × ((parts : List (List ℕ)) → Tell left old parts → (heap : HeapValue) × making.Refuses refusal heap
       × Agree parts heap.ids heap.millis heap.facts)
@@ -110,7 +110,7 @@ pub record Makes {R W : Type 0} (left : R → Option (List ℕ)) (health : R →
   pub memory : ended ≡ Some tool.OutOfMemory → (making.TakesRoom (length old) × (new ≡ old) × (after ≡ before))
       ⊎ (making.TakesMemory × AreReadOut left health pulls limits old new (length old) × (well after ≡ healths.Well)
       × (((parts : List (List ℕ)) → Tell left old parts → WritesFront making.IsMade parts (written before) (written after))
-      ⊎ ((making.ReadsAgain ⊎ ((refusal : ProductRefusal) × RefusesHeap left old (making.Refuses refusal))) × (after ≡ before))))
+      ⊎ ((making.ReadsAgain ⊎ ((refusal : HeapFault) × RefusesHeap left old (making.Refuses refusal))) × (after ≡ before))))
   -- no other answer where the parts state something together, readers and writer stay well, and nothing hindered it
   pub no_other : (parts : List (List ℕ)) (ids : IdSize) (millis : ℕ) (facts : List FactValue) → Tell left old parts
       → IsState parts ids millis facts → All (λ reader. health reader ≡ healths.Well) new → well after ≡ healths.Well
@@ -121,7 +121,7 @@ pub record Makes {R W : Type 0} (left : R → Option (List ℕ)) (health : R →
 -- how the writing of a product of one heap ends
 --   IsText: this is its text;  Refuses: it is refused for that reason, before the first byte;  TakesMemory: writing it takes memory
 abbrev pub EndsWriting : {W : Type 0} → (W → Option (List ℕ)) → (W → Health) → (IsText : List ℕ → Type 0)
-    → (Refuses : ProductRefusal → Type 0) → (TakesMemory : Type 0) → (before after : W) → Result (Unit {0}) WriteStop → Type 0
+    → (Refuses : HeapFault → Type 0) → (TakesMemory : Type 0) → (before after : W) → Result (Unit {0}) ProductFault → Type 0
 EndsWriting written well IsText Refuses TakesMemory before after (Ok done) =
     (well after ≡ healths.Well) × ((text : List ℕ) × IsText text × Appends (written before) (written after) text)
 EndsWriting written well IsText Refuses TakesMemory before after (Err (stops.Write fault)) =
@@ -130,7 +130,7 @@ EndsWriting written well IsText Refuses TakesMemory before after (Err (stops.Wri
 EndsWriting written well IsText Refuses TakesMemory before after (Err stops.OutOfMemory) = TakesMemory
     × (well after ≡ healths.Well)
     × (((text : List ℕ) × (count : ℕ) × IsText text × Appends (written before) (written after) (take count text))
-    ⊎ (((refusal : ProductRefusal) × Refuses refusal) × (after ≡ before)))
+    ⊎ (((refusal : HeapFault) × Refuses refusal) × (after ≡ before)))
 EndsWriting written well IsText Refuses TakesMemory before after (Err (stops.Refused refusal)) = Refuses refusal × (after ≡ before)
 
 -- the parts agree, and this is made of their summaries and of the heap that they state
@@ -142,7 +142,7 @@ pub record IsMadeOf (IsText : List PartSummary → HeapValue → List ℕ → Ty
   pub is : IsText summaries heap text
 
 -- what is made of parts, by what a product says of one heap
-abbrev pub making_of : (IsText : List PartSummary → HeapValue → List ℕ → Type 0) (Refuses : ProductRefusal → HeapValue → Type 0)
+abbrev pub making_of : (IsText : List PartSummary → HeapValue → List ℕ → Type 0) (Refuses : HeapFault → HeapValue → Type 0)
     (TakesRoom : ℕ → Type 0) (TakesMemory : Type 0) → Making
 making_of IsText Refuses TakesRoom TakesMemory = record {
   IsMade = IsMadeOf IsText;
@@ -154,7 +154,7 @@ making_of IsText Refuses TakesRoom TakesMemory = record {
 }
 
 -- the fault that a product's stop is
-abbrev pub fault_of_stop : WriteStop → ToolFault
+abbrev pub fault_of_stop : ProductFault → ToolFault
 fault_of_stop (stops.Write fault) = tool.Write fault
 fault_of_stop stops.OutOfMemory = tool.OutOfMemory
 fault_of_stop (stops.Refused refusal) = tool.Refused refusal

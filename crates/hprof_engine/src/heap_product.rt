@@ -2,7 +2,7 @@
 
 ghost use Rattle.std.specs.Prelude.{◌≡◌, ℕ, List, ⊤};
 
-use crate::product::{Product, WriteStop};
+use crate::product::{Product, ProductFault};
 use crate::summaries::Summaries;
 use hprof_devices::Target;
 use hprof_heap::Heap;
@@ -14,14 +14,14 @@ pub trait HeapProduct {
     ghost use Rattle.hprof_devices.specs.declared.health.Health.TheVariants.{Well};
     ghost use Rattle.hprof_rows.specs.HeapValue.{HeapValue};
     ghost use Rattle.hprof_heap.specs.Heap.{heap_of};
-    ghost use Rattle.hprof_engine.specs.declared.product_refusal.ProductRefusal.{ProductRefusal};
+    ghost use Rattle.hprof_engine.specs.declared.heap_fault.HeapFault.{HeapFault};
     ghost use Rattle.hprof_engine.specs.Makes.{EndsWriting};
 
     // The text is made of that heap.
     ghost is_text: { Self → HeapValue → List ℕ → Type 0 };
 
     // The heap is refused for that reason, before the first byte.
-    ghost refuses: { Self → ProductRefusal → HeapValue → Type 0 };
+    ghost refuses: { Self → HeapFault → HeapValue → Type 0 };
 
     // Writing it takes memory.
     ghost takes_memory: { Self → Type 0 };
@@ -32,7 +32,7 @@ pub trait HeapProduct {
         alloc: Global,
         heap: &Heap,
         target: &mut W,
-    ) -> Result<(), WriteStop>
+    ) -> Result<(), ProductFault>
         requires { W.health target.old ≡ Well }
         ensures { EndsWriting W.written W.health (is_text self.now (heap_of heap.now))
             (λ refusal. refuses self.now refusal (heap_of heap.now)) (takes_memory self.now) target.old target.new result };
@@ -73,7 +73,7 @@ impl<P: HeapProduct> Product for P {
         _kept: &(),
         heap: &Heap,
         target: &mut W,
-    ) -> Result<(), WriteStop> {
+    ) -> Result<(), ProductFault> {
         self.write_heap(alloc, heap, target)
     }
 

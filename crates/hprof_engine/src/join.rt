@@ -10,7 +10,7 @@ ghost use Rattle.hprof_engine.specs.Makes.{Makes, dump_making};
 
 use crate::heap_product::HeapProduct;
 use crate::joined::{Joined, JoinedHeap, join_with};
-use crate::product::WriteStop;
+use crate::product::ProductFault;
 use crate::tool_fault::ToolFault;
 use hprof_devices::{Source, Target};
 use hprof_dump::write_canonical;
@@ -36,10 +36,10 @@ impl HeapProduct for Dump {
         _alloc: Global,
         heap: &Heap,
         target: &mut W,
-    ) -> Result<(), WriteStop> {
+    ) -> Result<(), ProductFault> {
         match write_canonical(heap, target) {
             Ok(()) => Ok(()),
-            Err(fault) => Err(WriteStop::Write(fault)),
+            Err(fault) => Err(ProductFault::Write(fault)),
         }
     }
 
@@ -47,7 +47,7 @@ impl HeapProduct for Dump {
 }
 
 /// Does what [`join_to`] does, and returns the heap that was written, too: a program that ends need not free it row by row.
-pub fn join_kept<R: Source, W: Target>(
+pub fn join_returning_heap<R: Source, W: Target>(
     alloc: Global,
     readers: &mut [R],
     target: &mut W,
@@ -85,7 +85,7 @@ pub fn join_to<R: Source, W: Target>(
         readers.old readers.new target.old target.new (fault_of result) }
     ensures joined { IfOk result (λ joined. (parts : List (List ℕ)) → Tell R.left readers.old parts → AreJoined parts joined) }
 {
-    match join_kept(alloc, readers, target, limits) {
+    match join_returning_heap(alloc, readers, target, limits) {
         Ok(kept) => Ok(kept.joined),
         Err(fault) => Err(fault),
     }

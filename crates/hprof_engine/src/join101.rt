@@ -10,10 +10,10 @@ ghost use Rattle.hprof_engine.specs.Makes.{Makes};
 ghost use Rattle.hprof_dump.specs.Dump101.{dump101, sub_len};
 ghost use Rattle.hprof_engine.specs.Joining101.{Refuses101, dump101_making};
 
+use crate::heap_fault::HeapFault;
 use crate::heap_product::HeapProduct;
 use crate::joined::{Joined, JoinedHeap, join_with};
-use crate::product::WriteStop;
-use crate::product_refusal::ProductRefusal;
+use crate::product::ProductFault;
 use crate::tool_fault::ToolFault;
 use hprof_devices::{Source, Target};
 use hprof_dump::{DumpFault, write_v101};
@@ -39,11 +39,11 @@ impl HeapProduct for Dump101 {
         _alloc: Global,
         heap: &Heap,
         target: &mut W,
-    ) -> Result<(), WriteStop> {
+    ) -> Result<(), ProductFault> {
         match write_v101(heap, u32::MAX, target) {
             Ok(()) => Ok(()),
-            Err(DumpFault::TooLong) => Err(WriteStop::Refused(ProductRefusal::DumpTooLong)),
-            Err(DumpFault::Write(fault)) => Err(WriteStop::Write(fault)),
+            Err(DumpFault::TooLong) => Err(ProductFault::Refused(HeapFault::DumpTooLong)),
+            Err(DumpFault::Write(fault)) => Err(ProductFault::Write(fault)),
         }
     }
 
@@ -51,7 +51,7 @@ impl HeapProduct for Dump101 {
 }
 
 /// Does what [`join101_to`] does, and returns the heap that was written, too: a program that ends need not free it row by row.
-pub fn join101_kept<R: Source, W: Target>(
+pub fn join101_returning_heap<R: Source, W: Target>(
     alloc: Global,
     readers: &mut [R],
     target: &mut W,
@@ -88,7 +88,7 @@ pub fn join101_to<R: Source, W: Target>(
         readers.old readers.new target.old target.new (fault_of result) }
     ensures joined { IfOk result (λ joined. (parts : List (List ℕ)) → Tell R.left readers.old parts → AreJoined parts joined) }
 {
-    match join101_kept(alloc, readers, target, limits) {
+    match join101_returning_heap(alloc, readers, target, limits) {
         Ok(kept) => Ok(kept.joined),
         Err(fault) => Err(fault),
     }

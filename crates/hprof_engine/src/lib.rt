@@ -4,6 +4,7 @@
 #![tactic(auto)]
 
 mod counter;
+mod heap_fault;
 mod heap_product;
 mod join;
 mod join101;
@@ -13,7 +14,6 @@ mod loss;
 mod make;
 mod parts;
 mod product;
-mod product_refusal;
 mod read;
 mod salvage;
 mod salvage_reading;
@@ -21,16 +21,16 @@ mod salvaged;
 mod summaries;
 mod tool_fault;
 
+pub use heap_fault::HeapFault;
 pub use heap_product::HeapProduct;
-pub use join::{Dump, join_kept, join_to};
-pub use join101::{Dump101, join101_kept, join101_to};
+pub use join::{Dump, join_returning_heap, join_to};
+pub use join101::{Dump101, join101_returning_heap, join101_to};
 pub use joined::{Joined, JoinedHeap, join_with};
 pub use loss::Loss;
 pub use make::{make_to, write_to};
-pub use product::{Product, WriteStop};
-pub use product_refusal::ProductRefusal;
+pub use product::{Product, ProductFault};
 pub use read::read_heap;
-pub use salvage::{salvage_kept, salvage_to};
+pub use salvage::{salvage_returning_heap, salvage_to};
 pub use salvaged::{FaultedPart, Salvaged, SalvagedHeap};
 pub use summaries::{AllSummaries, NoSummaries, Summaries};
 pub use tool_fault::ToolFault;

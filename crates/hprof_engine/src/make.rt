@@ -8,7 +8,7 @@ ghost use Rattle.hprof_heap.specs.Heap.{heap_of};
 ghost use Rattle.hprof_engine.specs.Joining.{Tell, Agree, fault_of};
 ghost use Rattle.hprof_engine.specs.Makes.{Makes, making_of};
 
-use crate::product::{Product, WriteStop};
+use crate::product::{Product, ProductFault};
 use crate::read::read_heap;
 use crate::tool_fault::ToolFault;
 use hprof_devices::{Source, Target};
@@ -16,16 +16,16 @@ use hprof_heap::{Gatherer, Heap};
 use hprof_stream::Limits;
 use std::alloc::Global;
 
-impl From<WriteStop> for ToolFault {
+impl From<ProductFault> for ToolFault {
     ghost use Rattle.hprof_engine.specs.Makes.{fault_of_stop};
 
     ghost from_gives = { λ stop fault. fault ≡ fault_of_stop stop };
 
-    fn from(stop: WriteStop) -> ToolFault {
+    fn from(stop: ProductFault) -> ToolFault {
         match stop {
-            WriteStop::Write(fault) => ToolFault::Write(fault),
-            WriteStop::Refused(refusal) => ToolFault::Refused(refusal),
-            WriteStop::OutOfMemory => ToolFault::OutOfMemory,
+            ProductFault::Write(fault) => ToolFault::Write(fault),
+            ProductFault::Refused(refusal) => ToolFault::Refused(refusal),
+            ProductFault::OutOfMemory => ToolFault::OutOfMemory,
         }
     }
 }

@@ -2,7 +2,7 @@
 
 ghost use Rattle.std.specs.Prelude.{◌≡◌, ℕ, List};
 
-use crate::product_refusal::ProductRefusal;
+use crate::heap_fault::HeapFault;
 use crate::summaries::Summaries;
 use hprof_devices::{Target, WriteFault};
 use hprof_heap::Heap;
@@ -11,45 +11,45 @@ use thiserror::Error;
 
 /// The reason why the writing of a product stopped.
 #[derive(Clone, Copy, Debug, PartialEq, Eq, Error)]
-pub enum WriteStop {
+pub enum ProductFault {
     /// The writer failed or stuck.
     #[error("{0}")]
     Write(WriteFault),
     /// The heap was refused. Nothing was written.
     #[error("{0}")]
-    Refused(ProductRefusal),
+    Refused(HeapFault),
     /// Memory ran out.
     #[error("out of memory")]
     OutOfMemory,
 }
 
-impl From<AllocError> for WriteStop {
-    ghost use Rattle.hprof_engine.specs.declared.product.WriteStop.TheVariants.{OutOfMemory};
+impl From<AllocError> for ProductFault {
+    ghost use Rattle.hprof_engine.specs.declared.product.ProductFault.TheVariants.{OutOfMemory};
 
     ghost from_gives = { λ _ stop. stop ≡ OutOfMemory };
 
-    fn from(_error: AllocError) -> WriteStop {
-        WriteStop::OutOfMemory
+    fn from(_error: AllocError) -> ProductFault {
+        ProductFault::OutOfMemory
     }
 }
 
-impl From<WriteFault> for WriteStop {
-    ghost use Rattle.hprof_engine.specs.declared.product.WriteStop.TheVariants.{Write};
+impl From<WriteFault> for ProductFault {
+    ghost use Rattle.hprof_engine.specs.declared.product.ProductFault.TheVariants.{Write};
 
     ghost from_gives = { λ fault given. given ≡ Write fault };
 
-    fn from(fault: WriteFault) -> WriteStop {
-        WriteStop::Write(fault)
+    fn from(fault: WriteFault) -> ProductFault {
+        ProductFault::Write(fault)
     }
 }
 
-impl From<ProductRefusal> for WriteStop {
-    ghost use Rattle.hprof_engine.specs.declared.product.WriteStop.TheVariants.{Refused};
+impl From<HeapFault> for ProductFault {
+    ghost use Rattle.hprof_engine.specs.declared.product.ProductFault.TheVariants.{Refused};
 
     ghost from_gives = { λ refusal given. given ≡ Refused refusal };
 
-    fn from(refusal: ProductRefusal) -> WriteStop {
-        WriteStop::Refused(refusal)
+    fn from(refusal: HeapFault) -> ProductFault {
+        ProductFault::Refused(refusal)
     }
 }
 
@@ -60,14 +60,14 @@ pub trait Product: Summaries {
     ghost use Rattle.hprof_stream.specs.declared.summary.PartSummary.{PartSummary};
     ghost use Rattle.hprof_rows.specs.HeapValue.{HeapValue};
     ghost use Rattle.hprof_heap.specs.Heap.{heap_of};
-    ghost use Rattle.hprof_engine.specs.declared.product_refusal.ProductRefusal.{ProductRefusal};
+    ghost use Rattle.hprof_engine.specs.declared.heap_fault.HeapFault.{HeapFault};
     ghost use Rattle.hprof_engine.specs.Makes.{EndsWriting};
 
     // The text is made of parts with these summaries, which state that heap.
     ghost is_text: { Self → List PartSummary → HeapValue → List ℕ → Type 0 };
 
     // The heap is refused for that reason, before the first byte.
-    ghost refuses: { Self → ProductRefusal → HeapValue → Type 0 };
+    ghost refuses: { Self → HeapFault → HeapValue → Type 0 };
 
     // Writing it takes memory.
     ghost takes_memory: { Self → Type 0 };
@@ -79,7 +79,7 @@ pub trait Product: Summaries {
         kept: &Self::Kept,
         heap: &Heap,
         target: &mut W,
-    ) -> Result<(), WriteStop>
+    ) -> Result<(), ProductFault>
         requires well { W.health target.old ≡ Well }
         ensures { (summaries : List PartSummary) → Self.holds self.now kept.now summaries
             → EndsWriting W.written W.health (is_text self.now summaries (heap_of heap.now))

@@ -21,7 +21,7 @@ use hprof_stream::Limits;
 use std::alloc::Global;
 
 /// Does what [`salvage_to`] does, and returns the heap that was written, too: a program that ends need not free it row by row.
-pub fn salvage_kept<R: Source, W: Target>(
+pub fn salvage_returning_heap<R: Source, W: Target>(
     alloc: Global,
     readers: &mut [R],
     target: &mut W,
@@ -79,7 +79,7 @@ pub fn salvage_to<R: Source, W: Target>(
     ensures no_fault { (parts : List (List ℕ)) → HaveNoFault R.left R.health limits readers.old readers.new parts
         → AnswersAsJoin R.left R.health R.pulls limits readers.old readers.new W.written W.health target.old target.new result }
 {
-    match salvage_kept(alloc, readers, target, limits) {
+    match salvage_returning_heap(alloc, readers, target, limits) {
         Ok(kept) => Ok(kept.salvaged),
         Err(fault) => Err(fault),
     }

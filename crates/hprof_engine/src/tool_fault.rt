@@ -3,8 +3,8 @@
 ghost use Rattle.std.specs.Prelude.{◌≡◌, ◌++◌, IfOk, codes, decimal, string_bytes};
 ghost use Rattle.hprof_engine.specs.FaultText.{IsFaultText, IsPartText};
 
+use crate::heap_fault::HeapFault;
 use crate::loss::Loss;
-use crate::product_refusal::ProductRefusal;
 use hprof_devices::WriteFault;
 use hprof_heap::Key;
 use hprof_stream::PartFault;
@@ -30,7 +30,7 @@ pub enum ToolFault {
     /// Two facts have one key and different contents. This is the least such key.
     Conflict(Key),
     /// The heap was refused before anything was written.
-    Refused(ProductRefusal),
+    Refused(HeapFault),
     /// The objects of the parts are lost. Only calls that read parts again answer this.
     Lost(Loss),
     /// The writer failed or stuck.

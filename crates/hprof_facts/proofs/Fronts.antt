@@ -63,16 +63,16 @@ first_more longest bytes extra facts first = record {
 
 module _ (longest : ℕ) (bytes : List ℕ) (header : Option Header) (all : List FactValue) (states : StatesSoFar longest bytes header all)
   where
-    go_on : (items : List Stated) (place : Place) (rest : List ℕ) → Splits longest bytes items place rest
+    resume_sub_record : (items : List Stated) (place : Place) (rest : List ℕ) → Splits longest bytes items place rest
         → GoesOn longest place items states.place states.items
-    go_on items place rest splits =
+    resume_sub_record items place rest splits =
         items_go_on longest Start place states.place items states.items rest states.rest splits.each states.splits.each
         (sym splits.parts ∙ states.splits.parts) states.ends
 
     -- they are the first of all facts
     pub first_facts : (facts : List FactValue) → StatesFirst longest bytes facts → (others : List FactValue) × (all ≡ facts ++ others)
     first_facts facts first =
-        let on = go_on first.items first.place first.rest first.splits in (
+        let on = resume_sub_record first.items first.place first.rest first.splits in (
           all_facts on.behind,
           sym states.has_facts ∙ ap all_facts on.same ∙ all_facts-then first.items on.behind
               ∙ ap (λ (l : List FactValue). l ++ all_facts on.behind) first.has_facts,
@@ -82,7 +82,7 @@ module _ (longest : ℕ) (bytes : List ℕ) (header : Option Header) (all : List
     pub first_header : (items : List Stated) (place : Place) (rest : List ℕ) (one : Header) → Splits longest bytes items place rest
         → header_before place ≡ Some one → header ≡ Some one
     first_header items place rest one splits is =
-        let on = go_on items place rest splits in
+        let on = resume_sub_record items place rest splits in
         sym states.has_header ∙ items_kept longest one place states.place on.behind on.are is
 
 -- what a reader has read

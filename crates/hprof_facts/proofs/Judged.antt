@@ -2,8 +2,8 @@
 use Rattle.std.proofs.Common.{◌≡◌, ℕ, List, true, false, length, Some, Result, Ok, Err, refl, subst}
 use Rattle.std.proofs.lemmas.Bool.{both_ways}
 use Rattle.hprof_values.specs.declared.reason.Reason.TheVariants.{Truncated}
-use Rattle.hprof_values.specs.declared.stop.Stop.{Stop}
-use Rattle.hprof_values.specs.declared.stop.Stop.TheVariants.{Short, TooLong, Fault}
+use Rattle.hprof_values.specs.declared.parse_stop.ParseStop.{ParseStop}
+use Rattle.hprof_values.specs.declared.parse_stop.ParseStop.TheVariants.{Short, TooLong, Fault}
 use Rattle.hprof_stream.specs.declared.limits.Limits.{Limits}
 use Rattle.hprof_stream.specs.declared.part_fault.PartFault.{PartFault}
 use Rattle.hprof_stream.specs.declared.part_fault.PartFault.TheVariants as faults
@@ -14,7 +14,8 @@ use Rattle.hprof_stream.specs.Reader.{IsSettledFault}
 use Rattle.hprof_facts.specs.OfBytes.{is_of_bytes}
 
 -- the test that fails at an item
-of_item : (offset : ℕ) (step : Result (Found × ℕ) Stop) (fault : PartFault) → fault_at offset step ≡ Some fault → is_of_bytes fault ≡ true
+of_item : (offset : ℕ) (step : Result (Found × ℕ) ParseStop) (fault : PartFault) → fault_at offset step ≡ Some fault
+    → is_of_bytes fault ≡ true
 of_item offset (Ok (found, n)) fault e = absurd cc
 of_item offset (Err Short) fault e = let same : faults.Malformed offset Truncated ≡ fault = cc in
     subst (λ (f : PartFault). is_of_bytes f ≡ true) same refl

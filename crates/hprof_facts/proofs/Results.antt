@@ -5,8 +5,8 @@ use Rattle.std.proofs.lemmas.Bool.{both_ways}
 use Rattle.std.proofs.lemmas.List.{length-append, take-append-le, take_all}
 use Rattle.hprof_values.specs.declared.ids.IdSize.{IdSize}
 use Rattle.hprof_values.specs.declared.reason.Reason.TheVariants.{Truncated}
-use Rattle.hprof_values.specs.declared.stop.Stop.{Stop}
-use Rattle.hprof_values.specs.declared.stop.Stop.TheVariants.{Short, TooLong, Fault}
+use Rattle.hprof_values.specs.declared.parse_stop.ParseStop.{ParseStop}
+use Rattle.hprof_values.specs.declared.parse_stop.ParseStop.TheVariants.{Short, TooLong, Fault}
 use Rattle.hprof_items.specs.declared.header.Header.{Header}
 use Rattle.hprof_items.specs.FactValue.{FactValue}
 use Rattle.hprof_stream.specs.declared.limits.Limits.{Limits}
@@ -29,7 +29,7 @@ use Rattle.hprof_facts.proofs.OneSummary.{one_summary}
 -- ---- bytes come to one result
 
 -- no first fault is that there are too many bytes
-never_exceeded : (offset : ℕ) (step : Result (Found × ℕ) Stop) → fault_at offset step ≡ Some faults.BytesExceeded → ⊥
+never_exceeded : (offset : ℕ) (step : Result (Found × ℕ) ParseStop) → fault_at offset step ≡ Some faults.BytesExceeded → ⊥
 never_exceeded offset (Ok (found, n)) e = absurd cc
 never_exceeded offset (Err Short) e = absurd cc
 never_exceeded offset (Err TooLong) e = absurd cc
@@ -109,7 +109,7 @@ settled_result limits came more whole fault all settled =
 -- ---- what was stated before a fault that is settled is all that is stated before it
 
 -- a test that fails for good
-fails_on : (longest : ℕ) (place : Place) (rest extra : List ℕ) (offset : ℕ) (fault : PartFault) (step : Result (Found × ℕ) Stop)
+fails_on : (longest : ℕ) (place : Place) (rest extra : List ℕ) (offset : ℕ) (fault : PartFault) (step : Result (Found × ℕ) ParseStop)
     → item_at longest place rest ≡ step → fault_at offset step ≡ Some fault → is_settled fault ≡ true
     → is_ok (item_at longest place (rest ++ extra)) ≡ false
 fails_on longest place rest extra offset fault (Ok (found, n)) is fails settled = absurd cc
@@ -120,7 +120,8 @@ fails_on longest place rest extra offset fault (Err TooLong) is fails settled = 
 fails_on longest place rest extra offset fault (Err (Fault reason)) is fails settled =
     ap is_ok (item_stays longest place rest extra reason is)
 
-fault_stops : (offset : ℕ) (step : Result (Found × ℕ) Stop) (fault : PartFault) → fault_at offset step ≡ Some fault → is_ok step ≡ false
+fault_stops : (offset : ℕ) (step : Result (Found × ℕ) ParseStop) (fault : PartFault) → fault_at offset step ≡ Some fault
+    → is_ok step ≡ false
 fault_stops offset (Ok (found, n)) fault e = absurd cc
 fault_stops offset (Err stop) fault e = refl
 

@@ -40,7 +40,7 @@ fn sort_from(edges: &mut Vec<Edge>, start: usize)
 }
 
 /// Moves the edges to an identifier to the end, sorts them, and removes repetitions. Returns the place where they begin. Allocates nothing.
-pub(crate) fn bring_behind(edges: &mut Vec<Edge>, id: u64) -> usize
+pub(crate) fn partition_by_target(edges: &mut Vec<Edge>, id: u64) -> usize
     ensures within { result ≤ vec_len edges.new }
     ensures ascend { IsStrictlySortedBy (edge_ord.ghosts).cmp (drop result edges.new.items) }
     ensures exact { (edge : Edge) → Contains (drop result edges.new.items) edge ↔ (Contains edges.old.items edge × (edge.to ≡ id)) }

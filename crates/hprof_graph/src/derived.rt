@@ -18,7 +18,7 @@ ghost use Rattle.hprof_graph.specs.Derived.{keeps_of, stopped};
 ghost use Rattle.hprof_graph.specs.Indexed.{IsIndexOf};
 ghost use Rattle.hprof_graph.specs.Number.{IsNumberOf};
 
-use crate::behind::bring_behind;
+use crate::behind::partition_by_target;
 use crate::by_target::sort_by_target;
 use crate::indexed::Index;
 use hprof_edges::{Edge, EdgeSet, array_edges, class_edges, edge_to_class, field_edges};
@@ -74,7 +74,7 @@ impl Derived {
     }
 
     /// Moves the edges to an identifier to the end, in order, and returns the place where they begin.
-    pub(crate) fn bring_behind(&mut self, id: u64) -> usize
+    pub(crate) fn partition_by_target(&mut self, id: u64) -> usize
         ensures within { result ≤ vec_len self.new.set.edges }
         ensures behind { (ids : IdSize) (facts : List FactValue) → IsDerived ids facts self.old
             → ((edge : Edge) → edge.to ≡ id → keeps_of self.old edge ≡ true)
@@ -84,7 +84,7 @@ impl Derived {
         ensures same { (ids : IdSize) (facts : List FactValue) → IsDerived ids facts self.old → IsDerived ids facts self.new }
         ensures keeps { keeps_of self.new ≡ keeps_of self.old }
     {
-        bring_behind(&mut self.set.edges, id)
+        partition_by_target(&mut self.set.edges, id)
     }
 
     /// Returns the collected edges from a place on.
@@ -195,7 +195,7 @@ impl Derived {
         ensures keeps { OnOk result (keeps_of self.new ≡ keeps_of self.old) }
     {
         class_edges(dump, &mut self.set)?;
-        let woken = self.known.come(dump, id_size(heap))?;
+        let woken = self.known.add_class(dump, id_size(heap))?;
         self.wake_all(heap, &woken)?;
         Ok(())
     }

@@ -151,7 +151,7 @@ impl LiveHeap {
         ensures kept { IsCurrent self.old → IsAnswer (λ ids facts edges. AreEdges ids facts (λ edge. (edge.to ≡ id)
             × (keeps_of self.old.derived edge ≡ true)) edges.now) (outcome_of self.old) result }
     {
-        let start = self.derived.bring_behind(id);
+        let start = self.derived.partition_by_target(id);
         self.lend_edges(start)
     }
 

@@ -14,7 +14,7 @@ use Rattle.hprof_rows.proofs.Keys.{is_key-true, true-is_key}
 use Rattle.hprof_rows.proofs.Picking.{found, not_found}
 use Rattle.hprof_heap.specs.declared.class_dump.ClassDump.{ClassDump}
 use Rattle.hprof_heap.specs.Classes.{ClassValue, HasDump, HasNoDump, fact_of_class}
-use Rattle.hprof_heap.specs.ClassDump.{ClassListsHave, IsFoundClass, class_value}
+use Rattle.hprof_heap.specs.ClassDump.{ClassListsHave, AnswersClass, class_value}
 
 -- no class has two dumps; so it is where facts agree
 abbrev pub OneDumpEach : List FactValue → Type 0
@@ -76,11 +76,11 @@ none_found facts class e dump has is =
 -- ---- what is found
 
 pub no_class_found : (ids : IdSize) (facts : List FactValue) (class : ℕ) → find (has_key (keys.Class class)) facts ≡ None
-    → IsFoundClass ids facts class None
+    → AnswersClass ids facts class None
 no_class_found ids facts class e = record { found = tt; id = tt; lists = tt; only = tt; none = none_found facts class e }
 
 pub class_found : (ids : IdSize) (facts : List FactValue) (class : ℕ) (dump : ClassDump) → IsConsistent facts
-    → HasDump facts (class_value dump) → dump.id ≡ class → ClassListsHave ids dump → IsFoundClass ids facts class (Some dump)
+    → HasDump facts (class_value dump) → dump.id ≡ class → ClassListsHave ids dump → AnswersClass ids facts class (Some dump)
 class_found ids facts class dump agree has is lists = record {
   found = has;
   id = is;

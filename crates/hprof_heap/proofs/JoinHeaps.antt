@@ -12,6 +12,7 @@ use Rattle.hprof_rows.specs.Tables.{facts_of_table, number_of_table, stands_in, 
 use Rattle.hprof_rows.specs.HeapRows.{HeapRows, AreHeap, heap_of_rows, tables_of}
 use Rattle.hprof_rows.specs.HeapValue.{HeapValue, IsHeap}
 use Rattle.hprof_heap.specs.Join.{IsBetween, LacksFact, LacksFactIn, TakesFacts}
+use Rattle.hprof_heap.specs.OtherFacts.{tables_facts}
 use Rattle.hprof_rows.proofs.Conflicts.{IsConsistent-same}
 use Rattle.hprof_rows.proofs.FactSets.{Has-front, Has-back, Has-both, SameFacts-refl, SameFacts-sym, SameFacts-trans, SameFacts-append}
 use Rattle.hprof_rows.proofs.HeapRows.{table_facts}
@@ -20,10 +21,6 @@ use Rattle.hprof_rows.proofs.Tables.{table_at}
 
 -- ---- the facts of tables
 
--- those of each of these tables, one after the other
-abbrev pub facts_of_tables : List Table → List FactValue → List FactValue
-facts_of_tables list facts = joined (map (λ table. facts_of_table table facts) list)
-
 -- all tables, in order
 abbrev pub all_tables : List Table
 all_tables =
@@ -31,14 +28,15 @@ all_tables =
     ∷ tables.Classes
     ∷ tables.Objects ∷ []
 
-by_each : (f g : Table → List FactValue) (list : List Table) → ((table : Table) → f table ≡ g table) → map f list ≡ map g list
+-- facts that are the same table by table
+pub by_each : (f g : Table → List FactValue) (list : List Table) → ((table : Table) → f table ≡ g table) → map f list ≡ map g list
 by_each f g [] same = refl
 by_each f g (table ∷ list) same =
     ap (λ (l : List (List FactValue)). f table ∷ l) (by_each f g list same)
     ∙ ap (λ (facts : List FactValue). facts ∷ map g list) (same table)
 
 -- those of all are those of the heap
-pub all_facts : (rows : HeapRows) → AreHeap rows → facts_of_tables all_tables (heap_of_rows rows).facts ≡ (heap_of_rows rows).facts
+pub all_facts : (rows : HeapRows) → AreHeap rows → tables_facts all_tables (heap_of_rows rows).facts ≡ (heap_of_rows rows).facts
 all_facts rows are =
     ap joined (by_each (λ table. facts_of_table table (joined (tables_of rows))) (λ table.
     table_at (tables_of rows) (number_of_table table))
@@ -79,10 +77,10 @@ takes_more old mid new facts more first second = record {
 pub record TakesSome (old other : HeapValue) (left : List Table) (now : HeapValue) : Type 0 where
   pub facts : List FactValue
   pub takes : TakesFacts old facts now
-  pub parts : facts ++ facts_of_tables left other.facts ≡ other.facts
+  pub parts : facts ++ tables_facts left other.facts ≡ other.facts
 
 -- none so far
-pub takes_none : (old other : HeapValue) (left : List Table) → IsHeap old → facts_of_tables left other.facts ≡ other.facts
+pub takes_none : (old other : HeapValue) (left : List Table) → IsHeap old → tables_facts left other.facts ≡ other.facts
     → TakesSome old other left old
 takes_none old other left is all = record {
   facts = [];
@@ -101,7 +99,7 @@ pub takes_next : (old other mid new : HeapValue) (table : Table) (left : List Ta
 takes_next old other mid new table left some next = record {
   facts = some.facts ++ facts_of_table table other.facts;
   takes = takes_more old mid new some.facts (facts_of_table table other.facts) some.takes next;
-  parts = append_assoc some.facts (facts_of_table table other.facts) (facts_of_tables left other.facts) ∙ some.parts;
+  parts = append_assoc some.facts (facts_of_table table other.facts) (tables_facts left other.facts) ∙ some.parts;
 }
 
 -- all of them
@@ -121,7 +119,7 @@ module _ (old other : HeapValue) (one_size : old.ids ≡ other.ids) (agree : IsC
     from_both = λ fact has.
         Has-both old.facts some.facts (old.facts ++ other.facts) (Has-front old.facts other.facts)
         (λ f h. Has-back old.facts other.facts f
-        (subst (λ (facts : List FactValue). Has facts f) some.parts (Has-front some.facts (facts_of_tables left other.facts) f h))) fact
+        (subst (λ (facts : List FactValue). Has facts f) some.parts (Has-front some.facts (tables_facts left other.facts) f h))) fact
         ((some.takes.facts fact).0 has);
     is_heap = some.takes.is_heap;
   }

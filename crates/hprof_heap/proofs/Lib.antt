@@ -12,3 +12,4 @@ pub mod JoinHeaps
 pub mod ClassFacts
 pub mod ObjectFacts
 pub mod NameFacts
+pub mod OtherTables

@@ -15,7 +15,7 @@ use Rattle.hprof_rows.proofs.Keys.{is_key-true, true-is_key}
 use Rattle.hprof_rows.proofs.Picking.{found, not_found}
 use Rattle.hprof_heap.specs.declared.object_dump.ObjectDump.{ObjectDump}
 use Rattle.hprof_heap.specs.Objects.{IsObject, HasNoObject}
-use Rattle.hprof_heap.specs.ObjectDump.{ElementsHave, IsFoundObject, fact_of_object}
+use Rattle.hprof_heap.specs.ObjectDump.{ElementsHave, AnswersObject, fact_of_object}
 
 -- the fact is the only dump of the object
 pub record IsOnlyObject (facts : List FactValue) (object : ℕ) (fact : FactValue) : Type 0 where
@@ -42,11 +42,11 @@ none_found facts object e fact has is =
 -- ---- what is found
 
 pub no_object_found : (ids : IdSize) (facts : List FactValue) (object : ℕ) → find (has_key (keys.Object object)) facts ≡ None
-    → IsFoundObject ids facts object None
+    → AnswersObject ids facts object None
 no_object_found ids facts object e = record { found = tt; id = tt; lists = tt; only = tt; none = none_found facts object e }
 
 pub object_found : (ids : IdSize) (facts : List FactValue) (object : ℕ) (dump : ObjectDump)
-    → IsOnlyObject facts object (fact_of_object dump) → ElementsHave ids dump → IsFoundObject ids facts object (Some dump)
+    → IsOnlyObject facts object (fact_of_object dump) → ElementsHave ids dump → AnswersObject ids facts object (Some dump)
 object_found ids facts object dump is lists = record { found = is.has; id = is.id; lists = lists; only = is.only; none = tt }
 
 -- a fact in hand with the key of an object is an object dump

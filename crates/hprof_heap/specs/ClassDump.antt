@@ -28,7 +28,7 @@ abbrev pub ClassListsHave : IdSize → ClassDump → Type 0
 ClassListsHave ids dump = (entries_size dump.constants ≡ ids) × (entries_size dump.statics ≡ ids) × (entries_size dump.fields ≡ ids)
 
 -- what is found of a class among facts whose identifiers have that size: its dump, or None if it has none
-pub record IsFoundClass (ids : IdSize) (facts : List FactValue) (class : ℕ) (answer : Option ClassDump) : Type 0 where
+pub record AnswersClass (ids : IdSize) (facts : List FactValue) (class : ℕ) (answer : Option ClassDump) : Type 0 where
   pub found : IfSome answer (λ dump. HasDump facts (class_value dump))
   pub id : IfSome answer (λ dump. dump.id ≡ class)
   pub lists : IfSome answer (ClassListsHave ids)

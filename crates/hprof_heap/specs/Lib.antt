@@ -12,3 +12,4 @@ pub mod Objects
 pub mod ObjectDump
 pub mod Names
 pub mod Found
+pub mod OtherFacts

@@ -20,7 +20,7 @@ ElementsHave ids (dumps.ObjArray id trace class elements) = identifiers_size ele
 ElementsHave ids dump = ⊤
 
 -- what is found of an object among facts whose identifiers have that size: its dump, or None if it has none
-pub record IsFoundObject (ids : IdSize) (facts : List FactValue) (object : ℕ) (answer : Option ObjectDump) : Type 0 where
+pub record AnswersObject (ids : IdSize) (facts : List FactValue) (object : ℕ) (answer : Option ObjectDump) : Type 0 where
   pub found : IfSome answer (λ dump. Has facts (fact_of_object dump))
   pub id : IfSome answer (λ dump. IsObject object (fact_of_object dump))
   pub lists : IfSome answer (ElementsHave ids)

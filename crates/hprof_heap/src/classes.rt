@@ -8,17 +8,17 @@ ghost use Rattle.hprof_rows.specs.declared.key.Key.TheVariants as keys;
 ghost use Rattle.hprof_rows.specs.Key.{has_key};
 ghost use Rattle.hprof_heap.specs.HeapFacts.{facts_of, size_of};
 ghost use Rattle.hprof_heap.specs.Classes.{ClassValue, fact_of_class};
-ghost use Rattle.hprof_heap.specs.ClassDump.{ClassListsHave, IsFoundClass, class_value};
+ghost use Rattle.hprof_heap.specs.ClassDump.{ClassListsHave, AnswersClass, class_value};
 
 use crate::class_dump::ClassDump;
 use crate::heap::Heap;
 use crate::heap_facts::holds_of_heap;
 use hprof_items::Fact;
-use hprof_tables::Finger;
+use hprof_tables::Cursor;
 
 /// Returns the fact with the key of a class dump.
 #[inline(always)]
-fn class_fact<'a>(heap: &'a Heap, class: u64, near: &mut Finger) -> Option<Fact<'a>>
+fn class_fact<'a>(heap: &'a Heap, class: u64, near: &mut Cursor) -> Option<Fact<'a>>
     ensures value { option_map value_of result ≡ find (has_key (keys.Class class)) (facts_of heap.now) }
     ensures lists { IfSome result (ListsHave (size_of heap.now)) }
 {
@@ -67,9 +67,9 @@ pub fn to_class_dump<'a>(fact: &Fact<'a>) -> Option<ClassDump<'a>>
 
 /// Returns the dump of a class, or `None` if the heap has none.
 pub fn find_class(heap: &Heap, class: u64) -> Option<ClassDump<'_>>
-    ensures { IsFoundClass (size_of heap.now) (facts_of heap.now) class result }
+    ensures { AnswersClass (size_of heap.now) (facts_of heap.now) class result }
 {
-    find_class_near(heap, class, &mut Finger::start())
+    find_class_near(heap, class, &mut Cursor::start())
 }
 
 /// Returns the dump of a class, as [`find_class`] does, looking near a place first.
@@ -77,8 +77,8 @@ pub fn find_class(heap: &Heap, class: u64) -> Option<ClassDump<'_>>
 /// `near` is set to the place of the dump, so classes that are asked for in order of their identifiers are found faster. The answer is the
 /// same for every `near`.
 #[inline(always)]
-pub fn find_class_near<'a>(heap: &'a Heap, class: u64, near: &mut Finger) -> Option<ClassDump<'a>>
-    ensures { IsFoundClass (size_of heap.now) (facts_of heap.now) class result }
+pub fn find_class_near<'a>(heap: &'a Heap, class: u64, near: &mut Cursor) -> Option<ClassDump<'a>>
+    ensures { AnswersClass (size_of heap.now) (facts_of heap.now) class result }
 {
     holds_of_heap(heap);
     let fact = class_fact(heap, class, near)?;

@@ -13,11 +13,12 @@ ghost use Rattle.hprof_heap.specs.Tables.{rows_in_tables};
 use crate::tables::Tables;
 use hprof_byte_tables::BytesTable;
 use hprof_items::Fact;
-use hprof_rows::{Facts, RootSet, SubRows, Table, kept_fact, kept_trace, spelled_fact};
-use hprof_tables::{Finger, Relation};
+use hprof_rows::{Facts, RootSet, SubRows, Table, decode_class, decode_object, decode_trace};
+use hprof_tables::{Cursor, Relation};
 use hprof_values::IdSize;
 use std::alloc::Global;
 
+mod copying;
 mod differing;
 mod joining;
 mod listing;
@@ -133,7 +134,7 @@ impl Heap {
         ensures lists { IfSome result (ListsHave (heap_of self.now).ids) }
     {
         let kept = self.tables.traces.get(serial as u64)?;
-        Some(kept_trace(serial, kept, self.tables.ids))
+        Some(decode_trace(serial, kept, self.tables.ids))
     }
 
     /// Returns the class dump with this identifier.
@@ -142,18 +143,18 @@ impl Heap {
         ensures value { option_map value_of result ≡ find (has_key (keys.Class id)) (heap_of self.now).facts }
         ensures lists { IfSome result (ListsHave (heap_of self.now).ids) }
     {
-        self.class_near(id, &mut Finger::start())
+        self.class_near(id, &mut Cursor::start())
     }
 
-    /// Returns the class dump with this identifier, looking near the finger first, and moves the finger there. Class dumps that are asked
+    /// Returns the class dump with this identifier, looking near the cursor first, and moves the cursor there. Class dumps that are asked
     /// for in order of their identifiers are found faster.
     #[inline(always)]
-    pub fn class_near(&self, id: u64, near: &mut Finger) -> Option<Fact<'_>>
+    pub fn class_near(&self, id: u64, near: &mut Cursor) -> Option<Fact<'_>>
         ensures value { option_map value_of result ≡ find (has_key (keys.Class id)) (heap_of self.now).facts }
         ensures lists { IfSome result (ListsHave (heap_of self.now).ids) }
     {
         let bytes = self.tables.classes.get_near(id, near)?;
-        Some(spelled_fact(bytes, self.tables.ids))
+        Some(decode_class(bytes, self.tables.ids))
     }
 
     /// Returns the instance or the array with this identifier.
@@ -162,17 +163,17 @@ impl Heap {
         ensures value { option_map value_of result ≡ find (has_key (keys.Object id)) (heap_of self.now).facts }
         ensures lists { IfSome result (ListsHave (heap_of self.now).ids) }
     {
-        self.object_near(id, &mut Finger::start())
+        self.object_near(id, &mut Cursor::start())
     }
 
-    /// Returns the instance or the array with this identifier, looking near the finger first, as `class_near` does.
+    /// Returns the instance or the array with this identifier, looking near the cursor first, as `class_near` does.
     #[inline(always)]
-    pub fn object_near(&self, id: u64, near: &mut Finger) -> Option<Fact<'_>>
+    pub fn object_near(&self, id: u64, near: &mut Cursor) -> Option<Fact<'_>>
         ensures value { option_map value_of result ≡ find (has_key (keys.Object id)) (heap_of self.now).facts }
         ensures lists { IfSome result (ListsHave (heap_of self.now).ids) }
     {
         let kept = self.tables.objects.get_near(id, near)?;
-        Some(kept_fact(id, kept, self.tables.ids))
+        Some(decode_object(id, kept, self.tables.ids))
     }
 
     /// Returns an iterator over the facts of a table, in canonical order. The facts borrow from the heap.

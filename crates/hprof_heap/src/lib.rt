@@ -1,5 +1,5 @@
 //! The heap that one or more parts state together, the gatherer that unites their facts, and look-ups in a heap: class dumps, object dumps,
-//! names, and the facts of a table.
+//! names, and the facts of a table. [`Heap::without_objects`] copies all other facts of a heap, and [`Heap::state`] adds one.
 //!
 //! The contracts of look-ups are stated in terms of the heap's facts.
 //!
@@ -30,7 +30,7 @@ pub use heap::Heap;
 pub use heap_facts::{class_name, holds_of_heap, id_size, table_facts, table_len};
 pub use hprof_byte_tables::BytesTable;
 pub use hprof_rows::{Facts, FrameRow, Key, KeyRow, LoadRow, StartRow, Table};
-pub use hprof_tables::{Content, Finger, Relation, Rows, Stated};
+pub use hprof_tables::{Content, Cursor, Relation, Rows, Stated};
 pub use join_refusal::JoinRefusal;
 pub use names::find_name;
 pub use object_dump::ObjectDump;

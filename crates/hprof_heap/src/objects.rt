@@ -8,17 +8,17 @@ ghost use Rattle.hprof_rows.specs.declared.key.Key.TheVariants as keys;
 ghost use Rattle.hprof_rows.specs.Key.{has_key};
 ghost use Rattle.hprof_heap.specs.HeapFacts.{facts_of, size_of};
 ghost use Rattle.hprof_heap.specs.Objects.{IsObject};
-ghost use Rattle.hprof_heap.specs.ObjectDump.{ElementsHave, IsFoundObject, fact_of_object};
+ghost use Rattle.hprof_heap.specs.ObjectDump.{ElementsHave, AnswersObject, fact_of_object};
 
 use crate::heap::Heap;
 use crate::heap_facts::holds_of_heap;
 use crate::object_dump::ObjectDump;
 use hprof_items::Fact;
-use hprof_tables::Finger;
+use hprof_tables::Cursor;
 
 /// Returns the fact with the key of an object.
 #[inline(always)]
-fn object_fact<'a>(heap: &'a Heap, object: u64, near: &mut Finger) -> Option<Fact<'a>>
+fn object_fact<'a>(heap: &'a Heap, object: u64, near: &mut Cursor) -> Option<Fact<'a>>
     ensures value { option_map value_of result ≡ find (has_key (keys.Object object)) (facts_of heap.now) }
     ensures lists { IfSome result (ListsHave (size_of heap.now)) }
 {
@@ -73,9 +73,9 @@ pub fn to_object_dump<'a>(fact: &Fact<'a>) -> Option<ObjectDump<'a>>
 
 /// Returns the dump of an object, or `None` if the heap has none.
 pub fn find_object(heap: &Heap, object: u64) -> Option<ObjectDump<'_>>
-    ensures { IsFoundObject (size_of heap.now) (facts_of heap.now) object result }
+    ensures { AnswersObject (size_of heap.now) (facts_of heap.now) object result }
 {
-    find_object_near(heap, object, &mut Finger::start())
+    find_object_near(heap, object, &mut Cursor::start())
 }
 
 /// Returns the dump of an object, as [`find_object`] does, looking near a place first.
@@ -86,9 +86,9 @@ pub fn find_object(heap: &Heap, object: u64) -> Option<ObjectDump<'_>>
 pub fn find_object_near<'a>(
     heap: &'a Heap,
     object: u64,
-    near: &mut Finger,
+    near: &mut Cursor,
 ) -> Option<ObjectDump<'a>>
-    ensures { IsFoundObject (size_of heap.now) (facts_of heap.now) object result }
+    ensures { AnswersObject (size_of heap.now) (facts_of heap.now) object result }
 {
     holds_of_heap(heap);
     let fact = object_fact(heap, object, near)?;

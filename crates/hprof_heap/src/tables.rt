@@ -10,6 +10,7 @@ use hprof_tables::Relation;
 use hprof_values::IdSize;
 
 mod comparing;
+mod copying;
 mod joining;
 mod stating;
 

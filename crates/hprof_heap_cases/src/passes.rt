@@ -7,9 +7,9 @@ use hprof_engine::NoSummaries;
 use hprof_items::Fact;
 use hprof_objects::{StretchFault, object_id};
 use hprof_parts::Slices;
-use hprof_passes::{ObjectSink, Objects, PassStop};
+use hprof_passes::{ObjectSink, Objects, PassFault};
 use hprof_runs::MemoryScratch;
-use hprof_stored::{InParts, PassFault, StoredHeap, read_stored};
+use hprof_stored::{InParts, InPartsFault, StoredHeap, read_stored};
 use hprof_stream::Limits;
 use hprof_values::IdSize;
 use std::alloc::{AllocError, Global};
@@ -48,9 +48,9 @@ impl ObjectSink for Identifiers {
 /// What two passes answer: one that keeps identifiers, and one that counts.
 #[derive(Drop)]
 struct Passed {
-    outcome: Result<(), PassStop<AllocError, PassFault>>,
+    outcome: Result<(), PassFault<AllocError, InPartsFault>>,
     ids: Vec<u64>,
-    count: Result<u64, PassFault>,
+    count: Result<u64, InPartsFault>,
 }
 
 /// Reads the parts, and passes over their objects. The parts are opened again from `again`.
@@ -89,27 +89,27 @@ fn pass_over<'a>(alloc: Global, parts: &[&'a [u8]], again: &[&'a [u8]]) -> Resul
 #[test]
 fn a_part_that_changed(rt: HostRuntime) -> Result<(), Fail> {
     let (cut, _) = UNORDERED.split_at(60);
-    let changed = PassFault::Part {
+    let changed = InPartsFault::Part {
         part: 1,
         fault: StretchFault::Changed,
     };
     let it = pass_over(rt.alloc(), &[ORDERED, UNORDERED], &[ORDERED, cut])?;
-    assert!(rt; it.outcome == Err(PassStop::Lost(changed)));
+    assert!(rt; it.outcome == Err(PassFault::Lost(changed)));
     assert!(rt; it.count == Err(changed));
     let it = pass_over(rt.alloc(), &[ORDERED, UNORDERED], &[ORDERED])?;
-    assert!(rt; it.outcome == Err(PassStop::Lost(changed)));
+    assert!(rt; it.outcome == Err(PassFault::Lost(changed)));
     assert!(rt; it.ids.is_empty());
     Ok(())
 }
 
 #[test]
 fn a_part_whose_identifiers_do_not_ascend_any_more(rt: HostRuntime) -> Result<(), Fail> {
-    let changed = PassFault::Part {
+    let changed = InPartsFault::Part {
         part: 0,
         fault: StretchFault::Changed,
     };
     let it = pass_over(rt.alloc(), &[ORDERED], &[DESCENDING])?;
-    assert!(rt; it.outcome == Err(PassStop::Lost(changed)));
+    assert!(rt; it.outcome == Err(PassFault::Lost(changed)));
     Ok(())
 }
 

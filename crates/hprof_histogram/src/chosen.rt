@@ -14,7 +14,7 @@ use crate::objects::{SizedObject, sort_objects};
 use crate::row::Kind;
 use hprof_heap::Heap;
 use hprof_items::Fact;
-use hprof_passes::{ObjectSink, Objects, PassStop};
+use hprof_passes::{ObjectSink, Objects, PassFault};
 use hprof_values::IdSize;
 use std::alloc::{AllocError, Global};
 
@@ -109,7 +109,7 @@ pub fn chosen_objects<O: Objects>(
     heap: &Heap,
     objects: &O,
     chosen: Chosen<'_>,
-) -> Result<Vec<SizedObject>, PassStop<AllocError, O::Fault>>
+) -> Result<Vec<SizedObject>, PassFault<AllocError, O::Fault>>
     requires { CanChoose chosen }
     ensures { Finds (O.make_up objects.now (size_of heap.now) (facts_of heap.now))
         (O.agree objects.now (size_of heap.now) (facts_of heap.now))
@@ -120,10 +120,7 @@ pub fn chosen_objects<O: Objects>(
         chosen,
         objects: Vec::new(alloc),
     };
-    match objects.pass(alloc, heap, &mut choosing) {
-        Ok(()) => {}
-        Err(stop) => return Err(stop),
-    }
+    objects.pass(alloc, heap, &mut choosing)?;
     let Choosing { mut objects, .. } = choosing;
     sort_objects(&mut objects);
     Ok(objects)

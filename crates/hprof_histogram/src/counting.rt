@@ -9,7 +9,7 @@ ghost use Rattle.hprof_histogram.specs.Known.{MadeUpWith};
 
 use crate::counted_kinds::CountedKinds;
 use hprof_heap::Heap;
-use hprof_passes::{Objects, PassStop};
+use hprof_passes::{Objects, PassFault};
 use std::alloc::{AllocError, Global};
 
 /// Counts objects by kind. The heap has all other facts.
@@ -22,7 +22,7 @@ pub fn count_objects<O: Objects>(
     alloc: Global,
     heap: &Heap,
     objects: &O,
-) -> Result<CountedKinds, PassStop<AllocError, O::Fault>>
+) -> Result<CountedKinds, PassFault<AllocError, O::Fault>>
     ensures { Finds (O.make_up objects.now (size_of heap.now) (facts_of heap.now))
         (O.agree objects.now (size_of heap.now) (facts_of heap.now))
         (O.tells objects.now (size_of heap.now) (facts_of heap.now)) (λ all. IsTally (size_of heap.now) all) result }
@@ -47,7 +47,7 @@ pub fn count_known<O: Objects>(
     heap: &Heap,
     objects: &O,
     known: Option<CountedKinds>,
-) -> Result<CountedKinds, PassStop<AllocError, O::Fault>>
+) -> Result<CountedKinds, PassFault<AllocError, O::Fault>>
     requires { IsSome known → O.agree objects.now (size_of heap.now) (facts_of heap.now) }
     ensures { Finds (MadeUpWith (O.make_up objects.now (size_of heap.now) (facts_of heap.now)) (size_of heap.now) known)
         (O.agree objects.now (size_of heap.now) (facts_of heap.now))

@@ -16,7 +16,7 @@ use crate::gathering::rows_of;
 use crate::row::Row;
 use crate::sorting::sort_rows;
 use hprof_heap::{Heap, holds_of_heap};
-use hprof_passes::{InHeap, Objects, PassStop};
+use hprof_passes::{InHeap, Objects, PassFault};
 use std::alloc::{AllocError, Global};
 
 /// Returns the rows of counts, in order. If memory runs out, the answer is `AllocError`.
@@ -45,19 +45,16 @@ pub fn histogram_over<O: Objects>(
     heap: &Heap,
     objects: &O,
     known: Option<CountedKinds>,
-) -> Result<Vec<Row>, PassStop<AllocError, O::Fault>>
+) -> Result<Vec<Row>, PassFault<AllocError, O::Fault>>
     requires { IsSome known → O.agree objects.now (size_of heap.now) (facts_of heap.now) }
     ensures { Finds (MadeUpWith (O.make_up objects.now (size_of heap.now) (facts_of heap.now)) (size_of heap.now) known)
         (O.agree objects.now (size_of heap.now) (facts_of heap.now))
         (O.tells objects.now (size_of heap.now) (facts_of heap.now)) (λ all rows. IsHistogram (size_of heap.now) all rows.items) result }
 {
-    let tally = match count_known(alloc, heap, objects, known) {
-        Ok(tally) => tally,
-        Err(stop) => return Err(stop),
-    };
+    let tally = count_known(alloc, heap, objects, known)?;
     match rows_in_order(alloc, &tally) {
         Ok(rows) => Ok(rows),
-        Err(fault) => Err(PassStop::Sink(fault)),
+        Err(fault) => Err(PassFault::Sink(fault)),
     }
 }
 

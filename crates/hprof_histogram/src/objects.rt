@@ -9,7 +9,7 @@ ghost use Rattle.hprof_histogram.specs.Objects.{AreObjects, object_cmp};
 use crate::chosen::{Chosen, chosen_objects};
 use crate::row::Kind;
 use hprof_heap::Heap;
-use hprof_passes::{Objects, PassStop};
+use hprof_passes::{Objects, PassFault};
 use std::alloc::{AllocError, Global};
 use std::cmp::Ordering;
 
@@ -52,7 +52,7 @@ pub fn objects_of<O: Objects>(
     heap: &Heap,
     objects: &O,
     kind: Kind,
-) -> Result<Vec<SizedObject>, PassStop<AllocError, O::Fault>>
+) -> Result<Vec<SizedObject>, PassFault<AllocError, O::Fault>>
     ensures { Finds (O.make_up objects.now (size_of heap.now) (facts_of heap.now))
         (O.agree objects.now (size_of heap.now) (facts_of heap.now))
         (O.tells objects.now (size_of heap.now) (facts_of heap.now)) (λ all found. AreObjects (size_of heap.now) all kind found.items)

@@ -5,7 +5,7 @@ use Rattle.std.proofs.lemmas.Bool.{eq-eqb, eqb-true, or_cases, or_left, or_right
 use Rattle.hprof_values.specs.declared.ids.IdSize.{IdSize}
 use Rattle.hprof_items.specs.FactValue.{FactValue, Instance}
 use Rattle.hprof_heap.specs.declared.object_dump.ObjectDump.TheVariants as dumps
-use Rattle.hprof_heap.specs.ObjectDump.{IsFoundObject}
+use Rattle.hprof_heap.specs.ObjectDump.{AnswersObject}
 use Rattle.hprof_heap.proofs.ObjectFacts.{IsOnlyObject}
 use Rattle.hprof_histogram.proofs.Members.{IsIn, Contains-from_in, in_from_Contains}
 use Rattle.hprof_edges.specs.declared.edge.Via.TheVariants as vias
@@ -54,7 +54,7 @@ module _ (class place : ℕ) where
 
 module _ (ids : IdSize) (facts : List FactValue) (table : List FieldPlace) (edge : Edge) where
   pub of_instance : (id trace class : ℕ) (bytes : Bor (List ℕ))
-      → IsFoundObject ids facts edge.from (Some (dumps.Instance id trace class bytes)) → edge.via ≡ vias.Field → (found : Bool)
+      → AnswersObject ids facts edge.from (Some (dumps.Instance id trace class bytes)) → edge.via ≡ vias.Field → (found : Bool)
       → (found ≡ true) ↔ Contains table (field_there class edge.position) → (found ≡ true) ↔ IsLeftOut table facts edge
   of_instance id trace class bytes is via found there =
       let fact = Instance id trace class bytes.now in

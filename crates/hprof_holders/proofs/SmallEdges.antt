@@ -55,8 +55,8 @@ module _ (ids : IdSize) (wanted : List ℕ) (all small : List FactValue) (is : I
 
   pub place_in_all : (from : ℕ) (via : Via) (place : ℕ) (name : Option ℕ) → IsPlaceName small from via place name
       → IsPlaceName all from via place name
-  place_in_all from vias.Fixed place (Some name) named = static_in_all from place name named
-  place_in_all from vias.Fixed place None named = absurd named
+  place_in_all from vias.Static place (Some name) named = static_in_all from place name named
+  place_in_all from vias.Static place None named = absurd named
   place_in_all from vias.Field place (Some name) named = field_in_all from place name named
   place_in_all from vias.Field place None named = absurd named
   place_in_all from vias.Class place name named = named
@@ -138,7 +138,7 @@ module _ (ids : IdSize) (wanted : List ℕ) (all small : List FactValue) (is : I
     refers_kept vias.Signers position to refers = (refers.0, of_dump_kept _ refers.1)
     refers_kept vias.Domain position to refers = (refers.0, of_dump_kept _ refers.1)
     refers_kept vias.Constant position to refers = of_dump_kept _ refers
-    refers_kept vias.Fixed position to refers = of_dump_kept _ refers
+    refers_kept vias.Static position to refers = of_dump_kept _ refers
     refers_kept vias.Field position to refers = field_kept position to refers
     refers_kept vias.Element position to refers = element_kept position to refers
 

@@ -13,7 +13,7 @@ ghost use Rattle.hprof_holders.specs.ThreadsText.{elsewhere_text, held_line, pla
 use crate::root_line::frame_words;
 use hprof_describe::node_text;
 use hprof_devices::Target;
-use hprof_engine::WriteStop;
+use hprof_engine::ProductFault;
 use hprof_heap::Heap;
 use hprof_lines::write_line;
 use hprof_naming::ClassNames;
@@ -95,7 +95,7 @@ pub(crate) fn write_held<W: Target>(
     classes: &ClassNames,
     rows: &[Held],
     target: &mut W,
-) -> Result<(), WriteStop>
+) -> Result<(), ProductFault>
     requires classes { AreClassNames (facts_of heap.now) classes.now }
     requires well { W.health target.old ≡ Well }
     ensures bytes { (found : Findings) → AreFindings (size_of heap.now) (facts_of heap.now) found
@@ -118,7 +118,7 @@ pub(crate) fn write_elsewhere<W: Target>(
     classes: &ClassNames,
     rows: &[Held],
     target: &mut W,
-) -> Result<(), WriteStop>
+) -> Result<(), ProductFault>
     requires classes { AreClassNames (facts_of heap.now) classes.now }
     requires well { W.health target.old ≡ Well }
     ensures bytes { (found : Findings) → AreFindings (size_of heap.now) (facts_of heap.now) found

@@ -19,7 +19,7 @@ use crate::root_line::root_line;
 use crate::view::HeapView;
 use hprof_describe::node_text;
 use hprof_devices::Target;
-use hprof_engine::WriteStop;
+use hprof_engine::ProductFault;
 use hprof_heap::{Heap, holds_of_heap};
 use hprof_lines::write_line;
 use hprof_naming::ClassNames;
@@ -159,7 +159,7 @@ fn write_root<W: Target>(
     view: HeapView<'_>,
     root: Root,
     target: &mut W,
-) -> Result<(), WriteStop>
+) -> Result<(), ProductFault>
     requires view { IsView view }
     requires well { W.health target.old ≡ Well }
     ensures bytes { (found : Findings) (threads : ThreadFindings)
@@ -178,7 +178,7 @@ pub fn write_roots<W: Target>(
     view: HeapView<'_>,
     roots: &[Root],
     target: &mut W,
-) -> Result<(), WriteStop>
+) -> Result<(), ProductFault>
     requires view { IsView view }
     requires well { W.health target.old ≡ Well }
     ensures bytes { (found : Findings) (threads : ThreadFindings)

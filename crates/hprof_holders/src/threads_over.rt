@@ -11,11 +11,11 @@ ghost use Rattle.hprof_holders.specs.ThreadsText.{IsThreadsText};
 use crate::thread_objects::objects_of_threads;
 use crate::threads_report::write_threads;
 use hprof_devices::Target;
-use hprof_engine::WriteStop;
+use hprof_engine::ProductFault;
 use hprof_heap::Heap;
 use hprof_lines::stop_of_pass;
 use hprof_naming::ClassNames;
-use hprof_passes::{Objects, PassStop};
+use hprof_passes::{Objects, PassFault};
 use hprof_threads::ThreadRoots;
 use hprof_words::words_heap;
 use std::alloc::{AllocError, Global};
@@ -29,14 +29,14 @@ fn threads_heap<O: Objects>(
     alloc: Global,
     heap: &Heap,
     objects: &O,
-) -> Result<Heap, PassStop<AllocError, O::Fault>>
+) -> Result<Heap, PassFault<AllocError, O::Fault>>
     ensures { Finds (O.make_up objects.now (size_of heap.now) (facts_of heap.now))
         (O.agree objects.now (size_of heap.now) (facts_of heap.now)) (O.tells objects.now (size_of heap.now) (facts_of heap.now))
         (λ all. IsThreadsHeap (size_of heap.now) all) result }
 {
     match objects_of_threads(alloc, heap) {
         Ok(nodes) => words_heap(alloc, heap, objects, nodes),
-        Err(fault) => Err(PassStop::Sink(fault)),
+        Err(fault) => Err(PassFault::Sink(fault)),
     }
 }
 
@@ -53,7 +53,7 @@ pub fn write_threads_over<O: Objects, W: Target>(
     heap: &Heap,
     objects: &O,
     target: &mut W,
-) -> Result<(), PassStop<WriteStop, O::Fault>>
+) -> Result<(), PassFault<ProductFault, O::Fault>>
     requires { W.health target.old ≡ Well }
     ensures { EndsPassed (O.make_up objects.now (size_of heap.now) (facts_of heap.now))
         (O.agree objects.now (size_of heap.now) (facts_of heap.now)) (O.tells objects.now (size_of heap.now) (facts_of heap.now))
@@ -64,13 +64,13 @@ pub fn write_threads_over<O: Objects, W: Target>(
         Err(stop) => return Err(stop_of_pass(stop)),
     };
     let Ok(roots) = ThreadRoots::of(alloc, &small) else {
-        return Err(PassStop::Sink(WriteStop::OutOfMemory));
+        return Err(PassFault::Sink(ProductFault::OutOfMemory));
     };
     let Ok(classes) = ClassNames::of(alloc, &small) else {
-        return Err(PassStop::Sink(WriteStop::OutOfMemory));
+        return Err(PassFault::Sink(ProductFault::OutOfMemory));
     };
     match write_threads(alloc, &small, &roots, &classes, target) {
         Ok(()) => Ok(()),
-        Err(stop) => Err(PassStop::Sink(stop)),
+        Err(stop) => Err(PassFault::Sink(stop)),
     }
 }

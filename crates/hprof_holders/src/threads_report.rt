@@ -20,7 +20,7 @@ use crate::held_lines::{write_elsewhere, write_held};
 use crate::held_rows::{rows_elsewhere, rows_in_frame};
 use hprof_describe::node_text;
 use hprof_devices::Target;
-use hprof_engine::WriteStop;
+use hprof_engine::ProductFault;
 use hprof_heap::{Heap, holds_of_heap};
 use hprof_lines::write_line;
 use hprof_naming::ClassNames;
@@ -87,7 +87,7 @@ fn write_frame<W: Target>(
     number: u64,
     frame: u64,
     target: &mut W,
-) -> Result<(), WriteStop>
+) -> Result<(), ProductFault>
     requires classes { AreClassNames (facts_of heap.now) classes.now }
     requires well { W.health target.old ≡ Well }
     ensures bytes { (found : Findings) (threads : ThreadFindings) (serial : ℕ) → AreFindings (size_of heap.now) (facts_of heap.now) found
@@ -107,7 +107,7 @@ fn write_stack<W: Target>(
     frames: IdList<'_>,
     rows: &[Held],
     target: &mut W,
-) -> Result<(), WriteStop>
+) -> Result<(), ProductFault>
     requires classes { AreClassNames (facts_of heap.now) classes.now }
     requires well { W.health target.old ≡ Well }
     ensures bytes { (found : Findings) (threads : ThreadFindings) (serial : ℕ) → AreFindings (size_of heap.now) (facts_of heap.now) found
@@ -132,7 +132,7 @@ fn write_framed<W: Target>(
     frames: IdList<'_>,
     rows: &[Held],
     target: &mut W,
-) -> Result<(), WriteStop>
+) -> Result<(), ProductFault>
     requires classes { AreClassNames (facts_of heap.now) classes.now }
     requires well { W.health target.old ≡ Well }
     ensures bytes { (found : Findings) (threads : ThreadFindings) (serial : ℕ) → AreFindings (size_of heap.now) (facts_of heap.now) found
@@ -155,7 +155,7 @@ fn write_places<W: Target>(
     frames: Option<IdList<'_>>,
     rows: &[Held],
     target: &mut W,
-) -> Result<(), WriteStop>
+) -> Result<(), ProductFault>
     requires classes { AreClassNames (facts_of heap.now) classes.now }
     requires well { W.health target.old ≡ Well }
     ensures bytes { (found : Findings) (threads : ThreadFindings) (serial : ℕ) → AreFindings (size_of heap.now) (facts_of heap.now) found
@@ -183,7 +183,7 @@ fn write_thread<W: Target>(
     serial: u32,
     rows: &[Held],
     target: &mut W,
-) -> Result<(), WriteStop>
+) -> Result<(), ProductFault>
     requires classes { AreClassNames (facts_of heap.now) classes.now }
     requires roots { AreThreadRoots (facts_of heap.now) roots.now }
     requires well { W.health target.old ≡ Well }
@@ -207,7 +207,7 @@ fn write_all<W: Target>(
     held: &HeldObjects,
     serials: &[u32],
     target: &mut W,
-) -> Result<(), WriteStop>
+) -> Result<(), ProductFault>
     requires classes { AreClassNames (facts_of heap.now) classes.now }
     requires roots { AreThreadRoots (facts_of heap.now) roots.now }
     requires held { AreHeld (facts_of heap.now) held.now.rows.items }
@@ -239,7 +239,7 @@ pub fn write_threads<W: Target>(
     roots: &ThreadRoots,
     classes: &ClassNames,
     target: &mut W,
-) -> Result<(), WriteStop>
+) -> Result<(), ProductFault>
     requires classes { AreClassNames (facts_of heap.now) classes.now }
     requires roots { AreThreadRoots (facts_of heap.now) roots.now }
     requires well { W.health target.old ≡ Well }

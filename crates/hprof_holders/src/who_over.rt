@@ -15,10 +15,10 @@ use crate::who_objects::objects_of_who;
 use crate::who_report::write_who;
 use hprof_devices::Target;
 use hprof_edges::{referrers, referrers_over};
-use hprof_engine::WriteStop;
+use hprof_engine::ProductFault;
 use hprof_heap::{Heap, holds_of_heap};
 use hprof_lines::stop_of_pass;
-use hprof_passes::{Objects, PassStop};
+use hprof_passes::{Objects, PassFault};
 use hprof_words::words_heap;
 use std::alloc::{AllocError, Global};
 
@@ -32,7 +32,7 @@ fn who_heap<O: Objects>(
     heap: &Heap,
     objects: &O,
     id: u64,
-) -> Result<Heap, PassStop<AllocError, O::Fault>>
+) -> Result<Heap, PassFault<AllocError, O::Fault>>
     ensures { Finds (O.make_up objects.now (size_of heap.now) (facts_of heap.now))
         (O.agree objects.now (size_of heap.now) (facts_of heap.now)) (O.tells objects.now (size_of heap.now) (facts_of heap.now))
         (λ all. IsWhoHeap (size_of heap.now) id all) result }
@@ -43,7 +43,7 @@ fn who_heap<O: Objects>(
     };
     match objects_of_who(alloc, heap, id, &edges) {
         Ok(nodes) => words_heap(alloc, heap, objects, nodes),
-        Err(fault) => Err(PassStop::Sink(fault)),
+        Err(fault) => Err(PassFault::Sink(fault)),
     }
 }
 
@@ -53,7 +53,7 @@ fn write_in_memory<W: Target>(
     heap: &Heap,
     id: u64,
     target: &mut W,
-) -> Result<(), WriteStop>
+) -> Result<(), ProductFault>
     requires { W.health target.old ≡ Well }
     ensures bytes { (text : List ℕ) × IsWhoText (size_of heap.now) (facts_of heap.now) id text
         × WritesText (W.written target.old) (W.written target.new) result text }
@@ -82,7 +82,7 @@ pub fn write_who_over<O: Objects, W: Target>(
     objects: &O,
     id: u64,
     target: &mut W,
-) -> Result<(), PassStop<WriteStop, O::Fault>>
+) -> Result<(), PassFault<ProductFault, O::Fault>>
     requires { W.health target.old ≡ Well }
     ensures { EndsPassed (O.make_up objects.now (size_of heap.now) (facts_of heap.now))
         (O.agree objects.now (size_of heap.now) (facts_of heap.now)) (O.tells objects.now (size_of heap.now) (facts_of heap.now))
@@ -94,6 +94,6 @@ pub fn write_who_over<O: Objects, W: Target>(
     };
     match write_in_memory(alloc, &small, id, target) {
         Ok(()) => Ok(()),
-        Err(stop) => Err(PassStop::Sink(stop)),
+        Err(stop) => Err(PassFault::Sink(stop)),
     }
 }

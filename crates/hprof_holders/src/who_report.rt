@@ -24,7 +24,7 @@ use crate::view::HeapView;
 use hprof_describe::{kind_text, node_text};
 use hprof_devices::Target;
 use hprof_edges::Edge;
-use hprof_engine::WriteStop;
+use hprof_engine::ProductFault;
 use hprof_heap::{Heap, find_class, find_object, holds_of_heap};
 use hprof_lines::{nothing_line, write_line};
 use hprof_reach::roots_of;
@@ -89,7 +89,7 @@ fn sum_line(alloc: Global, sum: &Sum) -> Result<String, AllocError>
 }
 
 /// Writes the line of each sum. If it stops, some of them were written, from the front.
-fn write_sums<W: Target>(alloc: Global, sums: &[Sum], target: &mut W) -> Result<(), WriteStop>
+fn write_sums<W: Target>(alloc: Global, sums: &[Sum], target: &mut W) -> Result<(), ProductFault>
     requires { W.health target.old ≡ Well }
     ensures bytes { WritesText (W.written target.old) (W.written target.new) result (flat_map sum_line (map sum_value sums.now)) }
     ensures health { LeavesTarget result (W.health target.new) }
@@ -108,7 +108,7 @@ fn write_summed<W: Target>(
     view: HeapView<'_>,
     edges: &[Edge],
     target: &mut W,
-) -> Result<(), WriteStop>
+) -> Result<(), ProductFault>
     requires view { IsView view }
     requires well { W.health target.old ≡ Well }
     ensures bytes { (found : Findings) (names : EdgeFindings) (sums : List SumValue)
@@ -133,7 +133,7 @@ fn write_edges<W: Target>(
     view: HeapView<'_>,
     edges: &[Edge],
     target: &mut W,
-) -> Result<(), WriteStop>
+) -> Result<(), ProductFault>
     requires view { IsView view }
     requires well { W.health target.old ≡ Well }
     ensures bytes { (found : Findings) (names : EdgeFindings)
@@ -160,7 +160,7 @@ fn write_referred<W: Target>(
     roots: &[Root],
     edges: &[Edge],
     target: &mut W,
-) -> Result<(), WriteStop>
+) -> Result<(), ProductFault>
     requires view { IsView view }
     requires well { W.health target.old ≡ Well }
     ensures bytes { (found : Findings) (threads : ThreadFindings) (names : EdgeFindings) (sums : List SumValue)
@@ -205,7 +205,7 @@ fn write_found<W: Target>(
     roots: &[Root],
     edges: &[Edge],
     target: &mut W,
-) -> Result<(), WriteStop>
+) -> Result<(), ProductFault>
     requires view { IsView view }
     requires well { W.health target.old ≡ Well }
     ensures bytes { (found : Findings) (threads : ThreadFindings) (names : EdgeFindings) (sums : List SumValue)
@@ -245,7 +245,7 @@ pub fn write_who<W: Target>(
     id: u64,
     edges: &[Edge],
     target: &mut W,
-) -> Result<(), WriteStop>
+) -> Result<(), ProductFault>
     requires view { IsView view }
     requires edges { AreReferrers (size_of view.heap.now) (facts_of view.heap.now) id edges.now }
     requires well { W.health target.old ≡ Well }

@@ -7,7 +7,7 @@ use Rattle.std.specs.Prelude.{sum, slice_index}
 use Rattle.hprof_values.specs.declared.ids.IdSize.{IdSize}
 use Rattle.hprof_values.specs.declared.basic.Basic.{Basic}
 use Rattle.hprof_values.specs.declared.basic.Basic.TheVariants as basics
-use Rattle.hprof_values.specs.declared.stop.Stop.{Stop}
+use Rattle.hprof_values.specs.declared.parse_stop.ParseStop.{ParseStop}
 use Rattle.hprof_values.specs.Ids.{width_of, IsBytes}
 use Rattle.hprof_values.specs.Basic.{code_of_basic, basic_of_code, width_of_basic}
 use Rattle.hprof_values.specs.FieldGroups.{field_bytes, fields_in, FitFields, Bounds, ◌>>=◌, reached, IsWithin}
@@ -87,7 +87,7 @@ obj_array_again ids bounds id trace class elements rest bytes fits spelled withi
     let again = dump_again bounds widths numbers raw rest bytes fits.0 (spelled ∙ append_assoc (field_bytes widths numbers) raw rest)
     (within-less bounds (1 + sum widths + length raw) all (omega arith) within) in
     let list : IsIdList ids elements raw = record { fits = fits.1; spelled = refl } in
-    let step : List ℕ → ℕ → ℕ → Result (FactValue × ℕ) Stop =
+    let step : List ℕ → ℕ → ℕ → Result (FactValue × ℕ) ParseStop =
     λ ns size front. reached bounds front (size ∷ []) >>= λ (end : ℕ).
     Ok (ObjArray (slice_index ns 0) (slice_index ns 1) (slice_index ns 3) (ids_in ids (cut size front bytes)), end) in
     ap (λ (ns : List ℕ). reached bounds 1 widths >>= step ns (slice_index ns 2 * width_of ids)) again.0
@@ -141,7 +141,7 @@ prim_array_found ids bounds bytes fact n are there e =
     let code : ℕ = slice_index numbers 3 in
     let size : Basic → ℕ = λ elem. count * width_of_basic ids elem in
     let read : Basic → ℕ → FactValue = λ elem front. PrimArray id trace elem (cut (size elem) front bytes) in
-    let last : ℕ → Basic → Result (FactValue × ℕ) Stop = λ front elem. reached bounds front (size elem ∷ []) >>= λ (end : ℕ).
+    let last : ℕ → Basic → Result (FactValue × ℕ) ParseStop = λ front elem. reached bounds front (size elem ∷ []) >>= λ (end : ℕ).
     Ok (read elem front, end) in
     let first = then_ok (reached bounds 1 widths) (λ (front : ℕ). element_type (basic_of_code code) >>= last front) (fact, n) e in
     let typed = then_ok (element_type (basic_of_code code)) (last first.0) (fact, n) first.2 in
@@ -188,10 +188,10 @@ prim_array_again ids bounds id trace elem raw rest bytes fits spelled within =
     omega (arith, length-fields widths numbers fits.0, length-append (field_bytes widths numbers) raw) in
     let again = dump_again bounds widths numbers raw rest bytes fits.0 (spelled ∙ append_assoc (field_bytes widths numbers) raw rest)
     (within-less bounds (1 + sum widths + length raw) all (omega arith) within) in
-    let last : List ℕ → ℕ → Basic → ℕ → Result (FactValue × ℕ) Stop =
+    let last : List ℕ → ℕ → Basic → ℕ → Result (FactValue × ℕ) ParseStop =
     λ ns front basic size. reached bounds front (size ∷ []) >>= λ (end : ℕ).
     Ok (PrimArray (slice_index ns 0) (slice_index ns 1) basic (cut size front bytes), end) in
-    let next : List ℕ → ℕ → Result (FactValue × ℕ) Stop =
+    let next : List ℕ → ℕ → Result (FactValue × ℕ) ParseStop =
     λ ns front. element_type (basic_of_code (slice_index ns 3)) >>= λ (basic : Basic).
     last ns front basic (slice_index ns 2 * width_of_basic ids basic) in
     ap (λ (ns : List ℕ). reached bounds 1 widths >>= next ns) again.0

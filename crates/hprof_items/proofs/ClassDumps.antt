@@ -6,7 +6,7 @@ use Rattle.std.specs.Prelude.{sum}
 use Rattle.hprof_values.specs.declared.ids.IdSize.{IdSize}
 use Rattle.hprof_values.specs.declared.entry.Entry.{Entry}
 use Rattle.hprof_values.specs.declared.entry.EntryKind.TheVariants as kinds
-use Rattle.hprof_values.specs.declared.stop.Stop.{Stop}
+use Rattle.hprof_values.specs.declared.parse_stop.ParseStop.{ParseStop}
 use Rattle.hprof_values.specs.Ids.{width_of, IsBytes}
 use Rattle.hprof_values.specs.FieldGroups.{field_bytes, fields_in, Bounds, ◌>>=◌, reached, IsWithin}
 use Rattle.hprof_values.specs.Entries.{list_bytes, ListFits, list_in, list_end}
@@ -22,7 +22,7 @@ use Rattle.hprof_items.proofs.SubRecords.{along_answer}
 -- ---- three lists, one behind the other
 
 -- what is left to read once the fields were read
-abbrev lists_at : IdSize → Bounds → List ℕ → List ℕ → ℕ → Result (FactValue × ℕ) Stop
+abbrev lists_at : IdSize → Bounds → List ℕ → List ℕ → ℕ → Result (FactValue × ℕ) ParseStop
 lists_at ids bounds bytes numbers front =
     list_end ids kinds.Constant bounds bytes front >>= λ statics.
     list_end ids kinds.Static bounds bytes statics >>= λ fields.
@@ -58,7 +58,7 @@ lists_again ids bounds bytes numbers constants statics fields rest at fit_consta
     let third = list_passes ids kinds.Field bounds bytes fields rest (at + length a + length b) fit_fields second.2
     (within-less bounds (at + length a + length b + length c) all (omega (arith, lens)) within) in
     let in_constants : List Entry = list_in ids kinds.Constant bytes at in
-    let last : ℕ → ℕ → ℕ → Result (FactValue × ℕ) Stop =
+    let last : ℕ → ℕ → ℕ → Result (FactValue × ℕ) ParseStop =
     λ s f end. Ok (class_of numbers in_constants (list_in ids kinds.Static bytes s) (list_in ids kinds.Field bytes f), end) in
     then_next (list_end ids kinds.Constant bounds bytes at)
     (λ (s : ℕ). list_end ids kinds.Static bounds bytes s >>= λ (f : ℕ). list_end ids kinds.Field bounds bytes f >>= λ (end : ℕ).

@@ -11,8 +11,8 @@ use Rattle.hprof_values.specs.declared.root.Root.{Root}
 use Rattle.hprof_values.specs.declared.root.Root.TheVariants as roots
 use Rattle.hprof_values.specs.declared.sub_tag.SubTag.{SubTag}
 use Rattle.hprof_values.specs.declared.sub_tag.SubTag.TheVariants as tags
-use Rattle.hprof_values.specs.declared.stop.Stop.{Stop}
-use Rattle.hprof_values.specs.declared.stop.Stop.TheVariants.{Short}
+use Rattle.hprof_values.specs.declared.parse_stop.ParseStop.{ParseStop}
+use Rattle.hprof_values.specs.declared.parse_stop.ParseStop.TheVariants.{Short}
 use Rattle.hprof_values.specs.declared.entry.EntryKind.TheVariants as kinds
 use Rattle.hprof_values.specs.Ids.{width_of, IsBytes}
 use Rattle.hprof_values.specs.Basic.{basic_of_code, width_of_basic}
@@ -108,12 +108,12 @@ record IsRead (ids : IdSize) (tag : SubTag) (bounds : Bounds) (bytes : List ℕ)
   tagged : tag_of_dump fact ≡ tag
 
 -- the answer that was made has the tag
-made_tag : (made fact : FactValue) (m n : ℕ) (tag : SubTag) (r : Result (FactValue × ℕ) Stop) → r ≡ Ok (made, m) → r ≡ Ok (fact, n)
+made_tag : (made fact : FactValue) (m n : ℕ) (tag : SubTag) (r : Result (FactValue × ℕ) ParseStop) → r ≡ Ok (made, m) → r ≡ Ok (fact, n)
     → tag_of_dump made ≡ tag → tag_of_dump fact ≡ tag
 made_tag made fact m n tag r made_it e is = ap tag_of_dump (sym (answer_parts made fact m n r made_it e).0) ∙ is
 
 -- so has what comes of a reading in steps
-then_tag : {A : Type 0} (r : Result A Stop) (next : A → Result (FactValue × ℕ) Stop) (fact : FactValue) (n : ℕ) (tag : SubTag)
+then_tag : {A : Type 0} (r : Result A ParseStop) (next : A → Result (FactValue × ℕ) ParseStop) (fact : FactValue) (n : ℕ) (tag : SubTag)
     → ((x : A) → next x ≡ Ok (fact, n) → tag_of_dump fact ≡ tag) → (r >>= next) ≡ Ok (fact, n) → tag_of_dump fact ≡ tag
 then_tag r next fact n tag each e = let step = then_ok r next (fact, n) e in each step.0 step.2
 
@@ -164,7 +164,7 @@ prim_array_tag ids bounds bytes fact n e =
     let len : Basic → ℕ = λ elem. slice_index numbers 2 * width_of_basic ids elem in
     let made : ℕ → Basic → FactValue = λ front elem. PrimArray (slice_index numbers 0) (slice_index numbers 1) elem
     (cut (len elem) front bytes) in
-    let last : ℕ → Basic → Result (FactValue × ℕ) Stop = λ front elem. reached bounds front (len elem ∷ []) >>= λ (end : ℕ).
+    let last : ℕ → Basic → Result (FactValue × ℕ) ParseStop = λ front elem. reached bounds front (len elem ∷ []) >>= λ (end : ℕ).
     Ok (made front elem, end) in
     then_tag (reached bounds 1 (prim_array_widths ids)) (λ (front : ℕ). element_type (basic_of_code (slice_index numbers 3))
     >>= λ (elem : Basic). last front elem) fact n tags.PrimArrayDump
@@ -179,7 +179,7 @@ class_tag ids bounds bytes fact n e =
     let numbers : List ℕ = fields_in (class_widths ids) (drop 1 bytes) in
     let made : ℕ → ℕ → ℕ → FactValue = λ at s f. class_of numbers (list_in ids kinds.Constant bytes at)
     (list_in ids kinds.Static bytes s) (list_in ids kinds.Field bytes f) in
-    let last : ℕ → ℕ → ℕ → Result (FactValue × ℕ) Stop = λ at s f. list_end ids kinds.Field bounds bytes f >>= λ (end : ℕ).
+    let last : ℕ → ℕ → ℕ → Result (FactValue × ℕ) ParseStop = λ at s f. list_end ids kinds.Field bounds bytes f >>= λ (end : ℕ).
     Ok (made at s f, end) in
     then_tag (reached bounds 1 (class_widths ids))
     (λ (at : ℕ). list_end ids kinds.Constant bounds bytes at >>= λ (s : ℕ). list_end ids kinds.Static bounds bytes s >>= λ (f : ℕ).
@@ -227,7 +227,7 @@ tag_first ids (Start thread object trace name group parent_group) fits = absurd 
 tag_first ids (End thread) fits = absurd fits
 
 -- the test of the first byte
-abbrev first_test : Bounds → Result ℕ Stop
+abbrev first_test : Bounds → Result ℕ ParseStop
 first_test bounds = if bounds.there == 0 then Err Short else reached bounds 0 (1 ∷ [])
 
 some_there : (n : ℕ) → 1 ≤ n → (n == 0) ≡ false
@@ -258,7 +258,7 @@ sub_again ids bounds fact rest bytes fits spelled within =
     ∙ ap (λ (o : Option SubTag). judged_tag o >>= λ (t : SubTag). dump_at ids t bounds bytes) (ap tag_of_code code ∙ tag_again tag)
     ∙ dump_again ids bounds fact rest bytes fits (ap (drop 1) parts) within
 
-there_by : (n : ℕ) (r : Result ℕ Stop) (front : ℕ) → (if n == 0 then Err Short else r) ≡ Ok front → 1 ≤ n
+there_by : (n : ℕ) (r : Result ℕ ParseStop) (front : ℕ) → (if n == 0 then Err Short else r) ≡ Ok front → 1 ≤ n
 there_by zero r front e = absurd cc
 there_by (suc n) r front e = omega arith
 
@@ -319,7 +319,7 @@ dump_once ids fact other rest more fits fits_too e =
 -- ---- by the tag
 
 -- two steps and then a third
-then_both : {A B C : Type 0} (r : Result A Stop) (middle : Result B Stop) (next : B → Result C Stop)
+then_both : {A B C : Type 0} (r : Result A ParseStop) (middle : Result B ParseStop) (next : B → Result C ParseStop)
     → (r >>= λ (x : A). middle >>= next) ≡ ((r >>= λ (x : A). middle) >>= next)
 then_both (Ok x) middle next = refl
 then_both (Err stop) middle next = refl
@@ -337,7 +337,7 @@ sub_tagged ids bounds bytes tag e = sub_steps ids bounds bytes ∙ then_next (ta
     dump_at ids t bounds bytes) tag e
 
 -- and where not, no more is read
-pub sub_stops : (ids : IdSize) (bounds : Bounds) (bytes : List ℕ) (stop : Stop) → tag_at bounds bytes ≡ Err stop
+pub sub_stops : (ids : IdSize) (bounds : Bounds) (bytes : List ℕ) (stop : ParseStop) → tag_at bounds bytes ≡ Err stop
     → sub_at ids bounds bytes ≡ Err stop
 sub_stops ids bounds bytes stop e = sub_steps ids bounds bytes ∙ then_stop (tag_at bounds bytes) (λ (t : SubTag).
     dump_at ids t bounds bytes) stop e
@@ -373,7 +373,7 @@ sub_read ids room longest bytes fact n are small lists e =
     }
 
 -- what is spelled there is what a reading gives
-pub sub_is : (ids : IdSize) (room longest : ℕ) (bytes : List ℕ) (r : Result (FactValue × ℕ) Stop) (fact : FactValue) (rest : List ℕ)
+pub sub_is : (ids : IdSize) (room longest : ℕ) (bytes : List ℕ) (r : Result (FactValue × ℕ) ParseStop) (fact : FactValue) (rest : List ℕ)
     → r ≡ sub_at ids (bounds_within room longest bytes) bytes
     → DumpFits ids fact → bytes ≡ dump_bytes ids fact ++ rest → length (dump_bytes ids fact) ≤ room
     → length (dump_bytes ids fact) ≤ longest → r ≡ Ok (fact, length (dump_bytes ids fact))
@@ -387,7 +387,7 @@ sub_is ids room longest bytes r fact rest read fits spelled in_room in_longest =
     })
 
 -- so no other answer is given
-pub sub_never : (ids : IdSize) (room longest : ℕ) (bytes : List ℕ) (stop : Stop) → sub_at ids (bounds_within room longest bytes) bytes
+pub sub_never : (ids : IdSize) (room longest : ℕ) (bytes : List ℕ) (stop : ParseStop) → sub_at ids (bounds_within room longest bytes) bytes
     ≡ Err stop
     → (fact : FactValue) (rest : List ℕ) → DumpFits ids fact → bytes ≡ dump_bytes ids fact ++ rest → length (dump_bytes ids fact) ≤ room
     → length (dump_bytes ids fact) ≤ longest → ⊥

@@ -12,7 +12,7 @@ use Rattle.hprof_values.specs.declared.ids.IdSize.TheVariants.{Four, Eight}
 use Rattle.hprof_items.specs.declared.header.Header.{Header}
 use Rattle.hprof_items.specs.declared.header.Version.{Version}
 use Rattle.hprof_items.specs.declared.header.Version.TheVariants.{V101, V102}
-use Rattle.hprof_values.specs.declared.stop.Stop.TheVariants.{Short}
+use Rattle.hprof_values.specs.declared.parse_stop.ParseStop.TheVariants.{Short}
 use Rattle.hprof_values.specs.Ids.{width_of, IsBytes}
 use Rattle.hprof_items.specs.Header.{text_of, header_bytes, IsMillis}
 use Rattle.hprof_items.specs.Reading.{version_of, ids_of, timed_header, sized_header, header_at}

@@ -13,8 +13,8 @@ use Rattle.hprof_values.specs.RecordTag.{code_of_record, record_of_code}
 use Rattle.hprof_values.proofs.Numbers.{IsBytes-drop, number_parts_at}
 use Rattle.hprof_items.specs.declared.head.Head.{Head}
 use Rattle.hprof_items.specs.declared.head.HeadKind.TheVariants.{FactRecord, HeapDump, DumpEnd, Skipped}
-use Rattle.hprof_values.specs.declared.stop.Stop.{Stop}
-use Rattle.hprof_values.specs.declared.stop.Stop.TheVariants.{Short, TooLong, Fault}
+use Rattle.hprof_values.specs.declared.parse_stop.ParseStop.{ParseStop}
+use Rattle.hprof_values.specs.declared.parse_stop.ParseStop.TheVariants.{Short, TooLong, Fault}
 use Rattle.hprof_items.specs.Head.{head_bytes, is_fact_tag, is_dump_tag, is_end_tag, kind_of}
 use Rattle.hprof_items.specs.Reading.{is_too_long, is_legal, judged_head, head_at, IsRightHead, is_legal_as}
 use Rattle.hprof_items.specs.RecordBody.{is_legal_body}
@@ -45,7 +45,7 @@ fields_found bytes are long =
 judged_found : (ids : IdSize) (longest : ℕ) (x head : Head) (n : ℕ) → judged_head ids longest x ≡ Ok (head, n)
     → (is_legal ids x.tag x.length ≡ true) × (is_too_long longest x ≡ false) × (x ≡ head) × (9 ≡ n)
 judged_found ids longest x head n e =
-    let last : Result (Head × ℕ) Stop = cond (is_too_long longest x) (Err TooLong) (Ok (x, 9)) in
+    let last : Result (Head × ℕ) ParseStop = cond (is_too_long longest x) (Err TooLong) (Ok (x, 9)) in
     let legal = held (is_legal ids x.tag x.length) last (Err (Fault BadLength)) (Ok (head, n)) (λ h. cc) e in
     let taken = went_on (is_too_long longest x) (Err TooLong) (Ok (x, 9)) (Ok (head, n)) (λ h. cc) legal.1 in
     let same = whole_parts x head 9 n taken.1 in
@@ -54,7 +54,7 @@ judged_found ids longest x head n e =
 -- a head that passes them
 judged_again : (ids : IdSize) (longest : ℕ) (head : Head) → IsRightHead ids longest head → judged_head ids longest head ≡ Ok (head, 9)
 judged_again ids longest head right =
-    let last : Result (Head × ℕ) Stop = cond (is_too_long longest head) (Err TooLong) (Ok (head, 9)) in
+    let last : Result (Head × ℕ) ParseStop = cond (is_too_long longest head) (Err TooLong) (Ok (head, 9)) in
     cond-true (is_legal ids head.tag head.length) last (Err (Fault BadLength)) right.legal
     ∙ cond-false (is_too_long longest head) (Err TooLong) (Ok (head, 9)) right.taken
 

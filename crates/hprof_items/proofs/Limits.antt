@@ -6,14 +6,14 @@ use Rattle.byteorder.specs.Endian.{big_number}
 use Rattle.hprof_items.specs.declared.head.Head.{Head}
 use Rattle.hprof_values.specs.declared.ids.IdSize.{IdSize}
 use Rattle.hprof_values.specs.declared.reason.Reason.TheVariants.{BadLength}
-use Rattle.hprof_values.specs.declared.stop.Stop.{Stop}
-use Rattle.hprof_values.specs.declared.stop.Stop.TheVariants.{Short, TooLong, Fault}
+use Rattle.hprof_values.specs.declared.parse_stop.ParseStop.{ParseStop}
+use Rattle.hprof_values.specs.declared.parse_stop.ParseStop.TheVariants.{Short, TooLong, Fault}
 use Rattle.hprof_items.specs.Head.{is_fact_tag}
 use Rattle.hprof_items.specs.Reading.{head_at, judged_head, is_legal, is_too_long}
 use Rattle.hprof_items.proofs.Steps.{went_on, held, long_enough, whole_parts}
 
 -- of two chains of tests that differ in the last test, which fails in the second only where it does in the first
-tests_same_or_long : (w : Result (Head × ℕ) Stop) (legal long long_too : Bool) → (long ≡ false → long_too ≡ false)
+tests_same_or_long : (w : Result (Head × ℕ) ParseStop) (legal long long_too : Bool) → (long ≡ false → long_too ≡ false)
     → (cond legal (cond long (Err TooLong) w) (Err (Fault BadLength)) ≡ cond legal (cond long_too (Err TooLong) w) (Err (Fault BadLength)))
     ⊎ (cond legal (cond long (Err TooLong) w) (Err (Fault BadLength)) ≡ Err TooLong)
 tests_same_or_long w true true long_too h = inr refl
@@ -26,7 +26,7 @@ short_for_both true less longest len le e = le-ltb longest len (let h = ltb-fals
 short_for_both false less longest len le e = refl
 
 -- the same behind a test that more bytes are needed
-guarded : (b : Bool) (x y : Result (Head × ℕ) Stop) → (x ≡ y) ⊎ (x ≡ Err TooLong) → (cond b (Err Short) x ≡ cond b (Err Short) y)
+guarded : (b : Bool) (x y : Result (Head × ℕ) ParseStop) → (x ≡ y) ⊎ (x ≡ Err TooLong) → (cond b (Err Short) x ≡ cond b (Err Short) y)
     ⊎ (cond b (Err Short) x ≡ Err TooLong)
 guarded true x y h = inl refl
 guarded false x y h = h

@@ -5,7 +5,7 @@ use Rattle.std.proofs.lemmas.List.{take_at, length-append, length-drop, length-t
 use Rattle.std.proofs.Math.Seq.{drop-drop}
 use Rattle.std.specs.Prelude.{sum, slice_index}
 use Rattle.hprof_values.specs.declared.ids.IdSize.{IdSize}
-use Rattle.hprof_values.specs.declared.stop.Stop.{Stop}
+use Rattle.hprof_values.specs.declared.parse_stop.ParseStop.{ParseStop}
 use Rattle.hprof_values.specs.declared.root.Root.{Root}
 use Rattle.hprof_values.specs.declared.root.Root.TheVariants as roots
 use Rattle.hprof_values.specs.declared.sub_tag.SubTag.{SubTag}
@@ -125,7 +125,7 @@ instance_again ids bounds id trace class raw rest bytes fits spelled within =
     omega (arith, length-fields widths numbers fits.0, length-append (field_bytes widths numbers) raw) in
     let again = dump_again bounds widths numbers raw rest bytes fits.0 (spelled ∙ append_assoc (field_bytes widths numbers) raw rest)
     (within-less bounds (1 + sum widths + length raw) all (omega arith) within) in
-    let step : List ℕ → ℕ → Result (FactValue × ℕ) Stop =
+    let step : List ℕ → ℕ → Result (FactValue × ℕ) ParseStop =
     λ ns front. reached bounds front (slice_index ns 3 ∷ []) >>= λ (end : ℕ).
     Ok (Instance (slice_index ns 0) (slice_index ns 1) (slice_index ns 2) (cut (slice_index ns 3) front bytes), end) in
     ap (λ (ns : List ℕ). reached bounds 1 widths >>= step ns) again.0
@@ -138,11 +138,11 @@ instance_again ids bounds id trace class raw rest bytes fits spelled within =
 -- ---- what is read is spelled so
 
 -- a reading gives one answer
-pub answer_parts : (x y : FactValue) (m n : ℕ) (r : Result (FactValue × ℕ) Stop) → r ≡ Ok (x, m) → r ≡ Ok (y, n) → (x ≡ y) × (m ≡ n)
+pub answer_parts : (x y : FactValue) (m n : ℕ) (r : Result (FactValue × ℕ) ParseStop) → r ≡ Ok (x, m) → r ≡ Ok (y, n) → (x ≡ y) × (m ≡ n)
 answer_parts x y m n r p q = let same : (x, m) ≡ (y, n) = cc in (ap (λ (z : FactValue × ℕ). z.0) same, ap (λ (z : FactValue × ℕ). z.1) same)
 
 -- an answer
-abbrev pub answered : FactValue → ℕ → Result (FactValue × ℕ) Stop
+abbrev pub answered : FactValue → ℕ → Result (FactValue × ℕ) ParseStop
 answered fact end = Ok (fact, end)
 
 -- so what holds of an answer holds of the answer that was given

@@ -6,7 +6,7 @@ use Rattle.hprof_values.specs.declared.ids.IdSize.{IdSize}
 use Rattle.hprof_values.specs.declared.entry.EntryKind.{EntryKind}
 use Rattle.hprof_values.specs.declared.entry.EntryKind.TheVariants as kinds
 use Rattle.hprof_values.specs.declared.bounded_bytes.BoundedBytes.{BoundedBytes}
-use Rattle.hprof_values.specs.declared.stop.Stop.{Stop}
+use Rattle.hprof_values.specs.declared.parse_stop.ParseStop.{ParseStop}
 use Rattle.hprof_values.specs.FieldGroups.{Bounds, ◌>>=◌, reached, with_more}
 use Rattle.hprof_values.specs.Entries.{entry_end, entries_end, list_end}
 use Rattle.hprof_values.specs.BoundedBytes.{bounds_of}
@@ -21,12 +21,12 @@ abbrev pub later : BoundedBytes → List ℕ → Bounds
 later item more = with_more (bounds_of item) (length more)
 
 -- an answer that went well stays when more bytes have come
-pub settled_ok : {A : Type 0} (r s : Result A Stop) (x : A) → IsSettled r s → r ≡ Ok x → s ≡ Ok x
+pub settled_ok : {A : Type 0} (r s : Result A ParseStop) (x : A) → IsSettled r s → r ≡ Ok x → s ≡ Ok x
 settled_ok r s x (inl short) e = absurd cc
 settled_ok r s x (inr same) e = same ∙ e
 
 -- an answer that went well is one value
-same_ok : {A : Type 0} (r : Result A Stop) (x y : A) → r ≡ Ok x → r ≡ Ok y → x ≡ y
+same_ok : {A : Type 0} (r : Result A ParseStop) (x y : A) → r ≡ Ok x → r ≡ Ok y → x ≡ y
 same_ok r x y e f = cc
 
 -- what is found when no more bytes have come
@@ -45,13 +45,13 @@ found_now ids item walk other same = sym (nothing_more ids item walk) ∙ same [
 
 -- what is found behind some entries, in terms of the first of them
 first_entry : (ids : IdSize) (kind : EntryKind) (bounds : Bounds) (bytes : List ℕ) (left at : ℕ) → 0 < left
-    → let others : ℕ → Result ℕ Stop = λ end. entries_end ids kind bounds bytes (left - 1) end in
+    → let others : ℕ → Result ℕ ParseStop = λ end. entries_end ids kind bounds bytes (left - 1) end in
     walked ids bounds bytes (Entries kind left at) ≡ ((entry_end ids kind bounds bytes at >>= others) >>= behind ids kind bounds bytes)
 unfolding walked
 first_entry ids kind bounds bytes zero at some = absurd (omega arith)
 first_entry ids kind bounds bytes (suc left) at some =
     let same : left ≡ suc left - 1 = omega arith in
-    let others : ℕ → ℕ → Result ℕ Stop = λ n end. entries_end ids kind bounds bytes n end in
+    let others : ℕ → ℕ → Result ℕ ParseStop = λ n end. entries_end ids kind bounds bytes n end in
     ap (λ (n : ℕ). (entry_end ids kind bounds bytes at >>= others n) >>= behind ids kind bounds bytes) same
 
 -- an entry that was passed
@@ -63,7 +63,7 @@ entry_passed ids kind item left at end some passed = λ more.
     let bytes = item.bytes.now ++ more in
     let kept = settled_ok _ _ end (entry_more ids kind (bounds_of item) item.bytes.now more at (omega arith)) passed in
     sym (first_entry ids kind (later item more) bytes left at some
-    ∙ ap (λ (r : Result ℕ Stop). r >>= behind ids kind (later item more) bytes)
+    ∙ ap (λ (r : Result ℕ ParseStop). r >>= behind ids kind (later item more) bytes)
     (then_next (entry_end ids kind (later item more) bytes at)
     (λ (last : ℕ). entries_end ids kind (later item more) bytes (left - 1) last) end kept))
 
@@ -73,13 +73,13 @@ pub entry_there : (ids : IdSize) (kind : EntryKind) (item : BoundedBytes) (at en
 entry_there ids kind item at end passed = (entry_lies ids kind (bounds_of item) item.bytes.now at end passed).1.there
 
 -- an entry that stopped the walk
-pub entry_stopped : (ids : IdSize) (kind : EntryKind) (item : BoundedBytes) (left at : ℕ) (stop : Stop) → 0 < left
+pub entry_stopped : (ids : IdSize) (kind : EntryKind) (item : BoundedBytes) (left at : ℕ) (stop : ParseStop) → 0 < left
     → entry_end ids kind (bounds_of item) item.bytes.now at ≡ Err stop
     → walked ids (bounds_of item) item.bytes.now (Entries kind left at) ≡ Err stop
 entry_stopped ids kind item left at stop some stopped =
     let bounds = bounds_of item in
     let bytes = item.bytes.now in
-    let next : ℕ → Result ℕ Stop = λ last. entries_end ids kind bounds bytes (left - 1) last in
+    let next : ℕ → Result ℕ ParseStop = λ last. entries_end ids kind bounds bytes (left - 1) last in
     first_entry ids kind bounds bytes left at some
     ∙ then_stop (entry_end ids kind bounds bytes at >>= next) (behind ids kind bounds bytes) stop
     (then_stop (entry_end ids kind bounds bytes at) next stop stopped)
@@ -87,7 +87,7 @@ entry_stopped ids kind item left at stop some stopped =
 -- ---- the lists of a class
 
 -- a step that only passes on what came before it
-then_ok_again : (r : Result ℕ Stop) → (r >>= λ (end : ℕ). Ok end) ≡ r
+then_ok_again : (r : Result ℕ ParseStop) → (r >>= λ (end : ℕ). Ok end) ≡ r
 then_ok_again (Ok end) = refl
 then_ok_again (Err stop) = refl
 
@@ -111,11 +111,11 @@ behind_none ids kinds.Static bounds bytes at e = absurd cc
 behind_none ids kinds.Field bounds bytes at e = refl
 
 -- what is found from the first entry of a list
-abbrev pub listed : IdSize → EntryKind → Bounds → List ℕ → (ℕ × ℕ) → Result ℕ Stop
+abbrev pub listed : IdSize → EntryKind → Bounds → List ℕ → (ℕ × ℕ) → Result ℕ ParseStop
 listed ids kind bounds bytes list = entries_end ids kind bounds bytes list.0 list.1 >>= behind ids kind bounds bytes
 
 -- a list ends behind its count where its entries do
-counted : (ids : IdSize) (kind : EntryKind) (bounds : Bounds) (bytes : List ℕ) (count : ℕ) (r : Result ℕ Stop)
+counted : (ids : IdSize) (kind : EntryKind) (bounds : Bounds) (bytes : List ℕ) (count : ℕ) (r : Result ℕ ParseStop)
     → ((r >>= λ (begin : ℕ). entries_end ids kind bounds bytes count begin) >>= behind ids kind bounds bytes)
     ≡ ((r >>= λ (begin : ℕ). Ok (count, begin)) >>= listed ids kind bounds bytes)
 counted ids kind bounds bytes count (Ok begin) = refl
@@ -130,7 +130,7 @@ list_counted ids kind bounds bytes at = counted ids kind bounds bytes (big_numbe
 pub count_settled : (bounds : Bounds) (bytes more : List ℕ) (at : ℕ) → bounds.there ≤ length bytes
     → IsSettled (count_at bounds bytes at) (count_at (with_more bounds (length more)) (bytes ++ more) at)
 count_settled bounds bytes more at there =
-    let answer : ℕ → ℕ → Result (ℕ × ℕ) Stop = λ count begin. Ok (count, begin) in
+    let answer : ℕ → ℕ → Result (ℕ × ℕ) ParseStop = λ count begin. Ok (count, begin) in
     let count : List ℕ → ℕ = λ all. big_number 2 (drop at all) in
     then_more_at (reached bounds at (2 ∷ [])) (reached (with_more bounds (length more)) at (2 ∷ []))
     (answer (count bytes)) (answer (count (bytes ++ more)))
@@ -158,7 +158,7 @@ list_there item at left begin e =
     omega (arith, is, (reached_passed (bounds_of item) at 2 [] first.0 first.1).1.there)
 
 -- a count that is not there stops the walk
-pub list_stopped : (ids : IdSize) (kind next : EntryKind) (bounds : Bounds) (bytes : List ℕ) (at : ℕ) (stop : Stop)
+pub list_stopped : (ids : IdSize) (kind next : EntryKind) (bounds : Bounds) (bytes : List ℕ) (at : ℕ) (stop : ParseStop)
     → next_kind kind ≡ Some next
     → count_at bounds bytes at ≡ Err stop → walked ids bounds bytes (Entries kind 0 at) ≡ Err stop
 unfolding walked
@@ -181,7 +181,7 @@ lists_behind kinds.Field = 0
 -- ---- one walk after another
 
 -- an answer from as far as was walked, by what was told of that walk
-pub answer_by : (ids : IdSize) (item : BoundedBytes) (walk told between other : Walk) (answer : Result ℕ Stop) → walk ≡ told
+pub answer_by : (ids : IdSize) (item : BoundedBytes) (walk told between other : Walk) (answer : Result ℕ ParseStop) → walk ≡ told
     → walked ids (bounds_of item) item.bytes.now told ≡ answer
     → FindsSame ids item walk between → FindsSame ids item between other → answer ≡ walked ids (bounds_of item) item.bytes.now other
 answer_by ids item walk told between other answer is found first second =

@@ -5,7 +5,7 @@ use Rattle.hprof_values.specs.declared.entry.Entry.{Entry}
 use Rattle.hprof_values.specs.declared.entry.EntryKind.{EntryKind}
 use Rattle.hprof_values.specs.declared.entry.EntryKind.TheVariants as kinds
 use Rattle.hprof_values.specs.declared.bounded_bytes.BoundedBytes.{BoundedBytes}
-use Rattle.hprof_values.specs.declared.stop.Stop.{Stop}
+use Rattle.hprof_values.specs.declared.parse_stop.ParseStop.{ParseStop}
 use Rattle.hprof_values.specs.declared.sub_tag.SubTag.{SubTag}
 use Rattle.hprof_values.specs.declared.sub_tag.SubTag.TheVariants as tags
 use Rattle.hprof_values.specs.FieldGroups.{fields_in, Bounds, ◌>>=◌, reached}
@@ -21,36 +21,38 @@ use Rattle.hprof_items.proofs.WalksReads.{tag_more, then_assoc, sub_parts}
 use Rattle.hprof_items.proofs.Walks.{later, settled_ok, listed, list_counted, count_settled}
 
 -- the end of what comes after a step
-end_then : {A : Type 0} (r : Result A Stop) (next : A → Result (FactValue × ℕ) Stop)
+end_then : {A : Type 0} (r : Result A ParseStop) (next : A → Result (FactValue × ℕ) ParseStop)
     → end_of_read (r >>= next) ≡ (r >>= λ (x : A). end_of_read (next x))
 end_then (Ok x) next = refl
 end_then (Err stop) next = refl
 
 -- steps that answer the same
-then_same : {A : Type 0} (r : Result A Stop) (next other : A → Result ℕ Stop) → ((x : A) → next x ≡ other x) → (r >>= next) ≡ (r >>= other)
+then_same : {A : Type 0} (r : Result A ParseStop) (next other : A → Result ℕ ParseStop) → ((x : A) → next x ≡ other x)
+    → (r >>= next) ≡ (r >>= other)
 then_same (Ok x) next other same = same x
 then_same (Err stop) next other same = refl
 
 -- the end of an answer that has the end of a step
-end_with : (r : Result ℕ Stop) (fact : FactValue) → end_of_read (r >>= λ (end : ℕ). Ok (fact, end)) ≡ r
+end_with : (r : Result ℕ ParseStop) (fact : FactValue) → end_of_read (r >>= λ (end : ℕ). Ok (fact, end)) ≡ r
 end_with (Ok end) fact = refl
 end_with (Err stop) fact = refl
 
 -- where a class ends: its fields, and then its lists
 class_parts : (ids : IdSize) (bounds : Bounds) (bytes : List ℕ)
-    → let lists : ℕ → Result ℕ Stop = λ front. list_end ids kinds.Constant bounds bytes front >>= behind ids kinds.Constant bounds bytes in
+    → let lists : ℕ → Result ℕ ParseStop = λ front.
+    list_end ids kinds.Constant bounds bytes front >>= behind ids kinds.Constant bounds bytes in
     end_of_read (class_at ids bounds bytes) ≡ (reached bounds 1 (class_widths ids) >>= lists)
 unfolding class_at
 class_parts ids bounds bytes =
     let ns = fields_in (class_widths ids) (drop 1 bytes) in
     let entries : EntryKind → ℕ → List Entry = λ kind at. list_in ids kind bytes at in
-    let ends : EntryKind → ℕ → Result ℕ Stop = λ kind at. list_end ids kind bounds bytes at in
+    let ends : EntryKind → ℕ → Result ℕ ParseStop = λ kind at. list_end ids kind bounds bytes at in
     let fact : ℕ → ℕ → ℕ → FactValue =
     λ front statics fields. class_of ns (entries kinds.Constant front) (entries kinds.Static statics) (entries kinds.Field fields) in
-    let third : ℕ → ℕ → ℕ → Result (FactValue × ℕ) Stop =
+    let third : ℕ → ℕ → ℕ → Result (FactValue × ℕ) ParseStop =
     λ front statics fields. ends kinds.Field fields >>= λ (end : ℕ). Ok (fact front statics fields, end) in
-    let second : ℕ → ℕ → Result (FactValue × ℕ) Stop = λ front statics. ends kinds.Static statics >>= third front statics in
-    let first : ℕ → Result (FactValue × ℕ) Stop = λ front. ends kinds.Constant front >>= second front in
+    let second : ℕ → ℕ → Result (FactValue × ℕ) ParseStop = λ front statics. ends kinds.Static statics >>= third front statics in
+    let first : ℕ → Result (FactValue × ℕ) ParseStop = λ front. ends kinds.Constant front >>= second front in
     end_then (reached bounds 1 (class_widths ids)) first
     ∙ then_same (reached bounds 1 (class_widths ids)) _ _
     (λ front. end_then (ends kinds.Constant front) (second front) ∙ then_same (ends kinds.Constant front) _ _
@@ -65,7 +67,7 @@ front_tagged ids tag bounds bytes e =
     ap end_of_read (sub_parts ids bounds bytes ∙ then_next (tag_at bounds bytes) (λ (tag : SubTag). dump_at ids tag bounds bytes) tag e)
 
 -- a tag that is not there, or none, stops the walk
-pub tag_stopped : (ids : IdSize) (bounds : Bounds) (bytes : List ℕ) (stop : Stop) → tag_at bounds bytes ≡ Err stop
+pub tag_stopped : (ids : IdSize) (bounds : Bounds) (bytes : List ℕ) (stop : ParseStop) → tag_at bounds bytes ≡ Err stop
     → walked ids bounds bytes Front ≡ Err stop
 unfolding walked
 tag_stopped ids bounds bytes stop e =
@@ -100,7 +102,7 @@ class_entered ids item left begin tagged e = λ more.
     ∙ then_next (class_count ids longer bytes) (listed ids kinds.Constant longer bytes) (left, begin) count)
 
 -- fields or a count that are not there stop the walk
-pub class_stopped : (ids : IdSize) (bounds : Bounds) (bytes : List ℕ) (stop : Stop) → tag_at bounds bytes ≡ Ok tags.ClassDump
+pub class_stopped : (ids : IdSize) (bounds : Bounds) (bytes : List ℕ) (stop : ParseStop) → tag_at bounds bytes ≡ Ok tags.ClassDump
     → class_count ids bounds bytes ≡ Err stop
     → walked ids bounds bytes Front ≡ Err stop
 class_stopped ids bounds bytes stop tagged e =
@@ -108,7 +110,7 @@ class_stopped ids bounds bytes stop tagged e =
     ∙ then_stop (class_count ids bounds bytes) (listed ids kinds.Constant bounds bytes) stop e
 
 -- what is no class is tested at once
-pub tested_at_once : (ids : IdSize) (item : BoundedBytes) (tag : SubTag) (answer : Result ℕ Stop)
+pub tested_at_once : (ids : IdSize) (item : BoundedBytes) (tag : SubTag) (answer : Result ℕ ParseStop)
     → tag_at (bounds_of item) item.bytes.now ≡ Ok tag → (tag ≡ tags.ClassDump → ⊥)
     → IfErr answer (StopsAt ids item Front)
 tested_at_once ids item tag (Ok end) tagged other = tt

@@ -12,8 +12,8 @@ use Rattle.hprof_values.specs.declared.basic.Basic.{Basic}
 use Rattle.hprof_values.specs.declared.basic.Basic.TheVariants as basics
 use Rattle.hprof_values.specs.declared.entry.Entry.{Entry}
 use Rattle.hprof_values.specs.declared.entry.EntryKind.{EntryKind}
-use Rattle.hprof_values.specs.declared.stop.Stop.{Stop}
-use Rattle.hprof_values.specs.declared.stop.Stop.TheVariants.{Short}
+use Rattle.hprof_values.specs.declared.parse_stop.ParseStop.{ParseStop}
+use Rattle.hprof_values.specs.declared.parse_stop.ParseStop.TheVariants.{Short}
 use Rattle.hprof_values.specs.Basic.{basic_of_code}
 use Rattle.hprof_values.specs.FieldGroups.{fields_in, Bounds, ◌>>=◌, reached, IsWithin, with_more}
 use Rattle.hprof_values.specs.Entries.{lead_width, bits_width, entry_len, type_in, typed_entry, entry_in, entries_in, judged_type}
@@ -60,17 +60,17 @@ cut_more len at bytes more there =
 -- ---- tests, one after the other
 
 -- the answer is the one that more bytes give, or more bytes are wanted
-abbrev pub IsSettled : {A : Type 0} → Result A Stop → Result A Stop → Type 0
+abbrev pub IsSettled : {A : Type 0} → Result A ParseStop → Result A ParseStop → Type 0
 IsSettled r s = (r ≡ Err Short) ⊎ (s ≡ r)
 
 -- two steps, the second of which may rest on what the first one answered
-pub then_more_at : {A B : Type 0} (r s : Result A Stop) (next later : A → Result B Stop) → IsSettled r s
+pub then_more_at : {A B : Type 0} (r s : Result A ParseStop) (next later : A → Result B ParseStop) → IsSettled r s
     → ((x : A) → r ≡ Ok x → IsSettled (next x) (later x))
     → IsSettled (r >>= next) (s >>= later)
 then_more_at r s next later (inl short) h = inl (then_stop r next Short short)
 then_more_at (Ok x) s next later (inr same) h =
-    elim (h x refl) [ inl short ↦ inl short | inr more ↦ inr (ap (λ (r : Result _ Stop). r >>= later) same ∙ more) ]
-then_more_at (Err stop) s next later (inr same) h = inr (ap (λ (r : Result _ Stop). r >>= later) same)
+    elim (h x refl) [ inl short ↦ inl short | inr more ↦ inr (ap (λ (r : Result _ ParseStop). r >>= later) same ∙ more) ]
+then_more_at (Err stop) s next later (inr same) h = inr (ap (λ (r : Result _ ParseStop). r >>= later) same)
 
 -- ---- entries
 
@@ -81,8 +81,8 @@ unfolding entry_end
 entry_more ids kind bounds bytes more at there =
     let lead = lead_width ids kind in
     let longer = with_more bounds (length more) in
-    let valued : Bounds → ℕ → Basic → Result ℕ Stop = λ limits front basic. reached limits front (bits_width ids kind basic ∷ []) in
-    let typed : List ℕ → Result Basic Stop = λ all. judged_type (basic_of_code (slice_index all (at + lead))) in
+    let valued : Bounds → ℕ → Basic → Result ℕ ParseStop = λ limits front basic. reached limits front (bits_width ids kind basic ∷ []) in
+    let typed : List ℕ → Result Basic ParseStop = λ all. judged_type (basic_of_code (slice_index all (at + lead))) in
     then_more_at (reached bounds at (lead ∷ 1 ∷ [])) (reached longer at (lead ∷ 1 ∷ []))
     (λ (front : ℕ). typed bytes >>= valued bounds front) (λ (front : ℕ). typed (bytes ++ more) >>= valued longer front)
     (reached_more bounds at (length more) (lead ∷ 1 ∷ []))
@@ -118,7 +118,7 @@ pub list_more : (ids : IdSize) (kind : EntryKind) (bounds : Bounds) (bytes more 
 unfolding list_end
 list_more ids kind bounds bytes more at there =
     let longer = with_more bounds (length more) in
-    let ends : Bounds → List ℕ → ℕ → ℕ → Result ℕ Stop = λ limits all count begin. entries_end ids kind limits all count begin in
+    let ends : Bounds → List ℕ → ℕ → ℕ → Result ℕ ParseStop = λ limits all count begin. entries_end ids kind limits all count begin in
     let count : List ℕ → ℕ = λ all. big_number 2 (drop at all) in
     then_more_at (reached bounds at (2 ∷ [])) (reached longer at (2 ∷ []))
     (ends bounds bytes (count bytes)) (ends longer (bytes ++ more) (count (bytes ++ more)))

@@ -10,8 +10,8 @@ use Rattle.hprof_values.specs.declared.entry.EntryKind.{EntryKind}
 use Rattle.hprof_values.specs.declared.entry.EntryKind.TheVariants as kinds
 use Rattle.hprof_values.specs.declared.sub_tag.SubTag.{SubTag}
 use Rattle.hprof_values.specs.declared.sub_tag.SubTag.TheVariants as tags
-use Rattle.hprof_values.specs.declared.stop.Stop.{Stop}
-use Rattle.hprof_values.specs.declared.stop.Stop.TheVariants.{Short}
+use Rattle.hprof_values.specs.declared.parse_stop.ParseStop.{ParseStop}
+use Rattle.hprof_values.specs.declared.parse_stop.ParseStop.TheVariants.{Short}
 use Rattle.hprof_values.specs.Basic.{basic_of_code, width_of_basic}
 use Rattle.hprof_values.specs.Ids.{width_of}
 use Rattle.hprof_values.specs.FieldGroups.{fields_in, Bounds, ◌>>=◌, reached, with_more}
@@ -27,7 +27,7 @@ use Rattle.hprof_values.proofs.FieldGroups.{sum_widths, then_more, reached_passe
 use Rattle.hprof_items.proofs.WalksMore.{byte_more, fields_more_at, cut_more, IsSettled, then_more_at, list_more, list_in_more}
 
 -- answers that more bytes give, spelled in two ways
-settled_by : {A : Type 0} (r s t : Result A Stop) → s ≡ t → IsSettled r t → IsSettled r s
+settled_by : {A : Type 0} (r s t : Result A ParseStop) → s ≡ t → IsSettled r t → IsSettled r s
 settled_by r s t same (inl short) = inl short
 settled_by r s t same (inr kept) = inr (same ∙ kept)
 
@@ -40,7 +40,7 @@ numbers_more bounds (w ∷ ws) bytes more end there passed =
     fields_more_at (w ∷ ws) bytes more 1 (omega (arith, lies.0, lies.1.there))
 
 -- fields behind a tag, and what rests on their numbers
-front_more : (bounds : Bounds) (widths bytes more : List ℕ) (next later : List ℕ → ℕ → Result (FactValue × ℕ) Stop)
+front_more : (bounds : Bounds) (widths bytes more : List ℕ) (next later : List ℕ → ℕ → Result (FactValue × ℕ) ParseStop)
     → bounds.there ≤ length bytes
     → ((front : ℕ) → IsSettled (next (fields_in widths (drop 1 bytes)) front) (later (fields_in widths (drop 1 bytes)) front))
     → IsSettled (reached bounds 1 widths >>= next (fields_in widths (drop 1 bytes)))
@@ -58,7 +58,7 @@ raw_more : (bounds : Bounds) (bytes more : List ℕ) (len front : ℕ) (fact : L
     → IsSettled {A = FactValue × ℕ} (reached bounds front (len ∷ []) >>= λ (end : ℕ). Ok (fact (cut len front bytes), end))
     (reached (with_more bounds (length more)) front (len ∷ []) >>= λ (end : ℕ). Ok (fact (cut len front (bytes ++ more)), end))
 raw_more bounds bytes more len front fact there =
-    let answer : List ℕ → ℕ → Result (FactValue × ℕ) Stop = λ raw end. Ok (fact raw, end) in
+    let answer : List ℕ → ℕ → Result (FactValue × ℕ) ParseStop = λ raw end. Ok (fact raw, end) in
     then_more_at (reached bounds front (len ∷ [])) (reached (with_more bounds (length more)) front (len ∷ []))
     (answer (cut len front bytes)) (answer (cut len front (bytes ++ more))) (reached_more bounds front (length more) (len ∷ []))
     (λ end passed.
@@ -71,7 +71,7 @@ root_more : (ids : IdSize) (tag : SubTag) (bounds : Bounds) (bytes more : List �
     → IsSettled (root_at ids tag bounds bytes) (root_at ids tag (with_more bounds (length more)) (bytes ++ more))
 unfolding root_at
 root_more ids tag bounds bytes more there =
-    let answer : List ℕ → ℕ → Result (FactValue × ℕ) Stop = λ ns end. Ok (Rooted (root_of tag ns), end) in
+    let answer : List ℕ → ℕ → Result (FactValue × ℕ) ParseStop = λ ns end. Ok (Rooted (root_of tag ns), end) in
     front_more bounds (root_fields ids tag) bytes more answer answer there (λ front. inr refl)
 
 instance_more : (ids : IdSize) (bounds : Bounds) (bytes more : List ℕ) → bounds.there ≤ length bytes
@@ -79,7 +79,7 @@ instance_more : (ids : IdSize) (bounds : Bounds) (bytes more : List ℕ) → bou
 unfolding instance_at
 instance_more ids bounds bytes more there =
     let fact : List ℕ → List ℕ → FactValue = λ ns raw. Instance (slice_index ns 0) (slice_index ns 1) (slice_index ns 2) raw in
-    let next : Bounds → List ℕ → List ℕ → ℕ → Result (FactValue × ℕ) Stop =
+    let next : Bounds → List ℕ → List ℕ → ℕ → Result (FactValue × ℕ) ParseStop =
     λ limits all ns front.
     reached limits front (slice_index ns 3 ∷ []) >>= λ (end : ℕ). Ok (fact ns (cut (slice_index ns 3) front all), end) in
     front_more bounds (instance_widths ids) bytes more (next bounds bytes) (next (with_more bounds (length more)) (bytes ++ more)) there
@@ -93,7 +93,7 @@ unfolding obj_array_at
 obj_array_more ids bounds bytes more there =
     let len : List ℕ → ℕ = λ ns. slice_index ns 2 * width_of ids in
     let fact : List ℕ → List ℕ → FactValue = λ ns raw. ObjArray (slice_index ns 0) (slice_index ns 1) (slice_index ns 3) (ids_in ids raw) in
-    let next : Bounds → List ℕ → List ℕ → ℕ → Result (FactValue × ℕ) Stop =
+    let next : Bounds → List ℕ → List ℕ → ℕ → Result (FactValue × ℕ) ParseStop =
     λ limits all ns front. reached limits front (len ns ∷ []) >>= λ (end : ℕ). Ok (fact ns (cut (len ns) front all), end) in
     front_more bounds (obj_array_widths ids) bytes more (next bounds bytes) (next (with_more bounds (length more)) (bytes ++ more)) there
     (λ front. let ns = fields_in (obj_array_widths ids) (drop 1 bytes) in raw_more bounds bytes more (len ns) front (fact ns) there)
@@ -105,10 +105,10 @@ prim_array_more ids bounds bytes more there =
     let longer = with_more bounds (length more) in
     let len : List ℕ → Basic → ℕ = λ ns elem. slice_index ns 2 * width_of_basic ids elem in
     let fact : List ℕ → Basic → List ℕ → FactValue = λ ns elem raw. PrimArray (slice_index ns 0) (slice_index ns 1) elem raw in
-    let valued : Bounds → List ℕ → List ℕ → ℕ → Basic → Result (FactValue × ℕ) Stop =
+    let valued : Bounds → List ℕ → List ℕ → ℕ → Basic → Result (FactValue × ℕ) ParseStop =
     λ limits all ns front elem.
     reached limits front (len ns elem ∷ []) >>= λ (end : ℕ). Ok (fact ns elem (cut (len ns elem) front all), end) in
-    let elem_of : List ℕ → Result Basic Stop = λ ns. element_type (basic_of_code (slice_index ns 3)) in
+    let elem_of : List ℕ → Result Basic ParseStop = λ ns. element_type (basic_of_code (slice_index ns 3)) in
     front_more bounds (prim_array_widths ids) bytes more
     (λ (ns : List ℕ) (front : ℕ). elem_of ns >>= valued bounds bytes ns front)
     (λ (ns : List ℕ) (front : ℕ). elem_of ns >>= valued longer (bytes ++ more) ns front) there
@@ -119,7 +119,7 @@ prim_array_more ids bounds bytes more there =
 
 -- a list of entries, and what rests on them
 list_step : (ids : IdSize) (kind : EntryKind) (bounds : Bounds) (bytes more : List ℕ) (at : ℕ)
-    (next later : List Entry → ℕ → Result (FactValue × ℕ) Stop) → bounds.there ≤ length bytes
+    (next later : List Entry → ℕ → Result (FactValue × ℕ) ParseStop) → bounds.there ≤ length bytes
     → ((entries : List Entry) (end : ℕ) → IsSettled (next entries end) (later entries end))
     → IsSettled (list_end ids kind bounds bytes at >>= next (list_in ids kind bytes at))
     (list_end ids kind (with_more bounds (length more)) (bytes ++ more) at >>= later (list_in ids kind (bytes ++ more) at))
@@ -134,15 +134,15 @@ class_more : (ids : IdSize) (bounds : Bounds) (bytes more : List ℕ) → bounds
 unfolding class_at
 class_more ids bounds bytes more there =
     let longer = with_more bounds (length more) in
-    let last : List ℕ → List Entry → List Entry → List Entry → ℕ → Result (FactValue × ℕ) Stop =
+    let last : List ℕ → List Entry → List Entry → List Entry → ℕ → Result (FactValue × ℕ) ParseStop =
     λ ns constants statics fields end. Ok (class_of ns constants statics fields, end) in
-    let third : Bounds → List ℕ → List ℕ → List Entry → List Entry → ℕ → Result (FactValue × ℕ) Stop =
+    let third : Bounds → List ℕ → List ℕ → List Entry → List Entry → ℕ → Result (FactValue × ℕ) ParseStop =
     λ limits all ns constants statics at.
     list_end ids kinds.Field limits all at >>= last ns constants statics (list_in ids kinds.Field all at) in
-    let second : Bounds → List ℕ → List ℕ → List Entry → ℕ → Result (FactValue × ℕ) Stop =
+    let second : Bounds → List ℕ → List ℕ → List Entry → ℕ → Result (FactValue × ℕ) ParseStop =
     λ limits all ns constants at.
     list_end ids kinds.Static limits all at >>= third limits all ns constants (list_in ids kinds.Static all at) in
-    let first : Bounds → List ℕ → List ℕ → ℕ → Result (FactValue × ℕ) Stop =
+    let first : Bounds → List ℕ → List ℕ → ℕ → Result (FactValue × ℕ) ParseStop =
     λ limits all ns at. list_end ids kinds.Constant limits all at >>= second limits all ns (list_in ids kinds.Constant all at) in
     front_more bounds (class_widths ids) bytes more (first bounds bytes) (first longer (bytes ++ more)) there
     (λ front.
@@ -165,7 +165,7 @@ dump_more ids tag bounds bytes more there = root_more ids tag bounds bytes more 
 -- ---- from the tag on
 
 -- a test whether there is a byte, and what comes behind it
-some_more : {A : Type 0} (t u : Bool) (r s : Result A Stop) → (t ≡ false → u ≡ false) → IsSettled r s
+some_more : {A : Type 0} (t u : Bool) (r s : Result A ParseStop) → (t ≡ false → u ≡ false) → IsSettled r s
     → IsSettled (cond t (Err Short) r) (cond u (Err Short) s)
 some_more true u r s h settled = inl refl
 some_more false u r s h settled = settled_by _ _ _ (ap (λ (v : Bool). cond v (Err Short) s) (h refl)) settled
@@ -175,7 +175,7 @@ still_some : (there more : ℕ) → (there == 0) ≡ false → (there + more == 
 still_some there more some = let other = eqb-false there 0 some in ne_eqb (there + more) 0 (λ e. other (omega arith))
 
 -- the answer behind a test that went well
-behind_test : (t : Bool) (r : Result ℕ Stop) (x : ℕ) → cond t (Err Short) r ≡ Ok x → r ≡ Ok x
+behind_test : (t : Bool) (r : Result ℕ ParseStop) (x : ℕ) → cond t (Err Short) r ≡ Ok x → r ≡ Ok x
 behind_test true r x e = absurd cc
 behind_test false r x e = e
 
@@ -183,7 +183,7 @@ pub tag_more : (bounds : Bounds) (bytes more : List ℕ) → bounds.there ≤ le
     → IsSettled (tag_at bounds bytes) (tag_at (with_more bounds (length more)) (bytes ++ more))
 tag_more bounds bytes more there =
     let longer = with_more bounds (length more) in
-    let tag_of : List ℕ → Result SubTag Stop = λ all. judged_tag (tag_of_code (slice_index all 0)) in
+    let tag_of : List ℕ → Result SubTag ParseStop = λ all. judged_tag (tag_of_code (slice_index all 0)) in
     then_more_at (cond (bounds.there == 0) (Err Short) (reached bounds 0 (1 ∷ [])))
     (cond (bounds.there + length more == 0) (Err Short) (reached longer 0 (1 ∷ [])))
     (λ (front : ℕ). tag_of bytes) (λ (front : ℕ). tag_of (bytes ++ more))
@@ -194,7 +194,7 @@ tag_more bounds bytes more there =
     inr (ap (λ (c : ℕ). judged_tag (tag_of_code c)) code))
 
 -- steps may be put together in either way
-pub then_assoc : {A B C : Type 0} (r : Result A Stop) (next : A → Result B Stop) (last : B → Result C Stop)
+pub then_assoc : {A B C : Type 0} (r : Result A ParseStop) (next : A → Result B ParseStop) (last : B → Result C ParseStop)
     → (r >>= λ (x : A). next x >>= last) ≡ ((r >>= next) >>= last)
 then_assoc (Ok x) next last = refl
 then_assoc (Err stop) next last = refl
@@ -211,7 +211,7 @@ pub sub_more : (ids : IdSize) (bounds : Bounds) (bytes more : List ℕ) → boun
     → IsSettled (sub_at ids bounds bytes) (sub_at ids (with_more bounds (length more)) (bytes ++ more))
 sub_more ids bounds bytes more there =
     let longer = with_more bounds (length more) in
-    let dump : Bounds → List ℕ → SubTag → Result (FactValue × ℕ) Stop = λ limits all tag. dump_at ids tag limits all in
+    let dump : Bounds → List ℕ → SubTag → Result (FactValue × ℕ) ParseStop = λ limits all tag. dump_at ids tag limits all in
     rw (sub_parts ids bounds bytes, sub_parts ids longer (bytes ++ more))
     (then_more (tag_at bounds bytes) (tag_at longer (bytes ++ more)) (dump bounds bytes) (dump longer (bytes ++ more))
     (tag_more bounds bytes more there) (λ tag. dump_more ids tag bounds bytes more there))

@@ -3,7 +3,7 @@ use Rattle.std.specs.Prelude.{ℕ, List, [], ◌∷◌, ◌++◌, drop, slice_in
 use Rattle.hprof_values.specs.declared.ids.IdSize.{IdSize}
 use Rattle.hprof_values.specs.declared.entry.Entry.{Entry}
 use Rattle.hprof_values.specs.declared.entry.EntryKind.TheVariants as kinds
-use Rattle.hprof_values.specs.declared.stop.Stop.{Stop}
+use Rattle.hprof_values.specs.declared.parse_stop.ParseStop.{ParseStop}
 use Rattle.hprof_values.specs.Ids.{width_of}
 use Rattle.hprof_values.specs.FieldGroups.{fields_in, Bounds, ◌>>=◌, reached}
 use Rattle.hprof_values.specs.Entries.{list_bytes, list_in, list_end}
@@ -26,7 +26,7 @@ class_of numbers constants statics fields =
     (slice_index numbers 6) (slice_index numbers 7) (slice_index numbers 8) constants statics fields
 
 -- the fields pass their tests, and then the lists one after the other
-unfoldable pub class_at : IdSize → Bounds → List ℕ → Result (FactValue × ℕ) Stop
+unfoldable pub class_at : IdSize → Bounds → List ℕ → Result (FactValue × ℕ) ParseStop
 class_at ids bounds bytes =
     let numbers = fields_in (class_widths ids) (drop 1 bytes) in
     reached bounds 1 (class_widths ids) >>= λ front.

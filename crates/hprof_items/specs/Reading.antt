@@ -10,8 +10,8 @@ use Rattle.hprof_items.specs.declared.header.Version.TheVariants.{V101, V102}
 use Rattle.hprof_items.specs.declared.head.Head.{Head}
 use Rattle.hprof_values.specs.declared.reason.Reason.{Reason}
 use Rattle.hprof_values.specs.declared.reason.Reason.TheVariants.{BadMagic, BadIdSize, BadLength}
-use Rattle.hprof_values.specs.declared.stop.Stop.{Stop}
-use Rattle.hprof_values.specs.declared.stop.Stop.TheVariants.{Short, TooLong, Fault}
+use Rattle.hprof_values.specs.declared.parse_stop.ParseStop.{ParseStop}
+use Rattle.hprof_values.specs.declared.parse_stop.ParseStop.TheVariants.{Short, TooLong, Fault}
 use Rattle.hprof_items.specs.Header.{text_of}
 use Rattle.hprof_items.specs.Head.{is_fact_tag, is_end_tag}
 use Rattle.hprof_items.specs.RecordBody.{is_legal_body, record_at}
@@ -30,18 +30,18 @@ abbrev pub ids_of : ℕ → Option IdSize
 ids_of size = if size == 4 then Some Four else (if size == 8 then Some Eight else None)
 
 -- a header whose text and size were right so far
-abbrev pub timed_header : Version → Option IdSize → List ℕ → Result (Header × ℕ) Stop
+abbrev pub timed_header : Version → Option IdSize → List ℕ → Result (Header × ℕ) ParseStop
 timed_header version None bytes = Err (Fault BadIdSize)
 timed_header version (Some ids) bytes =
     if nat_lt (length bytes) 31 then Err Short else Ok (record { version = version; ids = ids; millis = big_number 8 (drop 23 bytes) }, 31)
 
 -- a header whose text was right so far
-abbrev pub sized_header : Option Version → List ℕ → Result (Header × ℕ) Stop
+abbrev pub sized_header : Option Version → List ℕ → Result (Header × ℕ) ParseStop
 sized_header None bytes = Err (Fault BadMagic)
 sized_header (Some version) bytes =
     if nat_lt (length bytes) 23 then Err Short else timed_header version (ids_of (big_number 4 (drop 19 bytes))) bytes
 
-unfoldable pub header_at : List ℕ → Result (Header × ℕ) Stop
+unfoldable pub header_at : List ℕ → Result (Header × ℕ) ParseStop
 header_at bytes = if nat_lt (length bytes) 19 then Err Short else sized_header (version_of (take 19 bytes)) bytes
 
 -- ---- the head of a record
@@ -59,11 +59,11 @@ abbrev pub is_legal : IdSize → ℕ → ℕ → Bool
 is_legal ids tag len = is_legal_as ids (record_of_code tag) tag len
 
 -- the tests of a head that is there
-abbrev pub judged_head : IdSize → ℕ → Head → Result (Head × ℕ) Stop
+abbrev pub judged_head : IdSize → ℕ → Head → Result (Head × ℕ) ParseStop
 judged_head ids longest head =
     if is_legal ids head.tag head.length then (if is_too_long longest head then Err TooLong else Ok (head, 9)) else Err (Fault BadLength)
 
-unfoldable pub head_at : IdSize → ℕ → List ℕ → Result (Head × ℕ) Stop
+unfoldable pub head_at : IdSize → ℕ → List ℕ → Result (Head × ℕ) ParseStop
 head_at ids longest bytes =
     if nat_lt (length bytes) 9 then Err Short
     else judged_head ids longest (record {

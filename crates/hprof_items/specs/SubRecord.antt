@@ -10,8 +10,8 @@ use Rattle.hprof_values.specs.declared.root.Root.TheVariants as roots
 use Rattle.hprof_values.specs.declared.sub_tag.SubTag.{SubTag}
 use Rattle.hprof_values.specs.declared.sub_tag.SubTag.TheVariants as tags
 use Rattle.hprof_values.specs.declared.reason.Reason.TheVariants.{BadSubTag, BadType}
-use Rattle.hprof_values.specs.declared.stop.Stop.{Stop}
-use Rattle.hprof_values.specs.declared.stop.Stop.TheVariants.{Short, Fault}
+use Rattle.hprof_values.specs.declared.parse_stop.ParseStop.{ParseStop}
+use Rattle.hprof_values.specs.declared.parse_stop.ParseStop.TheVariants.{Short, Fault}
 use Rattle.hprof_values.specs.Ids.{width_of, IsBytes}
 use Rattle.hprof_values.specs.Basic.{code_of_basic, basic_of_code, width_of_basic}
 use Rattle.hprof_values.specs.FieldGroups.{field_bytes, fields_in, FitFields, Bounds, ◌>>=◌, reached, IsWithin}
@@ -51,7 +51,7 @@ root_of tags.RootMonitor numbers = roots.Monitor (slice_index numbers 0)
 root_of tags.RootThreadObject numbers = roots.ThreadObject (slice_index numbers 0) (slice_index numbers 1) (slice_index numbers 2)
 root_of _ numbers = roots.Unknown (slice_index numbers 0)
 
-unfoldable pub root_at : IdSize → SubTag → Bounds → List ℕ → Result (FactValue × ℕ) Stop
+unfoldable pub root_at : IdSize → SubTag → Bounds → List ℕ → Result (FactValue × ℕ) ParseStop
 root_at ids tag bounds bytes =
     reached bounds 1 (root_fields ids tag) >>= λ end. Ok (Rooted (root_of tag (fields_in (root_fields ids tag) (drop 1 bytes))), end)
 
@@ -59,7 +59,7 @@ root_at ids tag bounds bytes =
 abbrev pub cut : ℕ → ℕ → List ℕ → List ℕ
 cut len at bytes = take len (drop at bytes)
 
-unfoldable pub instance_at : IdSize → Bounds → List ℕ → Result (FactValue × ℕ) Stop
+unfoldable pub instance_at : IdSize → Bounds → List ℕ → Result (FactValue × ℕ) ParseStop
 instance_at ids bounds bytes =
     let numbers = fields_in (instance_widths ids) (drop 1 bytes) in
     let len = slice_index numbers 3 in
@@ -67,7 +67,7 @@ instance_at ids bounds bytes =
     reached bounds front (len ∷ []) >>= λ end.
     Ok (Instance (slice_index numbers 0) (slice_index numbers 1) (slice_index numbers 2) (cut len front bytes), end)
 
-unfoldable pub obj_array_at : IdSize → Bounds → List ℕ → Result (FactValue × ℕ) Stop
+unfoldable pub obj_array_at : IdSize → Bounds → List ℕ → Result (FactValue × ℕ) ParseStop
 obj_array_at ids bounds bytes =
     let numbers = fields_in (obj_array_widths ids) (drop 1 bytes) in
     let len = slice_index numbers 2 * width_of ids in
@@ -76,13 +76,13 @@ obj_array_at ids bounds bytes =
     Ok (ObjArray (slice_index numbers 0) (slice_index numbers 1) (slice_index numbers 3) (ids_in ids (cut len front bytes)), end)
 
 -- the type of an array's elements: neither array nor object
-abbrev pub element_type : Option Basic → Result Basic Stop
+abbrev pub element_type : Option Basic → Result Basic ParseStop
 element_type None = Err (Fault BadType)
 element_type (Some basics.Array) = Err (Fault BadType)
 element_type (Some basics.Object) = Err (Fault BadType)
 element_type (Some basic) = Ok basic
 
-unfoldable pub prim_array_at : IdSize → Bounds → List ℕ → Result (FactValue × ℕ) Stop
+unfoldable pub prim_array_at : IdSize → Bounds → List ℕ → Result (FactValue × ℕ) ParseStop
 prim_array_at ids bounds bytes =
     let numbers = fields_in (prim_array_widths ids) (drop 1 bytes) in
     reached bounds 1 (prim_array_widths ids) >>= λ front.
@@ -97,7 +97,7 @@ prim_array_at ids bounds bytes =
 -- ---- reading, from the tag on
 
 -- the sub-record of that tag, behind it
-abbrev pub dump_at : IdSize → SubTag → Bounds → List ℕ → Result (FactValue × ℕ) Stop
+abbrev pub dump_at : IdSize → SubTag → Bounds → List ℕ → Result (FactValue × ℕ) ParseStop
 dump_at ids tags.ClassDump bounds bytes = class_at ids bounds bytes
 dump_at ids tags.InstanceDump bounds bytes = instance_at ids bounds bytes
 dump_at ids tags.ObjArrayDump bounds bytes = obj_array_at ids bounds bytes
@@ -105,19 +105,19 @@ dump_at ids tags.PrimArrayDump bounds bytes = prim_array_at ids bounds bytes
 dump_at ids tag bounds bytes = root_at ids tag bounds bytes
 
 -- a tag that stands for a sub-record
-abbrev pub judged_tag : Option SubTag → Result SubTag Stop
+abbrev pub judged_tag : Option SubTag → Result SubTag ParseStop
 judged_tag None = Err (Fault BadSubTag)
 judged_tag (Some tag) = Ok tag
 
 -- the sub-record at the front: a first byte is there, then its tests, field by field
-unfoldable pub sub_at : IdSize → Bounds → List ℕ → Result (FactValue × ℕ) Stop
+unfoldable pub sub_at : IdSize → Bounds → List ℕ → Result (FactValue × ℕ) ParseStop
 sub_at ids bounds bytes =
     (if bounds.there == 0 then Err Short else reached bounds 0 (1 ∷ [])) >>= λ front.
     judged_tag (tag_of_code (slice_index bytes 0)) >>= λ tag.
     dump_at ids tag bounds bytes
 
 -- its tag
-abbrev pub tag_at : Bounds → List ℕ → Result SubTag Stop
+abbrev pub tag_at : Bounds → List ℕ → Result SubTag ParseStop
 tag_at bounds bytes =
     (if bounds.there == 0 then Err Short else reached bounds 0 (1 ∷ [])) >>= λ front.
     judged_tag (tag_of_code (slice_index bytes 0))

@@ -12,7 +12,7 @@ ghost use Rattle.hprof_items.specs.FactValue.{value_of, ListsHave};
 use crate::fact::Fact;
 use hprof_values::number::{split_id, split_u32};
 use hprof_values::{
-    BoundedBytes, ConstantList, EntryKind, FieldList, IdSize, StaticList, Stop, list_at,
+    BoundedBytes, ConstantList, EntryKind, FieldList, IdSize, ParseStop, StaticList, list_at,
 };
 
 /// The fields of a class dump before its lists.
@@ -88,7 +88,7 @@ fn class_of<'a>(
 /// by value, so that its callers can keep theirs in registers.
 #[tactic(auto, unfolding(crate::specs::ClassDump::class_at))]
 #[inline(never)]
-fn whole_class<'a>(item: BoundedBytes<'a>, ids: IdSize) -> Result<(Fact<'a>, usize), Stop>
+fn whole_class<'a>(item: BoundedBytes<'a>, ids: IdSize) -> Result<(Fact<'a>, usize), ParseStop>
     ensures fact { MatchResult result
         (λ read. class_at ids (bounds_of item.entry) item.entry.bytes.now ≡ Ok (value_of read.0, read.1))
         (λ stop. class_at ids (bounds_of item.entry) item.entry.bytes.now ≡ Err stop) }
@@ -116,7 +116,7 @@ pub(crate) fn read_class<'a>(
     item: &BoundedBytes<'a>,
     ids: IdSize,
     fact: &mut Fact<'a>,
-) -> Result<usize, Stop>
+) -> Result<usize, ParseStop>
     ensures fact { MatchResult result
         (λ end. class_at ids (bounds_of item.now) item.now.bytes.now ≡ Ok (value_of fact.new, end))
         (λ stop. class_at ids (bounds_of item.now) item.now.bytes.now ≡ Err stop) }

@@ -9,7 +9,7 @@ ghost use Rattle.hprof_items.specs.Reading.{is_legal, judged_head, head_at, IsRi
 use crate::head::{HEAD_LEN, Head, HeadKind};
 use crate::tag;
 use byteorder::{BigEndian, ByteOrder};
-use hprof_values::{IdSize, Reason, RecordTag, Stop};
+use hprof_values::{IdSize, ParseStop, Reason, RecordTag};
 
 /// Returns whether a record that states one fact may have this length.
 fn may_have_body(known: RecordTag, len: usize, ids: IdSize) -> bool
@@ -36,25 +36,25 @@ fn may_have_len(tag: u8, len: u32, ids: IdSize) -> bool
 }
 
 /// Returns the answer of `read_head`, where the fields of the head are there.
-fn judge_head(head: Head, ids: IdSize, longest: u32) -> Result<(Head, usize), Stop>
+fn judge_head(head: Head, ids: IdSize, longest: u32) -> Result<(Head, usize), ParseStop>
     ensures { result ≡ judged_head ids longest head }
 {
     if !may_have_len(head.tag, head.length, ids) {
-        return Err(Stop::Fault(Reason::BadLength));
+        return Err(ParseStop::Fault(Reason::BadLength));
     }
     if head.kind() == HeadKind::FactRecord && longest < head.length {
-        return Err(Stop::TooLong);
+        return Err(ParseStop::TooLong);
     }
     Ok((head, HEAD_LEN))
 }
 
 /// Returns the result of `read_head`.
 #[tactic(auto, unfolding(crate::specs::Reading::head_at))]
-fn head_in(bytes: &[u8], ids: IdSize, longest: u32) -> Result<(Head, usize), Stop>
+fn head_in(bytes: &[u8], ids: IdSize, longest: u32) -> Result<(Head, usize), ParseStop>
     ensures { result ≡ head_at ids longest bytes.now }
 {
     if bytes.len() < HEAD_LEN {
-        return Err(Stop::Short);
+        return Err(ParseStop::Short);
     }
     let head = Head {
         tag: bytes[0],
@@ -68,7 +68,7 @@ fn head_in(bytes: &[u8], ids: IdSize, longest: u32) -> Result<(Head, usize), Sto
 ///
 /// The tests, in order: its nine bytes are there, the record may have its length, and a record that states one fact has at most `longest`
 /// bytes after its head.
-pub fn read_head(bytes: &[u8], ids: IdSize, longest: u32) -> Result<(Head, usize), Stop>
+pub fn read_head(bytes: &[u8], ids: IdSize, longest: u32) -> Result<(Head, usize), ParseStop>
     // Which head it is, or what stopped it.
     ensures exact { result ≡ head_at ids longest bytes.now }
     // What is read is spelled so, and right.

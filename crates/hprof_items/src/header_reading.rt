@@ -7,7 +7,7 @@ ghost use Rattle.hprof_items.specs.Reading.{version_of, ids_of, header_at};
 
 use crate::header::{HEADER_LEN, Header, Version};
 use byteorder::{BigEndian, ByteOrder};
-use hprof_values::{IdSize, Reason, Stop};
+use hprof_values::{IdSize, ParseStop, Reason};
 
 /// The text at the start of a 1.0.1 dump, with its zero byte.
 pub const TEXT_V101: &[u8; 19] = b"JAVA PROFILE 1.0.1\0";
@@ -45,23 +45,23 @@ fn ids_in(size: u32) -> Option<IdSize>
 
 /// Returns the result of `read_header`.
 #[tactic(auto, unfolding(crate::specs::Reading::header_at))]
-fn header_in(bytes: &[u8]) -> Result<(Header, usize), Stop>
+fn header_in(bytes: &[u8]) -> Result<(Header, usize), ParseStop>
     ensures { result ≡ header_at bytes.now }
 {
     if bytes.len() < TEXT_LEN {
-        return Err(Stop::Short);
+        return Err(ParseStop::Short);
     }
     let Some(version) = version_in(&bytes[..TEXT_LEN]) else {
-        return Err(Stop::Fault(Reason::BadMagic));
+        return Err(ParseStop::Fault(Reason::BadMagic));
     };
     if bytes.len() < SIZED_LEN {
-        return Err(Stop::Short);
+        return Err(ParseStop::Short);
     }
     let Some(ids) = ids_in(BigEndian::read_u32(&bytes[TEXT_LEN..])) else {
-        return Err(Stop::Fault(Reason::BadIdSize));
+        return Err(ParseStop::Fault(Reason::BadIdSize));
     };
     if bytes.len() < HEADER_LEN {
-        return Err(Stop::Short);
+        return Err(ParseStop::Short);
     }
     let millis = BigEndian::read_u64(&bytes[SIZED_LEN..]);
     let header = Header {
@@ -74,7 +74,7 @@ fn header_in(bytes: &[u8]) -> Result<(Header, usize), Stop>
 
 /// Reads the header at the front, and returns it with the number of its bytes: the text, then the identifier size, then the time. A field
 /// is tested once all its bytes are there.
-pub fn read_header(bytes: &[u8]) -> Result<(Header, usize), Stop>
+pub fn read_header(bytes: &[u8]) -> Result<(Header, usize), ParseStop>
     // Which header it is, or what stopped it.
     ensures exact { result ≡ header_at bytes.now }
     // What is read is spelled so.

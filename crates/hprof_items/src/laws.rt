@@ -5,7 +5,7 @@ ghost use Rattle.hprof_values.specs.declared.ids.IdSize.{IdSize};
 ghost use Rattle.hprof_values.specs.declared.record_tag.RecordTag.{RecordTag};
 ghost use Rattle.hprof_values.specs.Ids.{IsBytes};
 ghost use Rattle.hprof_values.specs.RecordTag.{code_of_record, record_of_code};
-ghost use Rattle.hprof_values.specs.declared.stop.Stop.TheVariants as stops;
+ghost use Rattle.hprof_values.specs.declared.parse_stop.ParseStop.TheVariants as stops;
 ghost use Rattle.hprof_values.specs.FieldGroups.{Bounds, IsWithin, with_more};
 ghost use Rattle.hprof_items.specs.declared.header.Header.{Header};
 ghost use Rattle.hprof_items.specs.declared.head.Head.{Head};

@@ -26,9 +26,9 @@ pub use header::{HEADER_LEN, Header, Version};
 pub use header_reading::{SIZED_LEN, TEXT_LEN, TEXT_V101, TEXT_V102, read_header};
 pub use hprof_values::{
     Basic, Constant, ConstantList, Entry, EntryIterator, EntryKind, EntryList, Field, FieldList,
-    IdList, IdSize, Ids, ListEntry, Reason, RecordTag, Root, Static, StaticList, Stop, SubTag,
+    IdList, IdSize, Ids, ListEntry, ParseStop, Reason, RecordTag, Root, Static, StaticList, SubTag,
     Value,
 };
 pub use record_reading::{read_body, read_body_into};
 pub use sub_reading::{read_sub, read_sub_into};
-pub use walk::{Walk, go_on};
+pub use walk::{Walk, resume_sub_record};

@@ -11,7 +11,7 @@ ghost use Rattle.hprof_items.specs.FactValue.{value_of, ListsHave};
 
 use crate::fact::Fact;
 use hprof_values::number::{byte_at, id_at, ids_len, split_id, split_u32, values_len};
-use hprof_values::{Basic, BoundedBytes, IdList, IdSize, Reason, Stop};
+use hprof_values::{Basic, BoundedBytes, IdList, IdSize, ParseStop, Reason};
 
 /// The fields of an instance dump before its bytes.
 #[derive(Clone, Copy)]
@@ -48,7 +48,7 @@ pub(crate) fn read_instance<'a>(
     item: &BoundedBytes<'a>,
     ids: IdSize,
     fact: &mut Fact<'a>,
-) -> Result<usize, Stop>
+) -> Result<usize, ParseStop>
     ensures fact { MatchResult result
         (λ end. instance_at ids (bounds_of item.now) item.now.bytes.now ≡ Ok (value_of fact.new, end))
         (λ stop. instance_at ids (bounds_of item.now) item.now.bytes.now ≡ Err stop) }
@@ -103,7 +103,7 @@ pub(crate) fn read_obj_array<'a>(
     item: &BoundedBytes<'a>,
     ids: IdSize,
     fact: &mut Fact<'a>,
-) -> Result<usize, Stop>
+) -> Result<usize, ParseStop>
     ensures fact { MatchResult result
         (λ end. obj_array_at ids (bounds_of item.now) item.now.bytes.now ≡ Ok (value_of fact.new, end))
         (λ stop. obj_array_at ids (bounds_of item.now) item.now.bytes.now ≡ Err stop) }
@@ -155,11 +155,11 @@ fn prim_array_fields(bytes: &[u8], ids: IdSize) -> PrimArrayFront
 
 /// Returns the type of the elements of an array, from its code.
 #[inline(always)]
-fn element_type(code: u8) -> Result<Basic, Stop>
+fn element_type(code: u8) -> Result<Basic, ParseStop>
     ensures { result ≡ element_type (basic_of_code code) }
 {
     match Basic::from_code(code) {
-        None | Some(Basic::Array | Basic::Object) => Err(Stop::Fault(Reason::BadType)),
+        None | Some(Basic::Array | Basic::Object) => Err(ParseStop::Fault(Reason::BadType)),
         Some(basic) => Ok(basic),
     }
 }
@@ -171,7 +171,7 @@ pub(crate) fn read_prim_array<'a>(
     item: &BoundedBytes<'a>,
     ids: IdSize,
     fact: &mut Fact<'a>,
-) -> Result<usize, Stop>
+) -> Result<usize, ParseStop>
     ensures fact { MatchResult result
         (λ end. prim_array_at ids (bounds_of item.now) item.now.bytes.now ≡ Ok (value_of fact.new, end))
         (λ stop. prim_array_at ids (bounds_of item.now) item.now.bytes.now ≡ Err stop) }

@@ -9,10 +9,10 @@ ghost use Rattle.hprof_items.specs.SubRecord.{root_of, root_at};
 
 use crate::fact::Fact;
 use hprof_values::number::{split_id, split_u32};
-use hprof_values::{BoundedBytes, IdSize, Root, Stop, SubTag};
+use hprof_values::{BoundedBytes, IdSize, ParseStop, Root, SubTag};
 
 /// Returns the end of the fields of a root, or the failure of the first test that fails.
-fn root_end(item: &BoundedBytes<'_>, tag: SubTag, ids: IdSize) -> Result<usize, Stop>
+fn root_end(item: &BoundedBytes<'_>, tag: SubTag, ids: IdSize) -> Result<usize, ParseStop>
     ensures { result ≡ reached (bounds_of item.now) 1 (root_fields ids tag) }
 {
     let id = ids.width();
@@ -70,7 +70,7 @@ fn root_in(bytes: &[u8], tag: SubTag, ids: IdSize) -> Root
 /// item by value, so that its callers can keep theirs in registers.
 #[tactic(auto, unfolding(crate::specs::SubRecord::root_at))]
 #[inline(never)]
-fn whole_root(item: BoundedBytes<'_>, tag: SubTag, ids: IdSize) -> Result<(Root, usize), Stop>
+fn whole_root(item: BoundedBytes<'_>, tag: SubTag, ids: IdSize) -> Result<(Root, usize), ParseStop>
     ensures fact { MatchResult result
         (λ read. root_at ids tag (bounds_of item.entry) item.entry.bytes.now ≡ Ok (Rooted read.0, read.1))
         (λ stop. root_at ids tag (bounds_of item.entry) item.entry.bytes.now ≡ Err stop) }
@@ -87,7 +87,7 @@ pub(crate) fn read_root<'a>(
     tag: SubTag,
     ids: IdSize,
     fact: &mut Fact<'a>,
-) -> Result<usize, Stop>
+) -> Result<usize, ParseStop>
     ensures fact { MatchResult result
         (λ end. root_at ids tag (bounds_of item.now) item.now.bytes.now ≡ Ok (value_of fact.new, end))
         (λ stop. root_at ids tag (bounds_of item.now) item.now.bytes.now ≡ Err stop) }

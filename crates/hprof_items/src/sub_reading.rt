@@ -10,7 +10,7 @@ use crate::class_reading::read_class;
 use crate::fact::Fact;
 use crate::object_reading::{read_instance, read_obj_array, read_prim_array};
 use crate::root_reading::read_root;
-use hprof_values::{BoundedBytes, IdSize, Reason, Stop, SubTag};
+use hprof_values::{BoundedBytes, IdSize, ParseStop, Reason, SubTag};
 
 /// Reads a sub-record after its tag, and stores its fact in `fact`.
 #[inline(always)]
@@ -19,7 +19,7 @@ fn read_behind<'a>(
     tag: SubTag,
     ids: IdSize,
     fact: &mut Fact<'a>,
-) -> Result<usize, Stop>
+) -> Result<usize, ParseStop>
     ensures fact { MatchResult result
         (λ end. dump_at ids tag (bounds_of item.now) item.now.bytes.now ≡ Ok (value_of fact.new, end))
         (λ stop. dump_at ids tag (bounds_of item.now) item.now.bytes.now ≡ Err stop) }
@@ -36,23 +36,27 @@ fn read_behind<'a>(
 
 /// Returns the tag at the front.
 #[inline(always)]
-pub(crate) fn read_tag(item: &BoundedBytes<'_>) -> Result<SubTag, Stop>
+pub(crate) fn read_tag(item: &BoundedBytes<'_>) -> Result<SubTag, ParseStop>
     ensures { result ≡ tag_at (bounds_of item.now) item.now.bytes.now }
 {
     if item.bytes.is_empty() {
-        return Err(Stop::Short);
+        return Err(ParseStop::Short);
     }
     item.end_of(0, &[1])?;
     match SubTag::from_code(item.bytes[0]) {
         Some(tag) => Ok(tag),
-        None => Err(Stop::Fault(Reason::BadSubTag)),
+        None => Err(ParseStop::Fault(Reason::BadSubTag)),
     }
 }
 
 /// Reads the sub-record at the front, and stores its fact in `fact`.
 #[tactic(auto, using(crate::proofs::Dumps::sub_tagged, crate::proofs::Dumps::sub_stops))]
 #[inline(always)]
-fn read_item<'a>(item: &BoundedBytes<'a>, ids: IdSize, fact: &mut Fact<'a>) -> Result<usize, Stop>
+fn read_item<'a>(
+    item: &BoundedBytes<'a>,
+    ids: IdSize,
+    fact: &mut Fact<'a>,
+) -> Result<usize, ParseStop>
     ensures fact { MatchResult result
         (λ end. sub_at ids (bounds_of item.now) item.now.bytes.now ≡ Ok (value_of fact.new, end))
         (λ stop. sub_at ids (bounds_of item.now) item.now.bytes.now ≡ Err stop) }
@@ -72,7 +76,7 @@ pub fn read_sub_into<'a>(
     longest: u32,
     ids: IdSize,
     fact: &mut Fact<'a>,
-) -> Result<usize, Stop>
+) -> Result<usize, ParseStop>
     requires { 1 ≤ room }
     // Which fact it is and where it ends, or what stopped it.
     ensures exact { MatchResult result
@@ -104,7 +108,7 @@ pub fn read_sub(
     room: u32,
     longest: u32,
     ids: IdSize,
-) -> Result<(Fact<'_>, usize), Stop>
+) -> Result<(Fact<'_>, usize), ParseStop>
     requires { 1 ≤ room }
     // Which fact it is and where it ends, or what stopped it.
     ensures exact { MatchResult result

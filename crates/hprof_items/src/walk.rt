@@ -11,7 +11,7 @@ use crate::object_reading::{read_instance, read_obj_array, read_prim_array};
 use crate::root_reading::read_root;
 use crate::sub_reading::read_tag;
 use byteorder::{BigEndian, ByteOrder};
-use hprof_values::{BoundedBytes, EntryKind, IdSize, Stop, SubTag, entry_end};
+use hprof_values::{BoundedBytes, EntryKind, IdSize, ParseStop, SubTag, entry_end};
 
 /// The point that the walk over a sub-record has reached.
 #[derive(Clone, Copy, Debug, PartialEq, Eq)]
@@ -36,7 +36,7 @@ fn pass_entries(
     kind: EntryKind,
     mut left: usize,
     mut at: usize,
-) -> (Walk, Result<usize, Stop>)
+) -> (Walk, Result<usize, ParseStop>)
     requires { at ≤ length item.now.bytes.now }
     ensures placed { IsPlaced item.now result.0 }
     ensures kept { FindsSame ids item.now result.0 (Walk.Entries kind left at) }
@@ -68,7 +68,7 @@ fn next_kind(kind: EntryKind) -> Option<EntryKind>
 }
 
 /// Returns the count of entries that is stored at a place, and the place where the first entry begins.
-fn count_at(item: &BoundedBytes<'_>, at: usize) -> Result<(usize, usize), Stop>
+fn count_at(item: &BoundedBytes<'_>, at: usize) -> Result<(usize, usize), ParseStop>
     requires { at ≤ length item.now.bytes.now }
     ensures { result ≡ count_at (bounds_of item.now) item.now.bytes.now at }
 {
@@ -84,7 +84,7 @@ fn pass_lists(
     mut kind: EntryKind,
     mut left: usize,
     mut at: usize,
-) -> (Walk, Result<usize, Stop>)
+) -> (Walk, Result<usize, ParseStop>)
     requires { at ≤ length item.now.bytes.now }
     ensures placed { IsPlaced item.now result.0 }
     ensures kept { FindsSame ids item.now result.0 (Walk.Entries kind left at) }
@@ -112,7 +112,7 @@ fn pass_lists(
 }
 
 /// Returns the number of constants of a class dump, and the place where the first begins.
-fn class_count(item: &BoundedBytes<'_>, ids: IdSize) -> Result<(usize, usize), Stop>
+fn class_count(item: &BoundedBytes<'_>, ids: IdSize) -> Result<(usize, usize), ParseStop>
     ensures { result ≡ class_count ids (bounds_of item.now) item.now.bytes.now }
 {
     let id = ids.width();
@@ -121,7 +121,7 @@ fn class_count(item: &BoundedBytes<'_>, ids: IdSize) -> Result<(usize, usize), S
 }
 
 /// Returns the end of a sub-record that is no class dump.
-fn plain_end(item: &BoundedBytes<'_>, tag: SubTag, ids: IdSize) -> Result<usize, Stop>
+fn plain_end(item: &BoundedBytes<'_>, tag: SubTag, ids: IdSize) -> Result<usize, ParseStop>
     requires { tag ≢ SubTag.ClassDump }
     ensures { result ≡ end_of_read (dump_at ids tag (bounds_of item.now) item.now.bytes.now) }
 {
@@ -135,7 +135,7 @@ fn plain_end(item: &BoundedBytes<'_>, tag: SubTag, ids: IdSize) -> Result<usize,
 }
 
 /// Walks from the first byte of a sub-record.
-fn pass_front(item: &BoundedBytes<'_>, ids: IdSize) -> (Walk, Result<usize, Stop>)
+fn pass_front(item: &BoundedBytes<'_>, ids: IdSize) -> (Walk, Result<usize, ParseStop>)
     ensures placed { IsPlaced item.now result.0 }
     ensures kept { FindsSame ids item.now result.0 Walk.Front }
     ensures end { result.1 ≡ walked ids (bounds_of item.now) item.now.bytes.now Walk.Front }
@@ -158,7 +158,11 @@ fn pass_front(item: &BoundedBytes<'_>, ids: IdSize) -> (Walk, Result<usize, Stop
 ///
 /// Returns the point that the walk has reached, with the end of the sub-record or the reason why the walk stopped. An entry that was passed
 /// is not tested again.
-pub fn go_on(item: &BoundedBytes<'_>, ids: IdSize, walk: Walk) -> (Walk, Result<usize, Stop>)
+pub fn resume_sub_record(
+    item: &BoundedBytes<'_>,
+    ids: IdSize,
+    walk: Walk,
+) -> (Walk, Result<usize, ParseStop>)
     requires { IsPlaced item.now walk }
     ensures end { result.1 ≡ walked ids (bounds_of item.now) item.now.bytes.now walk }
     ensures placed { IsPlaced item.now result.0 }

@@ -5,7 +5,7 @@ use Rattle.hprof_values.specs.declared.ids.IdSize.{IdSize}
 use Rattle.hprof_items.specs.FactValue.{FactValue}
 use Rattle.hprof_rows.specs.Conflict.{IsConsistent}
 use Rattle.hprof_heap.specs.declared.class_dump.ClassDump.{ClassDump}
-use Rattle.hprof_heap.specs.ClassDump.{IsFoundClass, class_value}
+use Rattle.hprof_heap.specs.ClassDump.{AnswersClass, class_value}
 use Rattle.hprof_dominators.specs.Walks as listed
 use Rattle.hprof_dominators.proofs.Listed.{same_reached}
 use Rattle.hprof_reach.specs.Reaching.{IsDumped, IsNode, IsStart, IsStepBy}
@@ -25,7 +25,7 @@ use Rattle.hprof_keeps.proofs.Held.{are_retained}
 -- ---- whether it is a node
 
 -- an identifier whose class dump was found has a dump
-pub class_dumped : (ids : IdSize) (facts : List FactValue) (id : ℕ) (class : Option ClassDump) → IsFoundClass ids facts id class
+pub class_dumped : (ids : IdSize) (facts : List FactValue) (id : ℕ) (class : Option ClassDump) → AnswersClass ids facts id class
     → (told : Bool) → told ≡ is_some class → told ≡ true → IsDumped facts id
 class_dumped ids facts id (Some dump) found told is same = inl (class_value dump, found.found, found.id)
 class_dumped ids facts id None found told is same = let clash = sym is ∙ same in absurd cc

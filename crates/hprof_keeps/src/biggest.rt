@@ -13,7 +13,7 @@ use crate::choice::Choice;
 use crate::chosen::chosen_places;
 use crate::nodes::write_nodes;
 use hprof_devices::Target;
-use hprof_engine::WriteStop;
+use hprof_engine::ProductFault;
 use hprof_heap::{Heap, holds_of_heap};
 use hprof_naming::ClassNames;
 use hprof_retained::Retained;
@@ -33,7 +33,7 @@ pub fn write_biggest<W: Target>(
     retained: &Retained,
     choice: Choice<'_>,
     target: &mut W,
-) -> Result<(), WriteStop>
+) -> Result<(), ProductFault>
     requires classes { AreClassNames (facts_of heap.now) classes.now }
     requires retained { IsTreeOf (size_of heap.now) (facts_of heap.now) retained.now }
     requires ascend { ClassesAscend choice }

@@ -6,7 +6,7 @@ ghost use Rattle.hprof_devices.specs.declared.health.Health.TheVariants.{Well};
 ghost use Rattle.hprof_heap.specs.HeapFacts.{facts_of, size_of};
 ghost use Rattle.hprof_passes.specs.Finding.{Finds};
 ghost use Rattle.hprof_lines.specs.Passed.{EndsPassed};
-ghost use Rattle.hprof_retained.specs.KeptReferences.{AreKeptReferences};
+ghost use Rattle.hprof_retained.specs.CachedReferences.{AreCachedReferences};
 ghost use Rattle.hprof_lines.specs.Stopping.{LeavesTarget, WritesText};
 ghost use Rattle.hprof_describe.specs.Findings.{AreFindings, Findings};
 ghost use Rattle.hprof_keeps.specs.BiggestText.{IsBiggestText};
@@ -22,12 +22,12 @@ use crate::chosen_over::chosen_over;
 use crate::named::named_heap;
 use crate::nodes::write_nodes;
 use hprof_devices::Target;
-use hprof_engine::WriteStop;
+use hprof_engine::ProductFault;
 use hprof_heap::Heap;
 use hprof_lines::stop_of_pass;
 use hprof_naming::ClassNames;
-use hprof_passes::{Objects, PassStop};
-use hprof_retained::{KeptReferences, Retained};
+use hprof_passes::{Objects, PassFault};
+use hprof_retained::{CachedReferences, Retained};
 use std::alloc::{AllocError, Global};
 
 /// A tree of dominators, and places in it.
@@ -46,17 +46,17 @@ fn chosen_tree<O: Objects>(
     alloc: Global,
     heap: &Heap,
     objects: &O,
-    references: &mut KeptReferences,
+    references: &mut CachedReferences,
     choice: Choice<'_>,
-) -> Result<ChosenTree, PassStop<AllocError, O::Fault>>
-    requires references { AreKeptReferences (O.make_up objects.now (size_of heap.now) (facts_of heap.now))
+) -> Result<ChosenTree, PassFault<AllocError, O::Fault>>
+    requires references { AreCachedReferences (O.make_up objects.now (size_of heap.now) (facts_of heap.now))
         (O.agree objects.now (size_of heap.now) (facts_of heap.now)) (size_of heap.now) references.old }
     requires ascend { ClassesAscend choice }
     ensures places { IfOk result (λ made. ArePlaces made.retained made.places.items) }
     ensures made { Finds (O.make_up objects.now (size_of heap.now) (facts_of heap.now))
         (O.agree objects.now (size_of heap.now) (facts_of heap.now)) (O.tells objects.now (size_of heap.now) (facts_of heap.now))
         (λ all. IsChosenTree (size_of heap.now) all choice.entry) result }
-    ensures references { AreKeptReferences (O.make_up objects.now (size_of heap.now) (facts_of heap.now))
+    ensures references { AreCachedReferences (O.make_up objects.now (size_of heap.now) (facts_of heap.now))
         (O.agree objects.now (size_of heap.now) (facts_of heap.now)) (size_of heap.now) references.new }
 {
     let retained = references.take_retained(alloc, heap, objects)?;
@@ -74,7 +74,7 @@ fn write_in_memory<W: Target>(
     retained: &Retained,
     places: &[usize],
     target: &mut W,
-) -> Result<(), WriteStop>
+) -> Result<(), ProductFault>
     requires places { ArePlaces retained.now places.now }
     requires well { W.health target.old ≡ Well }
     ensures bytes { (found : Findings) → AreFindings (size_of heap.now) (facts_of heap.now) found
@@ -97,7 +97,7 @@ fn write_from_tree<O: Objects, W: Target>(
     objects: &O,
     made: &ChosenTree,
     target: &mut W,
-) -> Result<(), PassStop<WriteStop, O::Fault>>
+) -> Result<(), PassFault<ProductFault, O::Fault>>
     requires agree { O.agree objects.now (size_of heap.now) (facts_of heap.now) }
     requires places { ArePlaces made.now.retained made.now.places.items }
     requires well { W.health target.old ≡ Well }
@@ -113,7 +113,7 @@ fn write_from_tree<O: Objects, W: Target>(
     };
     match write_in_memory(alloc, &small, &made.retained, &made.places, target) {
         Ok(()) => Ok(()),
-        Err(stop) => Err(PassStop::Sink(stop)),
+        Err(stop) => Err(PassFault::Sink(stop)),
     }
 }
 
@@ -132,18 +132,18 @@ pub fn write_biggest_over<O: Objects, W: Target>(
     alloc: Global,
     heap: &Heap,
     objects: &O,
-    references: &mut KeptReferences,
+    references: &mut CachedReferences,
     choice: Choice<'_>,
     target: &mut W,
-) -> Result<(), PassStop<WriteStop, O::Fault>>
-    requires references { AreKeptReferences (O.make_up objects.now (size_of heap.now) (facts_of heap.now))
+) -> Result<(), PassFault<ProductFault, O::Fault>>
+    requires references { AreCachedReferences (O.make_up objects.now (size_of heap.now) (facts_of heap.now))
         (O.agree objects.now (size_of heap.now) (facts_of heap.now)) (size_of heap.now) references.old }
     requires ascend { ClassesAscend choice }
     requires well { W.health target.old ≡ Well }
     ensures ends { EndsPassed (O.make_up objects.now (size_of heap.now) (facts_of heap.now))
         (O.agree objects.now (size_of heap.now) (facts_of heap.now)) (O.tells objects.now (size_of heap.now) (facts_of heap.now))
         (λ all. IsBiggestText (size_of heap.now) all (IsChosen all choice.entry)) W.written W.health target.old target.new result }
-    ensures references { AreKeptReferences (O.make_up objects.now (size_of heap.now) (facts_of heap.now))
+    ensures references { AreCachedReferences (O.make_up objects.now (size_of heap.now) (facts_of heap.now))
         (O.agree objects.now (size_of heap.now) (facts_of heap.now)) (size_of heap.now) references.new }
 {
     let made = match chosen_tree(alloc, heap, objects, references, choice) {

@@ -16,10 +16,10 @@ use crate::children::sort_places;
 use crate::choice::{Choice, has_class_dumps};
 use crate::place_sink::PlaceSink;
 use hprof_heap::{
-    Finger, Heap, Table, find_object_near, holds_of_heap, table_facts, to_class_dump,
+    Cursor, Heap, Table, find_object_near, holds_of_heap, table_facts, to_class_dump,
 };
 use hprof_items::Fact;
-use hprof_passes::{InHeap, Objects, PassStop};
+use hprof_passes::{InHeap, Objects, PassFault};
 use hprof_retained::Retained;
 use std::alloc::{AllocError, Global};
 
@@ -51,7 +51,7 @@ pub(crate) fn object_places_over<O: Objects>(
     objects: &O,
     retained: &Retained,
     choice: Choice<'_>,
-) -> Result<Vec<usize>, PassStop<AllocError, O::Fault>>
+) -> Result<Vec<usize>, PassFault<AllocError, O::Fault>>
     requires { ClassesAscend choice }
     ensures { Finds (O.make_up objects.now (size_of heap.now) (facts_of heap.now))
         (O.agree objects.now (size_of heap.now) (facts_of heap.now)) (O.tells objects.now (size_of heap.now) (facts_of heap.now))
@@ -84,7 +84,7 @@ fn object_places(
 
 /// Returns the identifier of a class dump without an object dump, or `None` of another fact. `near` is where the last object was looked
 /// for; it affects only speed.
-fn lone_class(heap: &Heap, fact: &Fact<'_>, near: &mut Finger) -> Option<u64>
+fn lone_class(heap: &Heap, fact: &Fact<'_>, near: &mut Cursor) -> Option<u64>
     ensures { MatchOption result ((node : ℕ) → IsLoneClass (facts_of heap.now) (value_of fact.now) node → ⊥)
         (IsLoneClass (facts_of heap.now) (value_of fact.now)) }
 {
@@ -108,7 +108,7 @@ pub(crate) fn push_classes(
         → OnOk result (ArePlacesOf retained.now
         (λ node. IsGiven (IsChosenObject choice) facts node ⊎ IsClassAlone (facts_of heap.now) node) places.new.items) }
 {
-    let mut near = Finger::start();
+    let mut near = Cursor::start();
     let mut facts = table_facts(heap, Table::Classes);
     let mut fact = Fact::End { thread: 0 };
     while facts.next_into(&mut fact) {

@@ -17,7 +17,7 @@ use crate::children::sort_places;
 use crate::choice::{Choice, has_class_dumps};
 use crate::chosen::{object_places_over, push_classes};
 use hprof_heap::{Heap, Table, table_facts, to_class_dump};
-use hprof_passes::{Objects, PassStop};
+use hprof_passes::{Objects, PassFault};
 use hprof_reach::sort_once;
 use hprof_retained::Retained;
 use hprof_small::small_heap;
@@ -49,7 +49,7 @@ fn with_classes<O: Objects>(
     objects: &O,
     retained: &Retained,
     places: Vec<usize>,
-) -> Result<Vec<usize>, PassStop<AllocError, O::Fault>>
+) -> Result<Vec<usize>, PassFault<AllocError, O::Fault>>
     ensures { (choice : Choice) → ((all : List FactValue) → O.make_up objects.now (size_of heap.now) (facts_of heap.now) all
         → ArePlacesOf retained.now (IsGiven (IsChosenObject choice) all) places.items)
         → Finds (O.make_up objects.now (size_of heap.now) (facts_of heap.now)) (O.agree objects.now (size_of heap.now) (facts_of heap.now))
@@ -57,13 +57,13 @@ fn with_classes<O: Objects>(
         (λ all more. ArePlacesOf retained.now (IsObjectOrClass all choice) more.items) result }
 {
     let Ok(ids) = class_ids(alloc, heap) else {
-        return Err(PassStop::Sink(AllocError));
+        return Err(PassFault::Sink(AllocError));
     };
     let small = small_heap(alloc, heap, objects, &ids)?;
     let mut more = places;
     match push_classes(&small, retained, &mut more) {
         Ok(()) => Ok(more),
-        Err(fault) => Err(PassStop::Sink(fault)),
+        Err(fault) => Err(PassFault::Sink(fault)),
     }
 }
 
@@ -78,7 +78,7 @@ fn gather_over<O: Objects>(
     objects: &O,
     retained: &Retained,
     choice: Choice<'_>,
-) -> Result<Vec<usize>, PassStop<AllocError, O::Fault>>
+) -> Result<Vec<usize>, PassFault<AllocError, O::Fault>>
     requires { ClassesAscend choice }
     ensures { Finds (O.make_up objects.now (size_of heap.now) (facts_of heap.now))
         (O.agree objects.now (size_of heap.now) (facts_of heap.now)) (O.tells objects.now (size_of heap.now) (facts_of heap.now))
@@ -116,7 +116,7 @@ pub(crate) fn chosen_over<O: Objects>(
     objects: &O,
     retained: &Retained,
     choice: Choice<'_>,
-) -> Result<Vec<usize>, PassStop<AllocError, O::Fault>>
+) -> Result<Vec<usize>, PassFault<AllocError, O::Fault>>
     requires tree { (all : List FactValue) → O.make_up objects.now (size_of heap.now) (facts_of heap.now) all
         → IsTreeOf (size_of heap.now) all retained.now }
     requires ascend { ClassesAscend choice }
@@ -131,6 +131,6 @@ pub(crate) fn chosen_over<O: Objects>(
     if are_places(retained, &places) {
         Ok(places)
     } else {
-        Err(PassStop::Sink(AllocError))
+        Err(PassFault::Sink(AllocError))
     }
 }

@@ -23,7 +23,7 @@ use crate::nodes::write_nodes;
 use crate::weakly::WeakSum;
 use hprof_devices::Target;
 use hprof_edges::LeftOut;
-use hprof_engine::WriteStop;
+use hprof_engine::ProductFault;
 use hprof_heap::{Heap, holds_of_heap};
 use hprof_lines::{nothing_line, write_line, write_str};
 use hprof_naming::ClassNames;
@@ -39,7 +39,7 @@ fn write_held<W: Target>(
     above: &[usize],
     below: &[usize],
     target: &mut W,
-) -> Result<(), WriteStop>
+) -> Result<(), ProductFault>
     requires classes { AreClassNames (facts_of heap.now) classes.now }
     requires above { ArePlaces retained.now above.now }
     requires below { ArePlaces retained.now below.now }
@@ -64,7 +64,7 @@ fn write_roots<W: Target>(
     weakly: &WeakSum,
     below: &[usize],
     target: &mut W,
-) -> Result<(), WriteStop>
+) -> Result<(), ProductFault>
     requires classes { AreClassNames (facts_of heap.now) classes.now }
     requires below { ArePlaces retained.now below.now }
     requires well { W.health target.old ≡ Well }
@@ -88,7 +88,7 @@ pub(crate) fn write_kept<W: Target>(
     id: u64,
     kept: &Kept,
     target: &mut W,
-) -> Result<(), WriteStop>
+) -> Result<(), ProductFault>
     requires classes { AreClassNames (facts_of heap.now) classes.now }
     requires places { HasPlaces retained.now kept.now }
     requires well { W.health target.old ≡ Well }
@@ -127,7 +127,7 @@ pub fn write_keeps<W: Target>(
     weakly: &mut Option<WeaklyHeld>,
     id: u64,
     target: &mut W,
-) -> Result<(), WriteStop>
+) -> Result<(), ProductFault>
     requires classes { AreClassNames (facts_of heap.now) classes.now }
     requires weak { (edge : Edge) → IsEdge (size_of heap.now) (facts_of heap.now) edge
         → IsLeftOut (fields_in weak.now) (facts_of heap.now) edge ↔ IsWeak (facts_of heap.now) edge }

@@ -6,7 +6,7 @@ ghost use Rattle.hprof_devices.specs.declared.health.Health.TheVariants.{Well};
 ghost use Rattle.hprof_heap.specs.HeapFacts.{facts_of, size_of};
 ghost use Rattle.hprof_lines.specs.Passed.{EndsPassed};
 ghost use Rattle.hprof_lines.specs.Stopping.{LeavesTarget, WritesText};
-ghost use Rattle.hprof_retained.specs.KeptReferences.{AreKeptReferences};
+ghost use Rattle.hprof_retained.specs.CachedReferences.{AreCachedReferences};
 ghost use Rattle.hprof_describe.specs.Findings.{AreFindings, Findings};
 ghost use Rattle.hprof_keeps.specs.Kept.{HasPlaces, IsKeptTree, above_places, below_places, kept_text};
 ghost use Rattle.hprof_keeps.specs.KeepsText.{IsKeepsText};
@@ -16,12 +16,12 @@ use crate::kept::{Kept, KeptTree};
 use crate::kept_over::kept_tree;
 use crate::named::named_heap;
 use hprof_devices::Target;
-use hprof_engine::WriteStop;
+use hprof_engine::ProductFault;
 use hprof_heap::Heap;
 use hprof_lines::stop_of_pass;
 use hprof_naming::ClassNames;
-use hprof_passes::{Objects, PassStop};
-use hprof_retained::{KeptReferences, Retained};
+use hprof_passes::{Objects, PassFault};
+use hprof_retained::{CachedReferences, Retained};
 use std::alloc::Global;
 
 /// Returns the places of the dominators that the report names.
@@ -52,7 +52,7 @@ fn write_in_memory<W: Target>(
     id: u64,
     kept: &Kept,
     target: &mut W,
-) -> Result<(), WriteStop>
+) -> Result<(), ProductFault>
     requires places { HasPlaces retained.now kept.now }
     requires well { W.health target.old ≡ Well }
     ensures bytes { (found : Findings) → AreFindings (size_of heap.now) (facts_of heap.now) found
@@ -75,7 +75,7 @@ fn write_from_tree<O: Objects, W: Target>(
     made: &KeptTree,
     id: u64,
     target: &mut W,
-) -> Result<(), PassStop<WriteStop, O::Fault>>
+) -> Result<(), PassFault<ProductFault, O::Fault>>
     requires agree { O.agree objects.now (size_of heap.now) (facts_of heap.now) }
     requires made { (all : List FactValue) → O.make_up objects.now (size_of heap.now) (facts_of heap.now) all
         → IsKeptTree (size_of heap.now) all id made.now }
@@ -98,7 +98,7 @@ fn write_from_tree<O: Objects, W: Target>(
     };
     match write_in_memory(alloc, &small, &made.retained, id, &made.kept, target) {
         Ok(()) => Ok(()),
-        Err(stop) => Err(PassStop::Sink(stop)),
+        Err(stop) => Err(PassFault::Sink(stop)),
     }
 }
 
@@ -117,17 +117,17 @@ pub fn write_keeps_over<O: Objects, W: Target>(
     alloc: Global,
     heap: &Heap,
     objects: &O,
-    references: &mut KeptReferences,
+    references: &mut CachedReferences,
     id: u64,
     target: &mut W,
-) -> Result<(), PassStop<WriteStop, O::Fault>>
-    requires references { AreKeptReferences (O.make_up objects.now (size_of heap.now) (facts_of heap.now))
+) -> Result<(), PassFault<ProductFault, O::Fault>>
+    requires references { AreCachedReferences (O.make_up objects.now (size_of heap.now) (facts_of heap.now))
         (O.agree objects.now (size_of heap.now) (facts_of heap.now)) (size_of heap.now) references.old }
     requires well { W.health target.old ≡ Well }
     ensures ends { EndsPassed (O.make_up objects.now (size_of heap.now) (facts_of heap.now))
         (O.agree objects.now (size_of heap.now) (facts_of heap.now)) (O.tells objects.now (size_of heap.now) (facts_of heap.now))
         (λ all. IsKeepsText (size_of heap.now) all id) W.written W.health target.old target.new result }
-    ensures references { AreKeptReferences (O.make_up objects.now (size_of heap.now) (facts_of heap.now))
+    ensures references { AreCachedReferences (O.make_up objects.now (size_of heap.now) (facts_of heap.now))
         (O.agree objects.now (size_of heap.now) (facts_of heap.now)) (size_of heap.now) references.new }
 {
     let made = match kept_tree(alloc, heap, objects, references, id) {

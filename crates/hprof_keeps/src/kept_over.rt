@@ -7,7 +7,7 @@ ghost use Rattle.hprof_heap.specs.HeapFacts.{facts_of, size_of};
 ghost use Rattle.hprof_dominators.specs.Dominating.{IsReached};
 ghost use Rattle.hprof_passes.specs.Finding.{Finds};
 ghost use Rattle.hprof_reach.specs.Reaching.{IsDumped, IsStart, IsStepBy};
-ghost use Rattle.hprof_retained.specs.KeptReferences.{AreKeptReferences};
+ghost use Rattle.hprof_retained.specs.CachedReferences.{AreCachedReferences};
 ghost use Rattle.hprof_retained.specs.Retained.{IsHeld};
 ghost use Rattle.hprof_retained.specs.Tree.{IsTreeOf};
 ghost use Rattle.hprof_retained.specs.declared.retained.Retained.{Retained};
@@ -16,8 +16,8 @@ ghost use Rattle.hprof_keeps.specs.Kept.{HasPlaces, IsKept, IsKeptTree};
 use crate::kept::{Kept, KeptTree, held_kept, is_dumped, roots_kept};
 use crate::weakly::sum_in;
 use hprof_heap::Heap;
-use hprof_passes::{Objects, PassStop};
-use hprof_retained::{KeptReferences, Retained, weakly_held_over};
+use hprof_passes::{Objects, PassFault};
+use hprof_retained::{CachedReferences, Retained, weakly_held_over};
 use hprof_small::small_heap;
 use hprof_weak::weak_fields_over;
 use std::alloc::{AllocError, Global};
@@ -32,7 +32,7 @@ fn is_dumped_over<O: Objects>(
     heap: &Heap,
     objects: &O,
     id: u64,
-) -> Result<bool, PassStop<AllocError, O::Fault>>
+) -> Result<bool, PassFault<AllocError, O::Fault>>
     ensures { Finds (O.make_up objects.now (size_of heap.now) (facts_of heap.now))
         (O.agree objects.now (size_of heap.now) (facts_of heap.now)) (O.tells objects.now (size_of heap.now) (facts_of heap.now))
         (λ all told. IsTrue told ↔ IsDumped all id) result }
@@ -52,15 +52,15 @@ fn is_reached_over<O: Objects>(
     alloc: Global,
     heap: &Heap,
     objects: &O,
-    references: &mut KeptReferences,
+    references: &mut CachedReferences,
     id: u64,
-) -> Result<bool, PassStop<AllocError, O::Fault>>
-    requires references { AreKeptReferences (O.make_up objects.now (size_of heap.now) (facts_of heap.now))
+) -> Result<bool, PassFault<AllocError, O::Fault>>
+    requires references { AreCachedReferences (O.make_up objects.now (size_of heap.now) (facts_of heap.now))
         (O.agree objects.now (size_of heap.now) (facts_of heap.now)) (size_of heap.now) references.old }
     ensures told { Finds (O.make_up objects.now (size_of heap.now) (facts_of heap.now))
         (O.agree objects.now (size_of heap.now) (facts_of heap.now)) (O.tells objects.now (size_of heap.now) (facts_of heap.now))
         (λ all told. IsTrue told ↔ IsReached (IsStart all) (IsStepBy AnyEdge (size_of heap.now) all) id) result }
-    ensures references { AreKeptReferences (O.make_up objects.now (size_of heap.now) (facts_of heap.now))
+    ensures references { AreCachedReferences (O.make_up objects.now (size_of heap.now) (facts_of heap.now))
         (O.agree objects.now (size_of heap.now) (facts_of heap.now)) (size_of heap.now) references.new }
 {
     let reach = references.take_all(alloc, heap, objects)?;
@@ -78,10 +78,10 @@ fn otherwise_over<O: Objects>(
     alloc: Global,
     heap: &Heap,
     objects: &O,
-    references: &mut KeptReferences,
+    references: &mut CachedReferences,
     id: u64,
-) -> Result<Kept, PassStop<AllocError, O::Fault>>
-    requires references { AreKeptReferences (O.make_up objects.now (size_of heap.now) (facts_of heap.now))
+) -> Result<Kept, PassFault<AllocError, O::Fault>>
+    requires references { AreCachedReferences (O.make_up objects.now (size_of heap.now) (facts_of heap.now))
         (O.agree objects.now (size_of heap.now) (facts_of heap.now)) (size_of heap.now) references.old }
     requires some { id ≢ 0 }
     requires not_held { (all : List FactValue) → O.make_up objects.now (size_of heap.now) (facts_of heap.now) all
@@ -90,7 +90,7 @@ fn otherwise_over<O: Objects>(
         (O.agree objects.now (size_of heap.now) (facts_of heap.now)) (O.tells objects.now (size_of heap.now) (facts_of heap.now))
         (λ all kept. (retained : Retained) → IsKept (size_of heap.now) all retained id kept) result }
     ensures places { IfOk result (λ kept. (retained : Retained) → HasPlaces retained kept) }
-    ensures references { AreKeptReferences (O.make_up objects.now (size_of heap.now) (facts_of heap.now))
+    ensures references { AreCachedReferences (O.make_up objects.now (size_of heap.now) (facts_of heap.now))
         (O.agree objects.now (size_of heap.now) (facts_of heap.now)) (size_of heap.now) references.new }
 {
     match is_dumped_over(alloc, heap, objects, id) {
@@ -115,7 +115,7 @@ fn roots_over<O: Objects>(
     heap: &Heap,
     objects: &O,
     retained: &Retained,
-) -> Result<Kept, PassStop<AllocError, O::Fault>>
+) -> Result<Kept, PassFault<AllocError, O::Fault>>
     requires tree { (all : List FactValue) → O.make_up objects.now (size_of heap.now) (facts_of heap.now) all
         → IsTreeOf (size_of heap.now) all retained.now }
     ensures kept { Finds (O.make_up objects.now (size_of heap.now) (facts_of heap.now))
@@ -127,7 +127,7 @@ fn roots_over<O: Objects>(
     let weakly = weakly_held_over(alloc, heap, objects, &weak, retained)?;
     match roots_kept(alloc, retained, sum_in(&weakly)) {
         Ok(kept) => Ok(kept),
-        Err(fault) => Err(PassStop::Sink(fault)),
+        Err(fault) => Err(PassFault::Sink(fault)),
     }
 }
 
@@ -140,11 +140,11 @@ fn kept_in<O: Objects>(
     alloc: Global,
     heap: &Heap,
     objects: &O,
-    references: &mut KeptReferences,
+    references: &mut CachedReferences,
     retained: &Retained,
     id: u64,
-) -> Result<Kept, PassStop<AllocError, O::Fault>>
-    requires references { AreKeptReferences (O.make_up objects.now (size_of heap.now) (facts_of heap.now))
+) -> Result<Kept, PassFault<AllocError, O::Fault>>
+    requires references { AreCachedReferences (O.make_up objects.now (size_of heap.now) (facts_of heap.now))
         (O.agree objects.now (size_of heap.now) (facts_of heap.now)) (size_of heap.now) references.old }
     requires agree { O.agree objects.now (size_of heap.now) (facts_of heap.now) }
     requires tree { (all : List FactValue) → O.make_up objects.now (size_of heap.now) (facts_of heap.now) all
@@ -153,7 +153,7 @@ fn kept_in<O: Objects>(
         (O.agree objects.now (size_of heap.now) (facts_of heap.now)) (O.tells objects.now (size_of heap.now) (facts_of heap.now))
         (λ all. IsKept (size_of heap.now) all retained.now id) result }
     ensures places { IfOk result (HasPlaces retained.now) }
-    ensures references { AreKeptReferences (O.make_up objects.now (size_of heap.now) (facts_of heap.now))
+    ensures references { AreCachedReferences (O.make_up objects.now (size_of heap.now) (facts_of heap.now))
         (O.agree objects.now (size_of heap.now) (facts_of heap.now)) (size_of heap.now) references.new }
 {
     if id == 0 {
@@ -165,7 +165,7 @@ fn kept_in<O: Objects>(
     }
     match held_kept(alloc, retained, place) {
         Ok(kept) => Ok(kept),
-        Err(fault) => Err(PassStop::Sink(fault)),
+        Err(fault) => Err(PassFault::Sink(fault)),
     }
 }
 
@@ -179,16 +179,16 @@ pub(crate) fn kept_tree<O: Objects>(
     alloc: Global,
     heap: &Heap,
     objects: &O,
-    references: &mut KeptReferences,
+    references: &mut CachedReferences,
     id: u64,
-) -> Result<KeptTree, PassStop<AllocError, O::Fault>>
-    requires references { AreKeptReferences (O.make_up objects.now (size_of heap.now) (facts_of heap.now))
+) -> Result<KeptTree, PassFault<AllocError, O::Fault>>
+    requires references { AreCachedReferences (O.make_up objects.now (size_of heap.now) (facts_of heap.now))
         (O.agree objects.now (size_of heap.now) (facts_of heap.now)) (size_of heap.now) references.old }
     ensures made { Finds (O.make_up objects.now (size_of heap.now) (facts_of heap.now))
         (O.agree objects.now (size_of heap.now) (facts_of heap.now)) (O.tells objects.now (size_of heap.now) (facts_of heap.now))
         (λ all. IsKeptTree (size_of heap.now) all id) result }
     ensures places { IfOk result (λ made. HasPlaces made.retained made.kept) }
-    ensures references { AreKeptReferences (O.make_up objects.now (size_of heap.now) (facts_of heap.now))
+    ensures references { AreCachedReferences (O.make_up objects.now (size_of heap.now) (facts_of heap.now))
         (O.agree objects.now (size_of heap.now) (facts_of heap.now)) (size_of heap.now) references.new }
 {
     let retained = references.take_retained(alloc, heap, objects)?;

@@ -7,7 +7,7 @@ ghost use Rattle.hprof_passes.specs.Finding.{Finds};
 ghost use Rattle.hprof_keeps.specs.Kept.{ArePlaces, IsNamedHeap, nodes_at};
 
 use hprof_heap::Heap;
-use hprof_passes::{Objects, PassStop};
+use hprof_passes::{Objects, PassFault};
 use hprof_reach::sort_once;
 use hprof_retained::Retained;
 use hprof_words::words_heap;
@@ -56,7 +56,7 @@ pub(crate) fn named_heap<O: Objects>(
     retained: &Retained,
     some: &[usize],
     more: &[usize],
-) -> Result<Heap, PassStop<AllocError, O::Fault>>
+) -> Result<Heap, PassFault<AllocError, O::Fault>>
     requires some { ArePlaces retained.now some.now }
     requires more { ArePlaces retained.now more.now }
     ensures { Finds (O.make_up objects.now (size_of heap.now) (facts_of heap.now))
@@ -65,6 +65,6 @@ pub(crate) fn named_heap<O: Objects>(
 {
     match nodes_of(alloc, retained, some, more) {
         Ok(nodes) => words_heap(alloc, heap, objects, nodes),
-        Err(fault) => Err(PassStop::Sink(fault)),
+        Err(fault) => Err(PassFault::Sink(fault)),
     }
 }

@@ -13,7 +13,7 @@ ghost use Rattle.hprof_keeps.specs.Order.{retained_in};
 
 use crate::lines::place_line;
 use hprof_devices::Target;
-use hprof_engine::WriteStop;
+use hprof_engine::ProductFault;
 use hprof_heap::Heap;
 use hprof_lines::write_line;
 use hprof_naming::ClassNames;
@@ -29,7 +29,7 @@ pub(crate) fn write_nodes<W: Target>(
     front: &str,
     places: &[usize],
     target: &mut W,
-) -> Result<(), WriteStop>
+) -> Result<(), ProductFault>
     requires classes { AreClassNames (facts_of heap.now) classes.now }
     requires places { ArePlaces retained.now places.now }
     requires well { W.health target.old ≡ Well }

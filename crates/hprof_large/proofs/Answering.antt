@@ -11,26 +11,26 @@ use Rattle.hprof_stream.specs.declared.summary.PartSummary.{PartSummary}
 use Rattle.hprof_rows.specs.HeapValue.{HeapValue}
 use Rattle.hprof_heap.specs.declared.heap.Heap.{Heap}
 use Rattle.hprof_heap.specs.HeapFacts.{facts_of, size_of}
-use Rattle.hprof_passes.specs.declared.pass_stop.PassStop.{PassStop}
-use Rattle.hprof_passes.specs.declared.pass_stop.PassStop.TheVariants.{Sink, Lost}
+use Rattle.hprof_passes.specs.declared.pass_fault.PassFault.{PassFault}
+use Rattle.hprof_passes.specs.declared.pass_fault.PassFault.TheVariants.{Sink, Lost}
 use Rattle.hprof_passes.specs.Passing.{IsWhole}
 use Rattle.hprof_runs.specs.declared.run_fault.RunFault.TheVariants as runs
 use Rattle.hprof_objects.specs.declared.stretch_fault.StretchFault.TheVariants as stretches
 use Rattle.hprof_engine.specs.declared.loss.Loss.{Loss}
-use Rattle.hprof_engine.specs.declared.product.WriteStop.{WriteStop}
-use Rattle.hprof_engine.specs.declared.product.WriteStop.TheVariants as writes
-use Rattle.hprof_engine.specs.declared.product_refusal.ProductRefusal.{ProductRefusal}
-use Rattle.hprof_engine.specs.declared.product_refusal.ProductRefusal.TheVariants as refusals
-use Rattle.hprof_stored.specs.declared.pass_fault.PassFault.{PassFault}
-use Rattle.hprof_stored.specs.declared.pass_fault.PassFault.TheVariants as passes
+use Rattle.hprof_engine.specs.declared.product.ProductFault.{ProductFault}
+use Rattle.hprof_engine.specs.declared.product.ProductFault.TheVariants as writes
+use Rattle.hprof_engine.specs.declared.heap_fault.HeapFault.{HeapFault}
+use Rattle.hprof_engine.specs.declared.heap_fault.HeapFault.TheVariants as refusals
+use Rattle.hprof_stored.specs.declared.in_parts_fault.InPartsFault.{InPartsFault}
+use Rattle.hprof_stored.specs.declared.in_parts_fault.InPartsFault.TheVariants as passes
 use Rattle.hprof_lines.specs.Stopping.{LeavesTarget, WritesText}
 use Rattle.hprof_making.specs.Over.{EndsOver}
 use Rattle.hprof_questions.specs.declared.question.Question.{Question}
 use Rattle.hprof_questions.specs.declared.question.Question.TheVariants as questions
 use Rattle.hprof_questions.specs.declared.report.HeapReport.{HeapReport}
 use Rattle.hprof_questions.specs.declared.report.Report.{Report}
-use Rattle.hprof_questions.specs.declared.stop.DialogueStop.{DialogueStop}
-use Rattle.hprof_questions.specs.declared.stop.DialogueStop.TheVariants as stops
+use Rattle.hprof_questions.specs.declared.dialogue_fault.DialogueFault.{DialogueFault}
+use Rattle.hprof_questions.specs.declared.dialogue_fault.DialogueFault.TheVariants as stops
 use Rattle.hprof_questions.specs.Answering.{LeavesWriter, TellsLoss, WritesAnswer}
 use Rattle.hprof_ask.specs.HeapAnswers.{IsReply, IsReportReply, reply_without_report}
 use Rattle.hprof_ask.specs.Report.{IsHeapReport, IsReport, LacksClass, RefusesReport}
@@ -42,20 +42,20 @@ use Rattle.hprof_large.specs.Whole.{IsWholeHeap}
 -- ---- lines
 
 -- what was written of a text
-pub answered : (old new : Option (List ℕ)) (health : Health) (r : Result (Unit {0}) WriteStop) (text : List ℕ) → LeavesTarget r health
+pub answered : (old new : Option (List ℕ)) (health : Health) (r : Result (Unit {0}) ProductFault) (text : List ℕ) → LeavesTarget r health
     → WritesText old new r text → WritesAnswer old new (answer_of r) text
 answered old new health (Ok done) text leaves wrote = wrote
 answered old new health (Err (writes.Write fault)) text leaves wrote = wrote
 answered old new health (Err writes.OutOfMemory) text leaves wrote = wrote
 answered old new health (Err (writes.Refused refusal)) text leaves wrote = absurd leaves
 
-pub leaves_writer : (r : Result (Unit {0}) WriteStop) (health : Health) → LeavesTarget r health → LeavesWriter (answer_of r) health
+pub leaves_writer : (r : Result (Unit {0}) ProductFault) (health : Health) → LeavesTarget r health → LeavesWriter (answer_of r) health
 leaves_writer (Ok done) health leaves = leaves
 leaves_writer (Err (writes.Write fault)) health leaves = leaves
 leaves_writer (Err writes.OutOfMemory) health leaves = leaves
 leaves_writer (Err (writes.Refused refusal)) health leaves = absurd leaves
 
-pub loses_nothing : (Loses : Loss → Type 0) (r : Result (Unit {0}) WriteStop) → TellsLoss Loses (answer_of r)
+pub loses_nothing : (Loses : Loss → Type 0) (r : Result (Unit {0}) ProductFault) → TellsLoss Loses (answer_of r)
 loses_nothing Loses (Ok done) = tt
 loses_nothing Loses (Err (writes.Write fault)) = tt
 loses_nothing Loses (Err writes.OutOfMemory) = tt
@@ -72,7 +72,7 @@ line_reply summaries ids facts (questions.Misnamed fault) other = refl
 line_reply summaries ids facts questions.NotUnderstood other = refl
 
 -- a front of a reply is one of the answer
-pub answer_stops : (old new : Option (List ℕ)) (stop : DialogueStop) (reply behind : List ℕ)
+pub answer_stops : (old new : Option (List ℕ)) (stop : DialogueFault) (reply behind : List ℕ)
     → WritesAnswer {A = Unit {0}} old new (Err stop) reply → WritesAnswer {A = Unit {0}} old new (Err stop) (reply ++ behind)
 answer_stops old new (stops.Questions fault) reply behind front = WritesFront-more old new reply behind front
 answer_stops old new (stops.Write fault) reply behind front = WritesFront-more old new reply behind front
@@ -80,7 +80,7 @@ answer_stops old new (stops.Lost loss) reply behind same = same
 answer_stops old new stops.OutOfMemory reply behind front = WritesFront-more old new reply behind front
 
 -- nothing was written
-unwritten : (old new : Option (List ℕ)) (stop : DialogueStop) (text : List ℕ) → new ≡ old
+unwritten : (old new : Option (List ℕ)) (stop : DialogueFault) (text : List ℕ) → new ≡ old
     → WritesAnswer {A = Unit {0}} old new (Err stop) text
 unwritten old new (stops.Questions fault) text same = (
   0,
@@ -104,7 +104,7 @@ unwritten old new stops.OutOfMemory text same = (
 
 -- ---- objects that cannot be gone through
 
-leaves_well : (fault : PassFault) (health : Health) → health ≡ healths.Well
+leaves_well : (fault : InPartsFault) (health : Health) → health ≡ healths.Well
     → LeavesWriter {A = Unit {0}} (Err (stop_of_pass_fault fault)) health
 leaves_well passes.OutOfMemory health well = well
 leaves_well (passes.TwoContents id) health well = well
@@ -118,13 +118,13 @@ leaves_well passes.NoObject health well = well
 leaves_well passes.TooMany health well = well
 
 -- the writer is as it was
-leaves_lost : (fault : PassFault) (stop : DialogueStop) → stop ≡ stop_of_pass_fault fault → (health : Health) → health ≡ healths.Well
+leaves_lost : (fault : InPartsFault) (stop : DialogueFault) → stop ≡ stop_of_pass_fault fault → (health : Health) → health ≡ healths.Well
     → LeavesWriter {A = Unit {0}} (Err stop) health
 leaves_lost fault stop is health well =
-    subst (λ (s : DialogueStop). LeavesWriter {A = Unit {0}} (Err s) health) (sym is) (leaves_well fault health well)
+    subst (λ (s : DialogueFault). LeavesWriter {A = Unit {0}} (Err s) health) (sym is) (leaves_well fault health well)
 
 -- the reason is told
-tells_lost : (Tells : PassFault → Type 0) (fault : PassFault) (stop : DialogueStop) → stop ≡ stop_of_pass_fault fault → Tells fault
+tells_lost : (Tells : InPartsFault → Type 0) (fault : InPartsFault) (stop : DialogueFault) → stop ≡ stop_of_pass_fault fault → Tells fault
     → TellsLoss {A = Unit {0}} (IsLostBy Tells) (Err stop)
 tells_lost Tells fault (stops.Questions other) is tells = tt
 tells_lost Tells fault (stops.Write other) is tells = tt
@@ -137,7 +137,7 @@ module _ (heap : Heap) (MakeUp : IdSize → List FactValue → List FactValue �
     (are_whole : (ids : IdSize) (facts all : List FactValue) → MakeUp ids facts all → IsWhole ids facts all)
     (summaries : List PartSummary) where
   -- nothing was written of the reply to a question
-  pub no_reply : (question : Question) (old new : Option (List ℕ)) (stop : DialogueStop) → new ≡ old → (whole : HeapValue)
+  pub no_reply : (question : Question) (old new : Option (List ℕ)) (stop : DialogueFault) → new ≡ old → (whole : HeapValue)
       → IsWholeHeap heap MakeUp whole → (text : List ℕ) × IsReply summaries whole.ids whole.facts question text
       × WritesAnswer {A = Unit {0}} old new (Err stop) text
   no_reply question old new stop same whole is =
@@ -145,7 +145,7 @@ module _ (heap : Heap) (MakeUp : IdSize → List FactValue → List FactValue �
       (some.1.reply, some.1.is_reply, unwritten old new stop some.1.reply same)
 
   -- nothing was written of a report on the whole heap
-  pub no_heap_report : (report : HeapReport) (old new : Option (List ℕ)) (stop : DialogueStop) → new ≡ old → (whole : HeapValue)
+  pub no_heap_report : (report : HeapReport) (old new : Option (List ℕ)) (stop : DialogueFault) → new ≡ old → (whole : HeapValue)
       → IsWholeHeap heap MakeUp whole → (text : List ℕ) × IsHeapReport summaries whole.ids whole.facts report text
       × WritesAnswer {A = Unit {0}} old new (Err stop) text
   no_heap_report report old new stop same whole is =
@@ -153,12 +153,12 @@ module _ (heap : Heap) (MakeUp : IdSize → List FactValue → List FactValue �
       (some.0, some.1, unwritten old new stop some.0 same)
 
   module _ {W : Type 0} (written : W → Option (List ℕ)) (well : W → Health) (before after : W) (agreed : Type 0)
-      (Tells : PassFault → Type 0) (report : Report) (was_well : well before ≡ healths.Well) where
-    abbrev pub EndsReport : Result (Unit {0}) (PassStop WriteStop PassFault) → Type 0
+      (Tells : InPartsFault → Type 0) (report : Report) (was_well : well before ≡ healths.Well) where
+    abbrev pub EndsReport : Result (Unit {0}) (PassFault ProductFault InPartsFault) → Type 0
     EndsReport r = EndsOver (MakeUp (size_of heap) (facts_of heap)) agreed Tells (λ all. IsReport summaries (size_of heap) all report)
         (λ refusal all. RefusesReport all report refusal) written well before after r
 
-    abbrev pub Replies : Result (Unit {0}) DialogueStop → Type 0
+    abbrev pub Replies : Result (Unit {0}) DialogueFault → Type 0
     Replies r = (whole : HeapValue) → IsWholeHeap heap MakeUp whole
         → (text : List ℕ) × IsReportReply summaries whole.ids whole.facts report text
         × WritesAnswer (written before) (written after) r text
@@ -174,7 +174,7 @@ module _ (heap : Heap) (MakeUp : IdSize → List FactValue → List FactValue �
         let it = ends.1 whole.facts is.made_up in (it.0, of_whole whole is it.0 it.1, it.2)
 
     -- it stopped
-    some_of : (stop : WriteStop) → ((refusal : ProductRefusal) → stop ≡ writes.Refused refusal → ⊥) → EndsReport (Err (Sink stop))
+    some_of : (stop : ProductFault) → ((refusal : HeapFault) → stop ≡ writes.Refused refusal → ⊥) → EndsReport (Err (Sink stop))
         → Replies (Err (stop_of_writing stop)) × LeavesWriter {A = Unit {0}} (Err (stop_of_writing stop)) (well after)
     some_of (writes.Write fault) unrefused ends = (
       λ whole is. let it = ends.1 whole.facts is.made_up in (it.0, of_whole whole is it.0 it.3, (it.1, it.2, it.4)),
@@ -190,31 +190,31 @@ module _ (heap : Heap) (MakeUp : IdSize → List FactValue → List FactValue �
     )
     some_of (writes.Refused refusal) unrefused ends = absurd (unrefused refusal refl)
 
-    pub stopped : (stop : PassStop WriteStop PassFault) (why : WriteStop) → stop ≡ Sink why
-        → ((refusal : ProductRefusal) → why ≡ writes.Refused refusal → ⊥) → EndsReport (Err stop)
+    pub stopped : (stop : PassFault ProductFault InPartsFault) (why : ProductFault) → stop ≡ Sink why
+        → ((refusal : HeapFault) → why ≡ writes.Refused refusal → ⊥) → EndsReport (Err stop)
         → Replies (Err (stop_of_writing why)) × LeavesWriter {A = Unit {0}} (Err (stop_of_writing why)) (well after)
     stopped stop why is unrefused ends =
-        some_of why unrefused (subst (λ (s : PassStop WriteStop PassFault). EndsReport (Err s)) is ends)
+        some_of why unrefused (subst (λ (s : PassFault ProductFault InPartsFault). EndsReport (Err s)) is ends)
 
     -- the objects cannot be gone through: nothing was written
-    pub lost : (stop : PassStop WriteStop PassFault) (fault : PassFault) (told : DialogueStop) → stop ≡ Lost fault
+    pub lost : (stop : PassFault ProductFault InPartsFault) (fault : InPartsFault) (told : DialogueFault) → stop ≡ Lost fault
         → told ≡ stop_of_pass_fault fault → EndsReport (Err stop)
         → Replies (Err told) × LeavesWriter {A = Unit {0}} (Err told) (well after) × TellsLoss {A = Unit {0}} (IsLostBy Tells) (Err told)
     lost stop fault told is told_is ends =
-        let it : EndsReport (Err (Lost fault)) = subst (λ (s : PassStop WriteStop PassFault). EndsReport (Err s)) is ends in (
+        let it : EndsReport (Err (Lost fault)) = subst (λ (s : PassFault ProductFault InPartsFault). EndsReport (Err s)) is ends in (
           no_reply (questions.Report report) (written before) (written after) told (ap written it.1),
           leaves_lost fault told told_is (well after) (subst (λ (w : W). well w ≡ healths.Well) (sym it.1) was_well),
           tells_lost Tells fault told told_is it.0,
         )
 
     -- no class has the name
-    pub lacks_class : (stop : PassStop WriteStop PassFault) (refusal : ProductRefusal) → stop ≡ Sink (writes.Refused refusal)
+    pub lacks_class : (stop : PassFault ProductFault InPartsFault) (refusal : HeapFault) → stop ≡ Sink (writes.Refused refusal)
         → EndsReport (Err stop) → (after ≡ before) × ((whole : HeapValue) → IsWholeHeap heap MakeUp whole → LacksClass whole.facts report)
     lacks_class stop refusal is ends =
         let it : EndsReport (Err (Sink (writes.Refused refusal))) =
-        subst (λ (s : PassStop WriteStop PassFault). EndsReport (Err s)) is ends in
+        subst (λ (s : PassFault ProductFault InPartsFault). EndsReport (Err s)) is ends in
         (it.2, λ whole is_whole. lacks whole.facts refusal (it.1 whole.facts is_whole.made_up))
       where
-        lacks : (facts : List FactValue) (why : ProductRefusal) → RefusesReport facts report why → LacksClass facts report
+        lacks : (facts : List FactValue) (why : HeapFault) → RefusesReport facts report why → LacksClass facts report
         lacks facts refusals.DumpTooLong refuses = absurd refuses
         lacks facts refusals.NoClass refuses = refuses

@@ -27,8 +27,8 @@ use Rattle.hprof_engine.specs.Summaries.{AreSummaries}
 use Rattle.hprof_engine.proofs.OneSummary.{one_summary_each}
 use Rattle.hprof_engine.proofs.Outcomes.{one_outcome}
 use Rattle.hprof_stored.specs.declared.in_parts.InParts.{InParts}
-use Rattle.hprof_stored.specs.declared.pass_fault.PassFault.{PassFault}
-use Rattle.hprof_stored.specs.declared.pass_fault.PassFault.TheVariants as passes
+use Rattle.hprof_stored.specs.declared.in_parts_fault.InPartsFault.{InPartsFault}
+use Rattle.hprof_stored.specs.declared.in_parts_fault.InPartsFault.TheVariants as passes
 use Rattle.hprof_stored.specs.declared.stored_heap.StoredHeap.{StoredHeap}
 use Rattle.hprof_stored.specs.InParts.{AreStoredOf, limits_under, objects_under, parts_under}
 use Rattle.hprof_stored.specs.Reading.{HoldsHeap}
@@ -37,8 +37,8 @@ use Rattle.hprof_making.specs.Over.{heap_with}
 use Rattle.hprof_making.proofs.Made.{AreOfParts}
 use Rattle.hprof_diff.specs.Comparing.{Counts}
 use Rattle.hprof_questions.specs.declared.question.Question.{Question}
-use Rattle.hprof_questions.specs.declared.stop.DialogueStop.{DialogueStop}
-use Rattle.hprof_questions.specs.declared.stop.DialogueStop.TheVariants as stops
+use Rattle.hprof_questions.specs.declared.dialogue_fault.DialogueFault.{DialogueFault}
+use Rattle.hprof_questions.specs.declared.dialogue_fault.DialogueFault.TheVariants as stops
 use Rattle.hprof_questions.specs.Answering.{TellsLoss}
 use Rattle.hprof_questions.specs.Dialogue.{AnswersDialogue, AnswersLines, AreOpenLines, EndsDialogue}
 use Rattle.hprof_ask.specs.declared.ask_fault.AskFault.{AskFault}
@@ -71,7 +71,7 @@ module _ {R S P : Type 0} (left : R → Option (List ℕ)) (written : S → Opti
 
 -- ---- what the parts say that are told
 
-module _ (heap : Heap) (MakeUp : IdSize → List FactValue → List FactValue → Type 0) (agreed : Type 0) (Tells : PassFault → Type 0)
+module _ (heap : Heap) (MakeUp : IdSize → List FactValue → List FactValue → Type 0) (agreed : Type 0) (Tells : InPartsFault → Type 0)
     (told : List (List ℕ))
     (are : AreOfParts (heap_of heap) (MakeUp (size_of heap) (facts_of heap)) agreed Tells told) where
   -- the heap on which they agree is the whole heap
@@ -86,7 +86,7 @@ module _ (heap : Heap) (MakeUp : IdSize → List FactValue → List FactValue �
   agreed_whole agrees = let all = are.agree agrees in (heap_with (heap_of heap) all.0, all.1)
 
   -- a loss is no change
-  pub no_change : agreed → (fault : PassFault) → Tells fault → (loss : Loss) → stop_of_pass_fault fault ≡ stops.Lost loss → IsChange loss
+  pub no_change : agreed → (fault : InPartsFault) → Tells fault → (loss : Loss) → stop_of_pass_fault fault ≡ stops.Lost loss → IsChange loss
       → ⊥
   no_change agrees passes.OutOfMemory tells loss is change = absurd cc
   no_change agrees (passes.TwoContents id) tells loss is change =
@@ -105,7 +105,7 @@ module _ (heap : Heap) (MakeUp : IdSize → List FactValue → List FactValue �
   no_change agrees passes.NoObject tells loss is change = are.same passes.NoObject tells
   no_change agrees passes.TooMany tells loss is change = absurd cc
 
-  pub no_loss : agreed → {A : Type 0} → (r : Result A DialogueStop) → TellsLoss (IsLostBy Tells) r → (loss : Loss)
+  pub no_loss : agreed → {A : Type 0} → (r : Result A DialogueFault) → TellsLoss (IsLostBy Tells) r → (loss : Loss)
       → r ≡ Err (stops.Lost loss) → IsChange loss → ⊥
   no_loss agrees (Ok done) tells loss is change = absurd cc
   no_loss agrees (Err (stops.Lost known)) tells loss is change =
@@ -154,16 +154,16 @@ module _ {R Q W : Type 0} (left : R → Option (List ℕ)) (health : R → Healt
   }
 
   -- the fault that a dialogue ended with, if any
-  abbrev pub fault_of_dialogue : Result (Unit {0}) DialogueStop → Option AskFault
+  abbrev pub fault_of_dialogue : Result (Unit {0}) DialogueFault → Option AskFault
   fault_of_dialogue (Ok done) = None
   fault_of_dialogue (Err stop) = Some (faults.Dialogue stop)
 
-  abbrev stopped_by : DialogueStop → Result (Unit {0}) DialogueStop
+  abbrev stopped_by : DialogueFault → Result (Unit {0}) DialogueFault
   stopped_by stop = Err stop
 
   -- the dialogue took place
   module _ (counts : Counts left health pulls HaveObject ⊤ limits old new None) (is : Q) (after : W) where
-    pub asks : (r : Result (Unit {0}) DialogueStop)
+    pub asks : (r : Result (Unit {0}) DialogueFault)
         → ((parts : List (List ℕ)) → Tell left old parts
         → OverTold parts (λ IsAnswer. AnswersDialogue IsAnswer asked asking turns written well was is before after r))
         → EndsDialogue asked asking turns well was is after r

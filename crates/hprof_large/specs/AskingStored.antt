@@ -13,8 +13,8 @@ use Rattle.hprof_engine.specs.Summaries.{AreSummaries}
 use Rattle.hprof_stored.specs.Storing.{HaveObject}
 use Rattle.hprof_diff.specs.Comparing.{Counts}
 use Rattle.hprof_questions.specs.declared.question.Question.{Question}
-use Rattle.hprof_questions.specs.declared.stop.DialogueStop.{DialogueStop}
-use Rattle.hprof_questions.specs.declared.stop.DialogueStop.TheVariants as stops
+use Rattle.hprof_questions.specs.declared.dialogue_fault.DialogueFault.{DialogueFault}
+use Rattle.hprof_questions.specs.declared.dialogue_fault.DialogueFault.TheVariants as stops
 use Rattle.hprof_questions.specs.Dialogue.{AnswersDialogue, AnswersLines, AreOpenLines, EndsDialogue}
 use Rattle.hprof_ask.specs.declared.ask_fault.AskFault.{AskFault}
 use Rattle.hprof_ask.specs.declared.ask_fault.AskFault.TheVariants as faults
@@ -30,7 +30,7 @@ pub record OverTold (parts : List (List ℕ)) (P : (Question → List ℕ → Ty
   pub holds : P (IsHeapAnswer summaries heap.ids heap.facts)
 
 -- if the parts were read, that holds of how the dialogue ended
-abbrev pub OfDialogue : Option AskFault → (Result (Unit {0}) DialogueStop → Type 0) → Type 0
+abbrev pub OfDialogue : Option AskFault → (Result (Unit {0}) DialogueFault → Type 0) → Type 0
 OfDialogue None Holds = Holds (Ok tt)
 OfDialogue (Some (faults.Dialogue stop)) Holds = Holds (Err stop)
 OfDialogue (Some (faults.Parts fault)) Holds = ⊤

@@ -7,7 +7,7 @@ ghost use Rattle.hprof_stored.specs.StoredMaking.{CanBeReadAgain};
 ghost use Rattle.hprof_ask.specs.Asks.{PassesAnswersOn, fault_of_asking};
 ghost use Rattle.hprof_large.specs.AskingStored.{AsksStored, LetsAskStored};
 
-use crate::kept_answers::KeptAnswers;
+use crate::kept_answers::CachedAnswers;
 use crate::passed_answers::PassedAnswers;
 use hprof_ask::AskFault;
 use hprof_devices::{Flush, Source};
@@ -90,7 +90,7 @@ pub fn ask_stored<R: Source, S: Scratch + Drop, P: Parts, Q: Asker<W>, W: Flush>
         objects,
         summaries: &summaries,
     };
-    let mut kept = KeptAnswers::new(alloc);
+    let mut kept = CachedAnswers::new(alloc);
     match converse(alloc, &answers, &mut kept, questions, target) {
         Ok(()) => Ok(()),
         Err(stop) => Err(AskFault::Dialogue(stop)),

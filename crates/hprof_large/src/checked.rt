@@ -7,9 +7,9 @@ ghost use Rattle.hprof_reports.specs.Check.{IsCheck};
 ghost use Rattle.hprof_lines.specs.Passed.{EndsPassed};
 
 use hprof_devices::Target;
-use hprof_engine::WriteStop;
+use hprof_engine::ProductFault;
 use hprof_heap::Heap;
-use hprof_passes::{Objects, PassStop};
+use hprof_passes::{Objects, PassFault};
 use hprof_reports::write_check_over;
 use hprof_stream::PartSummary;
 use std::alloc::Global;
@@ -21,7 +21,7 @@ pub(crate) fn write_check<O: Objects, W: Target>(
     heap: &Heap,
     objects: &O,
     target: &mut W,
-) -> Result<(), PassStop<WriteStop, O::Fault>>
+) -> Result<(), PassFault<ProductFault, O::Fault>>
     requires { W.health target.old ≡ Well }
     ensures { EndsPassed (O.make_up objects.now (size_of heap.now) (facts_of heap.now))
         (O.agree objects.now (size_of heap.now) (facts_of heap.now)) (O.tells objects.now (size_of heap.now) (facts_of heap.now))
@@ -29,7 +29,7 @@ pub(crate) fn write_check<O: Objects, W: Target>(
 {
     match write_check_over(alloc, summaries, heap, objects, target) {
         Ok(()) => Ok(()),
-        Err(PassStop::Sink(fault)) => Err(PassStop::Sink(WriteStop::Write(fault))),
-        Err(PassStop::Lost(fault)) => Err(PassStop::Lost(fault)),
+        Err(PassFault::Sink(fault)) => Err(PassFault::Sink(ProductFault::Write(fault))),
+        Err(PassFault::Lost(fault)) => Err(PassFault::Lost(fault)),
     }
 }

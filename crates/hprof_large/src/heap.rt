@@ -5,20 +5,20 @@ ghost use Rattle.hprof_devices.specs.declared.health.Health.TheVariants.{Well};
 ghost use Rattle.hprof_heap.specs.HeapFacts.{facts_of, size_of};
 ghost use Rattle.hprof_histogram.specs.Known.{MadeUpWith};
 ghost use Rattle.hprof_lines.specs.Passed.{EndsPassed};
-ghost use Rattle.hprof_retained.specs.KeptReferences.{AreKeptReferences};
+ghost use Rattle.hprof_retained.specs.CachedReferences.{AreCachedReferences};
 ghost use Rattle.hprof_ask.specs.Report.{IsHeapReport};
 
 use crate::checked::write_check;
 use hprof_by_label::write_retained_over;
 use hprof_devices::Target;
-use hprof_engine::WriteStop;
+use hprof_engine::ProductFault;
 use hprof_heap::Heap;
 use hprof_histogram::CountedKinds;
 use hprof_holders::write_threads_over;
-use hprof_passes::{Objects, PassStop};
+use hprof_passes::{Objects, PassFault};
 use hprof_questions::HeapReport;
 use hprof_reports::{write_classes_over, write_histogram_over};
-use hprof_retained::KeptReferences;
+use hprof_retained::CachedReferences;
 use hprof_stream::PartSummary;
 use hprof_suspects::write_suspects_over;
 use std::alloc::Global;
@@ -29,19 +29,19 @@ pub(crate) fn write_heap_report<O: Objects, W: Target>(
     summaries: &[PartSummary],
     heap: &Heap,
     objects: &O,
-    references: &mut KeptReferences,
+    references: &mut CachedReferences,
     report: HeapReport,
     known: Option<CountedKinds>,
     target: &mut W,
-) -> Result<(), PassStop<WriteStop, O::Fault>>
+) -> Result<(), PassFault<ProductFault, O::Fault>>
     requires agree { IsSome known → O.agree objects.now (size_of heap.now) (facts_of heap.now) }
-    requires references { AreKeptReferences (O.make_up objects.now (size_of heap.now) (facts_of heap.now))
+    requires references { AreCachedReferences (O.make_up objects.now (size_of heap.now) (facts_of heap.now))
         (O.agree objects.now (size_of heap.now) (facts_of heap.now)) (size_of heap.now) references.old }
     requires well { W.health target.old ≡ Well }
     ensures ends { EndsPassed (MadeUpWith (O.make_up objects.now (size_of heap.now) (facts_of heap.now)) (size_of heap.now) known)
         (O.agree objects.now (size_of heap.now) (facts_of heap.now)) (O.tells objects.now (size_of heap.now) (facts_of heap.now))
         (λ all. IsHeapReport summaries.now (size_of heap.now) all report) W.written W.health target.old target.new result }
-    ensures references { AreKeptReferences (O.make_up objects.now (size_of heap.now) (facts_of heap.now))
+    ensures references { AreCachedReferences (O.make_up objects.now (size_of heap.now) (facts_of heap.now))
         (O.agree objects.now (size_of heap.now) (facts_of heap.now)) (size_of heap.now) references.new }
 {
     match report {

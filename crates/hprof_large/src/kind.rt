@@ -6,7 +6,7 @@ ghost use Rattle.hprof_devices.specs.declared.health.Health.TheVariants.{Well};
 ghost use Rattle.hprof_heap.specs.Heap.{heap_of};
 ghost use Rattle.hprof_heap.specs.HeapFacts.{facts_of, size_of};
 ghost use Rattle.hprof_lines.specs.Passed.{EndsPassed};
-ghost use Rattle.hprof_retained.specs.KeptReferences.{AreKeptReferences};
+ghost use Rattle.hprof_retained.specs.CachedReferences.{AreCachedReferences};
 ghost use Rattle.hprof_stream.specs.declared.summary.PartSummary.{PartSummary};
 ghost use Rattle.hprof_questions.specs.declared.report.Kinds.TheVariants as these;
 ghost use Rattle.hprof_questions.specs.declared.report.Report.TheVariants as reports;
@@ -15,16 +15,16 @@ ghost use Rattle.hprof_making.specs.Over.{EndsOver, heap_with};
 
 use hprof_ask::names_classes;
 use hprof_devices::Target;
-use hprof_engine::{ProductRefusal, WriteStop};
+use hprof_engine::{HeapFault, ProductFault};
 use hprof_heap::Heap;
 use hprof_histogram::Kind;
 use hprof_keeps::{Choice, write_biggest_over};
 use hprof_lines::{stop_of_pass, write_objects_over};
 use hprof_meaning::{classes_meant_over, write_objects_of_classes_over};
 use hprof_naming::{ClassNames, MeantLabel};
-use hprof_passes::{Objects, PassStop};
+use hprof_passes::{Objects, PassFault};
 use hprof_questions::{KindReport, Kinds};
-use hprof_retained::KeptReferences;
+use hprof_retained::CachedReferences;
 use std::alloc::Global;
 
 /// Writes a report on the objects of a class or a type.
@@ -32,18 +32,18 @@ fn write_of_kind<O: Objects, W: Target>(
     alloc: Global,
     heap: &Heap,
     objects: &O,
-    references: &mut KeptReferences,
+    references: &mut CachedReferences,
     report: KindReport,
     kind: Kind,
     target: &mut W,
-) -> Result<(), PassStop<WriteStop, O::Fault>>
-    requires references { AreKeptReferences (O.make_up objects.now (size_of heap.now) (facts_of heap.now))
+) -> Result<(), PassFault<ProductFault, O::Fault>>
+    requires references { AreCachedReferences (O.make_up objects.now (size_of heap.now) (facts_of heap.now))
         (O.agree objects.now (size_of heap.now) (facts_of heap.now)) (size_of heap.now) references.old }
     requires well { W.health target.old ≡ Well }
     ensures ends { EndsPassed (O.make_up objects.now (size_of heap.now) (facts_of heap.now))
         (O.agree objects.now (size_of heap.now) (facts_of heap.now)) (O.tells objects.now (size_of heap.now) (facts_of heap.now))
         (λ all. IsKindReport (size_of heap.now) all report kind) W.written W.health target.old target.new result }
-    ensures references { AreKeptReferences (O.make_up objects.now (size_of heap.now) (facts_of heap.now))
+    ensures references { AreCachedReferences (O.make_up objects.now (size_of heap.now) (facts_of heap.now))
         (O.agree objects.now (size_of heap.now) (facts_of heap.now)) (size_of heap.now) references.new }
 {
     match report {
@@ -59,20 +59,20 @@ fn write_of_classes<O: Objects, W: Target>(
     alloc: Global,
     heap: &Heap,
     objects: &O,
-    references: &mut KeptReferences,
+    references: &mut CachedReferences,
     report: KindReport,
     name: &[u8],
     classes: &[u64],
     target: &mut W,
-) -> Result<(), PassStop<WriteStop, O::Fault>>
-    requires references { AreKeptReferences (O.make_up objects.now (size_of heap.now) (facts_of heap.now))
+) -> Result<(), PassFault<ProductFault, O::Fault>>
+    requires references { AreCachedReferences (O.make_up objects.now (size_of heap.now) (facts_of heap.now))
         (O.agree objects.now (size_of heap.now) (facts_of heap.now)) (size_of heap.now) references.old }
     requires ascend { IsStrictlyIncreasing classes.now }
     requires well { W.health target.old ≡ Well }
     ensures ends { EndsPassed (O.make_up objects.now (size_of heap.now) (facts_of heap.now))
         (O.agree objects.now (size_of heap.now) (facts_of heap.now)) (O.tells objects.now (size_of heap.now) (facts_of heap.now))
         (λ all. IsReportOfClasses (size_of heap.now) all report name.now classes.now) W.written W.health target.old target.new result }
-    ensures references { AreKeptReferences (O.make_up objects.now (size_of heap.now) (facts_of heap.now))
+    ensures references { AreCachedReferences (O.make_up objects.now (size_of heap.now) (facts_of heap.now))
         (O.agree objects.now (size_of heap.now) (facts_of heap.now)) (size_of heap.now) references.new }
 {
     match report {
@@ -101,12 +101,12 @@ fn write_kind_named<O: Objects, W: Target>(
     alloc: Global,
     heap: &Heap,
     objects: &O,
-    references: &mut KeptReferences,
+    references: &mut CachedReferences,
     report: KindReport,
     name: &[u8],
     target: &mut W,
-) -> Result<(), PassStop<WriteStop, O::Fault>>
-    requires references { AreKeptReferences (O.make_up objects.now (size_of heap.now) (facts_of heap.now))
+) -> Result<(), PassFault<ProductFault, O::Fault>>
+    requires references { AreCachedReferences (O.make_up objects.now (size_of heap.now) (facts_of heap.now))
         (O.agree objects.now (size_of heap.now) (facts_of heap.now)) (size_of heap.now) references.old }
     requires well { W.health target.old ≡ Well }
     ensures ends { EndsOver (O.make_up objects.now (size_of heap.now) (facts_of heap.now))
@@ -114,11 +114,11 @@ fn write_kind_named<O: Objects, W: Target>(
         (λ all. IsNamedKind (size_of heap.now) all report name.now)
         (λ refusal all. RefusesReport all (reports.Kind report (these.Named name.entry)) refusal)
         W.written W.health target.old target.new result }
-    ensures references { AreKeptReferences (O.make_up objects.now (size_of heap.now) (facts_of heap.now))
+    ensures references { AreCachedReferences (O.make_up objects.now (size_of heap.now) (facts_of heap.now))
         (O.agree objects.now (size_of heap.now) (facts_of heap.now)) (size_of heap.now) references.new }
 {
     let Ok(names) = ClassNames::of(alloc, heap) else {
-        return Err(PassStop::Sink(WriteStop::OutOfMemory));
+        return Err(PassFault::Sink(ProductFault::OutOfMemory));
     };
     let meant = MeantLabel::of(name);
     let classes = match classes_meant_over(alloc, heap, objects, &names, &meant) {
@@ -126,7 +126,7 @@ fn write_kind_named<O: Objects, W: Target>(
         Err(stop) => return Err(stop_of_pass(stop)),
     };
     if !is_answered(&classes, name) {
-        return Err(PassStop::Sink(WriteStop::Refused(ProductRefusal::NoClass)));
+        return Err(PassFault::Sink(ProductFault::Refused(HeapFault::NoClass)));
     }
     write_of_classes(
         alloc, heap, objects, references, report, name, &classes, target,
@@ -139,12 +139,12 @@ pub(crate) fn write_kind<O: Objects, W: Target>(
     alloc: Global,
     heap: &Heap,
     objects: &O,
-    references: &mut KeptReferences,
+    references: &mut CachedReferences,
     report: KindReport,
     kinds: Kinds<'_>,
     target: &mut W,
-) -> Result<(), PassStop<WriteStop, O::Fault>>
-    requires references { AreKeptReferences (O.make_up objects.now (size_of heap.now) (facts_of heap.now))
+) -> Result<(), PassFault<ProductFault, O::Fault>>
+    requires references { AreCachedReferences (O.make_up objects.now (size_of heap.now) (facts_of heap.now))
         (O.agree objects.now (size_of heap.now) (facts_of heap.now)) (size_of heap.now) references.old }
     requires well { W.health target.old ≡ Well }
     ensures ends { (summaries : List PartSummary) → EndsOver (O.make_up objects.now (size_of heap.now) (facts_of heap.now))
@@ -152,7 +152,7 @@ pub(crate) fn write_kind<O: Objects, W: Target>(
         (λ all. IsReportText (reports.Kind report kinds.entry) summaries (heap_with (heap_of heap.now) all))
         (λ refusal all. RefusesReport all (reports.Kind report kinds.entry) refusal)
         W.written W.health target.old target.new result }
-    ensures references { AreKeptReferences (O.make_up objects.now (size_of heap.now) (facts_of heap.now))
+    ensures references { AreCachedReferences (O.make_up objects.now (size_of heap.now) (facts_of heap.now))
         (O.agree objects.now (size_of heap.now) (facts_of heap.now)) (size_of heap.now) references.new }
 {
     match kinds {

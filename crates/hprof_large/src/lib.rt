@@ -4,9 +4,9 @@
 #![tactic(auto)]
 
 mod asking;
+mod cached_answers;
 mod checked;
 mod heap;
-mod kept_answers;
 mod kind;
 mod node;
 mod passed_answers;
@@ -15,6 +15,6 @@ mod stops;
 mod texts;
 
 pub use asking::ask_stored;
-pub use kept_answers::KeptAnswers;
+pub use kept_answers::CachedAnswers;
 pub use passed_answers::PassedAnswers;
 pub use passed_report::PassedReport;

@@ -7,7 +7,7 @@ ghost use Rattle.hprof_heap.specs.HeapFacts.{facts_of, size_of};
 ghost use Rattle.hprof_lines.specs.Passed.{EndsPassed};
 ghost use Rattle.hprof_naming.specs.ClassNames.{AreClassNames};
 ghost use Rattle.hprof_meaning.specs.MeantClasses.{AreMeantDumps};
-ghost use Rattle.hprof_retained.specs.KeptReferences.{AreKeptReferences};
+ghost use Rattle.hprof_retained.specs.CachedReferences.{AreCachedReferences};
 ghost use Rattle.hprof_stream.specs.declared.summary.PartSummary.{PartSummary};
 ghost use Rattle.hprof_questions.specs.declared.report.Node.TheVariants as that;
 ghost use Rattle.hprof_questions.specs.declared.report.NodeReport.{NodeReport};
@@ -16,16 +16,16 @@ ghost use Rattle.hprof_ask.specs.Report.{IsNamedReport, IsNodeReport, IsReportTe
 ghost use Rattle.hprof_making.specs.Over.{EndsOver, heap_with};
 
 use hprof_devices::Target;
-use hprof_engine::{ProductRefusal, WriteStop};
+use hprof_engine::{HeapFault, ProductFault};
 use hprof_heap::{Heap, holds_of_heap};
 use hprof_holders::write_who_over;
 use hprof_keeps::write_keeps_over;
 use hprof_meaning::{class_dumps_meant, write_classes_of_name};
 use hprof_naming::{ClassNames, MeantLabel};
-use hprof_passes::{Objects, PassStop};
+use hprof_passes::{Objects, PassFault};
 use hprof_questions::{Node, NodeReport};
 use hprof_reports::{write_object_over, write_refs_over, write_text_over};
-use hprof_retained::KeptReferences;
+use hprof_retained::CachedReferences;
 use hprof_show::write_show_over;
 use hprof_why::{write_path_over, write_why_over};
 use std::alloc::Global;
@@ -35,18 +35,18 @@ fn write_on<O: Objects, W: Target>(
     alloc: Global,
     heap: &Heap,
     objects: &O,
-    references: &mut KeptReferences,
+    references: &mut CachedReferences,
     report: NodeReport,
     id: u64,
     target: &mut W,
-) -> Result<(), PassStop<WriteStop, O::Fault>>
-    requires references { AreKeptReferences (O.make_up objects.now (size_of heap.now) (facts_of heap.now))
+) -> Result<(), PassFault<ProductFault, O::Fault>>
+    requires references { AreCachedReferences (O.make_up objects.now (size_of heap.now) (facts_of heap.now))
         (O.agree objects.now (size_of heap.now) (facts_of heap.now)) (size_of heap.now) references.old }
     requires well { W.health target.old ≡ Well }
     ensures ends { EndsPassed (O.make_up objects.now (size_of heap.now) (facts_of heap.now))
         (O.agree objects.now (size_of heap.now) (facts_of heap.now)) (O.tells objects.now (size_of heap.now) (facts_of heap.now))
         (λ all. IsNodeReport (size_of heap.now) all report id) W.written W.health target.old target.new result }
-    ensures references { AreKeptReferences (O.make_up objects.now (size_of heap.now) (facts_of heap.now))
+    ensures references { AreCachedReferences (O.make_up objects.now (size_of heap.now) (facts_of heap.now))
         (O.agree objects.now (size_of heap.now) (facts_of heap.now)) (size_of heap.now) references.new }
 {
     match report {
@@ -71,7 +71,7 @@ fn write_which<O: Objects, W: Target>(
     name: &[u8],
     dumps: &[u64],
     target: &mut W,
-) -> Result<(), PassStop<WriteStop, O::Fault>>
+) -> Result<(), PassFault<ProductFault, O::Fault>>
     requires named { AreClassNames (facts_of heap.now) names.now }
     requires dumps { AreMeantDumps (facts_of heap.now) name.now dumps.now }
     requires others { (id : ℕ) → dumps.now ≢ id ∷ [] }
@@ -85,14 +85,14 @@ fn write_which<O: Objects, W: Target>(
     holds_of_heap(heap);
     match objects.count(alloc, heap) {
         Ok(_) => {}
-        Err(fault) => return Err(PassStop::Lost(fault)),
+        Err(fault) => return Err(PassFault::Lost(fault)),
     }
     if dumps.is_empty() {
-        return Err(PassStop::Sink(WriteStop::Refused(ProductRefusal::NoClass)));
+        return Err(PassFault::Sink(ProductFault::Refused(HeapFault::NoClass)));
     }
     match write_classes_of_name(alloc, heap, names, dumps, target) {
         Ok(()) => Ok(()),
-        Err(stop) => Err(PassStop::Sink(stop)),
+        Err(stop) => Err(PassFault::Sink(stop)),
     }
 }
 
@@ -114,12 +114,12 @@ fn write_named<O: Objects, W: Target>(
     alloc: Global,
     heap: &Heap,
     objects: &O,
-    references: &mut KeptReferences,
+    references: &mut CachedReferences,
     report: NodeReport,
     name: &[u8],
     target: &mut W,
-) -> Result<(), PassStop<WriteStop, O::Fault>>
-    requires references { AreKeptReferences (O.make_up objects.now (size_of heap.now) (facts_of heap.now))
+) -> Result<(), PassFault<ProductFault, O::Fault>>
+    requires references { AreCachedReferences (O.make_up objects.now (size_of heap.now) (facts_of heap.now))
         (O.agree objects.now (size_of heap.now) (facts_of heap.now)) (size_of heap.now) references.old }
     requires well { W.health target.old ≡ Well }
     ensures ends { EndsOver (O.make_up objects.now (size_of heap.now) (facts_of heap.now))
@@ -127,16 +127,16 @@ fn write_named<O: Objects, W: Target>(
         (λ all. IsNamedReport (size_of heap.now) all report name.now)
         (λ refusal all. RefusesReport all (reports.Node report (that.Named name.entry)) refusal)
         W.written W.health target.old target.new result }
-    ensures references { AreKeptReferences (O.make_up objects.now (size_of heap.now) (facts_of heap.now))
+    ensures references { AreCachedReferences (O.make_up objects.now (size_of heap.now) (facts_of heap.now))
         (O.agree objects.now (size_of heap.now) (facts_of heap.now)) (size_of heap.now) references.new }
 {
     holds_of_heap(heap);
     let Ok(names) = ClassNames::of(alloc, heap) else {
-        return Err(PassStop::Sink(WriteStop::OutOfMemory));
+        return Err(PassFault::Sink(ProductFault::OutOfMemory));
     };
     let meant = MeantLabel::of(name);
     let Ok(dumps) = class_dumps_meant(alloc, heap, &names, &meant) else {
-        return Err(PassStop::Sink(WriteStop::OutOfMemory));
+        return Err(PassFault::Sink(ProductFault::OutOfMemory));
     };
     match only_one(&dumps) {
         Some(id) => write_on(alloc, heap, objects, references, report, id, target),
@@ -149,12 +149,12 @@ pub(crate) fn write_node<O: Objects, W: Target>(
     alloc: Global,
     heap: &Heap,
     objects: &O,
-    references: &mut KeptReferences,
+    references: &mut CachedReferences,
     report: NodeReport,
     node: Node<'_>,
     target: &mut W,
-) -> Result<(), PassStop<WriteStop, O::Fault>>
-    requires references { AreKeptReferences (O.make_up objects.now (size_of heap.now) (facts_of heap.now))
+) -> Result<(), PassFault<ProductFault, O::Fault>>
+    requires references { AreCachedReferences (O.make_up objects.now (size_of heap.now) (facts_of heap.now))
         (O.agree objects.now (size_of heap.now) (facts_of heap.now)) (size_of heap.now) references.old }
     requires well { W.health target.old ≡ Well }
     ensures ends { (summaries : List PartSummary) → EndsOver (O.make_up objects.now (size_of heap.now) (facts_of heap.now))
@@ -162,7 +162,7 @@ pub(crate) fn write_node<O: Objects, W: Target>(
         (λ all. IsReportText (reports.Node report node.entry) summaries (heap_with (heap_of heap.now) all))
         (λ refusal all. RefusesReport all (reports.Node report node.entry) refusal)
         W.written W.health target.old target.new result }
-    ensures references { AreKeptReferences (O.make_up objects.now (size_of heap.now) (facts_of heap.now))
+    ensures references { AreCachedReferences (O.make_up objects.now (size_of heap.now) (facts_of heap.now))
         (O.agree objects.now (size_of heap.now) (facts_of heap.now)) (size_of heap.now) references.new }
 {
     match node {

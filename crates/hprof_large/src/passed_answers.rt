@@ -5,7 +5,7 @@ ghost use Rattle.hprof_devices.specs.declared.health.Health.TheVariants.{Well};
 ghost use Rattle.hprof_rows.specs.HeapValue.{HeapValue};
 ghost use Rattle.hprof_heap.specs.HeapFacts.{facts_of, size_of};
 ghost use Rattle.hprof_passes.specs.Passing.{IfLost};
-ghost use Rattle.hprof_retained.specs.KeptReferences.{AreKeptReferences};
+ghost use Rattle.hprof_retained.specs.CachedReferences.{AreCachedReferences};
 ghost use Rattle.hprof_questions.specs.Answering.{LeavesWriter, TellsLoss, WritesAnswer};
 ghost use Rattle.hprof_ask.specs.HeapAnswers.{IsHeapAnswer, IsReply, IsReportReply};
 ghost use Rattle.hprof_ask.specs.Report.{IsHeapReport, IsReport, RefusesReport};
@@ -15,18 +15,18 @@ ghost use Rattle.hprof_large.specs.Texts.{AreReports};
 ghost use Rattle.hprof_large.specs.Whole.{IsWholeHeap};
 
 use crate::heap::write_heap_report;
-use crate::kept_answers::KeptAnswers;
+use crate::kept_answers::CachedAnswers;
 use crate::passed_report::write_report_over;
 use crate::stops::{answer_of, stop_of_pass_fault};
 use hprof_ask::{behind_reply, write_reply_without_report};
 use hprof_devices::{Device, Target, push_all};
-use hprof_engine::WriteStop;
+use hprof_engine::ProductFault;
 use hprof_heap::Heap;
 use hprof_lines::write_str;
-use hprof_passes::{Objects, PassStop};
-use hprof_questions::{Answers, DialogueStop, HeapReport, Question, Report};
-use hprof_retained::KeptReferences;
-use hprof_stored::PassFault;
+use hprof_passes::{Objects, PassFault};
+use hprof_questions::{Answers, DialogueFault, HeapReport, Question, Report};
+use hprof_retained::CachedReferences;
+use hprof_stored::InPartsFault;
 use hprof_stream::PartSummary;
 use std::alloc::{AllocError, Global};
 
@@ -42,7 +42,7 @@ pub struct PassedAnswers<'a, O> {
 }
 
 /// Writes bytes. If the writer fails, the bytes written are the beginning of them.
-fn write_bytes<W: Target>(bytes: &[u8], target: &mut W) -> Result<(), DialogueStop>
+fn write_bytes<W: Target>(bytes: &[u8], target: &mut W) -> Result<(), DialogueFault>
     requires { W.health target.old ≡ Well }
     ensures bytes { WritesAnswer (W.written target.old) (W.written target.new) result bytes.now }
     ensures health { LeavesWriter result (W.health target.new) }
@@ -50,20 +50,20 @@ fn write_bytes<W: Target>(bytes: &[u8], target: &mut W) -> Result<(), DialogueSt
 {
     match push_all(bytes, target) {
         Ok(()) => Ok(()),
-        Err(fault) => Err(DialogueStop::Write(fault)),
+        Err(fault) => Err(DialogueFault::Write(fault)),
     }
 }
 
-impl<O: Objects<Fault = PassFault> + Drop> PassedAnswers<'_, O> {
+impl<O: Objects<Fault = InPartsFault> + Drop> PassedAnswers<'_, O> {
     /// Writes a report on a class, an object, or objects, as [`PassedReport`](crate::PassedReport) does.
     fn write_by_passes<W: Target>(
         &self,
         alloc: Global,
-        references: &mut KeptReferences,
+        references: &mut CachedReferences,
         report: Report<'_>,
         target: &mut W,
-    ) -> Result<(), PassStop<WriteStop, PassFault>>
-        requires references { AreKeptReferences
+    ) -> Result<(), PassFault<ProductFault, InPartsFault>>
+        requires references { AreCachedReferences
             (O.make_up self.now.objects (size_of self.now.heap.now) (facts_of self.now.heap.now))
             (O.agree self.now.objects (size_of self.now.heap.now) (facts_of self.now.heap.now)) (size_of self.now.heap.now) references.old }
         requires well { W.health target.old ≡ Well }
@@ -73,7 +73,7 @@ impl<O: Objects<Fault = PassFault> + Drop> PassedAnswers<'_, O> {
             (O.tells self.now.objects (size_of self.now.heap.now) (facts_of self.now.heap.now))
             (λ all. IsReport self.now.summaries.now.items (size_of self.now.heap.now) all report.entry)
             (λ refusal all. RefusesReport all report.entry refusal) W.written W.health target.old target.new result }
-        ensures references { AreKeptReferences
+        ensures references { AreCachedReferences
             (O.make_up self.now.objects (size_of self.now.heap.now) (facts_of self.now.heap.now))
             (O.agree self.now.objects (size_of self.now.heap.now) (facts_of self.now.heap.now)) (size_of self.now.heap.now) references.new }
     {
@@ -93,11 +93,11 @@ impl<O: Objects<Fault = PassFault> + Drop> PassedAnswers<'_, O> {
     fn write_report<W: Target>(
         &self,
         alloc: Global,
-        references: &mut KeptReferences,
+        references: &mut CachedReferences,
         report: Report<'_>,
         target: &mut W,
-    ) -> Result<(), DialogueStop>
-        requires references { AreKeptReferences
+    ) -> Result<(), DialogueFault>
+        requires references { AreCachedReferences
             (O.make_up self.now.objects (size_of self.now.heap.now) (facts_of self.now.heap.now))
             (O.agree self.now.objects (size_of self.now.heap.now) (facts_of self.now.heap.now)) (size_of self.now.heap.now) references.old }
         requires well { W.health target.old ≡ Well }
@@ -106,19 +106,19 @@ impl<O: Objects<Fault = PassFault> + Drop> PassedAnswers<'_, O> {
             × WritesAnswer (W.written target.old) (W.written target.new) result text }
         ensures health { LeavesWriter result (W.health target.new) }
         ensures lost { TellsLoss (IsLostBy (O.tells self.now.objects (size_of self.now.heap.now) (facts_of self.now.heap.now))) result }
-        ensures references { AreKeptReferences
+        ensures references { AreCachedReferences
             (O.make_up self.now.objects (size_of self.now.heap.now) (facts_of self.now.heap.now))
             (O.agree self.now.objects (size_of self.now.heap.now) (facts_of self.now.heap.now)) (size_of self.now.heap.now) references.new }
     {
         match self.write_by_passes(alloc, references, report, target) {
             Ok(()) => Ok(()),
-            Err(PassStop::Lost(fault)) => Err(stop_of_pass_fault(fault)),
-            Err(PassStop::Sink(WriteStop::Refused(_))) => answer_of(write_reply_without_report(
+            Err(PassFault::Lost(fault)) => Err(stop_of_pass_fault(fault)),
+            Err(PassFault::Sink(ProductFault::Refused(_))) => answer_of(write_reply_without_report(
                 Question::Report(report),
                 target,
             )),
-            Err(PassStop::Sink(WriteStop::Write(fault))) => Err(DialogueStop::Write(fault)),
-            Err(PassStop::Sink(WriteStop::OutOfMemory)) => Err(DialogueStop::OutOfMemory),
+            Err(PassFault::Sink(ProductFault::Write(fault))) => Err(DialogueFault::Write(fault)),
+            Err(PassFault::Sink(ProductFault::OutOfMemory)) => Err(DialogueFault::OutOfMemory),
         }
     }
 
@@ -126,17 +126,17 @@ impl<O: Objects<Fault = PassFault> + Drop> PassedAnswers<'_, O> {
     fn make_text(
         &self,
         alloc: Global,
-        references: &mut KeptReferences,
+        references: &mut CachedReferences,
         report: HeapReport,
-    ) -> Result<Vec<u8>, PassStop<AllocError, PassFault>>
-        requires { AreKeptReferences
+    ) -> Result<Vec<u8>, PassFault<AllocError, InPartsFault>>
+        requires { AreCachedReferences
             (O.make_up self.now.objects (size_of self.now.heap.now) (facts_of self.now.heap.now))
             (O.agree self.now.objects (size_of self.now.heap.now) (facts_of self.now.heap.now)) (size_of self.now.heap.now) references.old }
         ensures text { IfOk result (λ bytes. (heap : HeapValue)
             → IsWholeHeap self.now.heap.now (O.make_up self.now.objects) heap
             → IsHeapReport self.now.summaries.now.items heap.ids heap.facts report bytes.items) }
         ensures lost { IfErr result (IfLost (O.tells self.now.objects (size_of self.now.heap.now) (facts_of self.now.heap.now))) }
-        ensures references { AreKeptReferences
+        ensures references { AreCachedReferences
             (O.make_up self.now.objects (size_of self.now.heap.now) (facts_of self.now.heap.now))
             (O.agree self.now.objects (size_of self.now.heap.now) (facts_of self.now.heap.now)) (size_of self.now.heap.now) references.new }
     {
@@ -152,24 +152,24 @@ impl<O: Objects<Fault = PassFault> + Drop> PassedAnswers<'_, O> {
             &mut target,
         ) {
             Ok(()) => Ok(target.into_inner()),
-            Err(PassStop::Lost(fault)) => Err(PassStop::Lost(fault)),
+            Err(PassFault::Lost(fault)) => Err(PassFault::Lost(fault)),
             // A list fails to take a byte only if memory runs out.
-            Err(PassStop::Sink(_)) => Err(PassStop::Sink(AllocError)),
+            Err(PassFault::Sink(_)) => Err(PassFault::Sink(AllocError)),
         }
     }
 
     /// Writes a report on the whole heap, from the text that is kept, or makes the text and keeps it.
-    fn write_kept<W: Target>(
+    fn write_cached<W: Target>(
         &self,
         alloc: Global,
-        kept: &mut KeptAnswers,
+        kept: &mut CachedAnswers,
         report: HeapReport,
         target: &mut W,
-    ) -> Result<(), DialogueStop>
+    ) -> Result<(), DialogueFault>
         requires well { W.health target.old ≡ Well }
         requires texts { (heap : HeapValue) → IsWholeHeap self.now.heap.now (O.make_up self.now.objects) heap
             → AreReports self.now.summaries.now.items heap.ids heap.facts kept.old.texts }
-        requires references { AreKeptReferences
+        requires references { AreCachedReferences
             (O.make_up self.now.objects (size_of self.now.heap.now) (facts_of self.now.heap.now))
             (O.agree self.now.objects (size_of self.now.heap.now) (facts_of self.now.heap.now)) (size_of self.now.heap.now)
             kept.old.references }
@@ -180,7 +180,7 @@ impl<O: Objects<Fault = PassFault> + Drop> PassedAnswers<'_, O> {
         ensures lost { TellsLoss (IsLostBy (O.tells self.now.objects (size_of self.now.heap.now) (facts_of self.now.heap.now))) result }
         ensures texts { (heap : HeapValue) → IsWholeHeap self.now.heap.now (O.make_up self.now.objects) heap
             → AreReports self.now.summaries.now.items heap.ids heap.facts kept.new.texts }
-        ensures references { AreKeptReferences
+        ensures references { AreCachedReferences
             (O.make_up self.now.objects (size_of self.now.heap.now) (facts_of self.now.heap.now))
             (O.agree self.now.objects (size_of self.now.heap.now) (facts_of self.now.heap.now)) (size_of self.now.heap.now)
             kept.new.references }
@@ -190,8 +190,8 @@ impl<O: Objects<Fault = PassFault> + Drop> PassedAnswers<'_, O> {
         }
         let bytes = match self.make_text(alloc, &mut kept.references, report) {
             Ok(bytes) => bytes,
-            Err(PassStop::Lost(fault)) => return Err(stop_of_pass_fault(fault)),
-            Err(PassStop::Sink(_)) => return Err(DialogueStop::OutOfMemory),
+            Err(PassFault::Lost(fault)) => return Err(stop_of_pass_fault(fault)),
+            Err(PassFault::Sink(_)) => return Err(DialogueFault::OutOfMemory),
         };
         let outcome = write_bytes(&bytes, target);
         kept.texts.keep(report, bytes);
@@ -202,14 +202,14 @@ impl<O: Objects<Fault = PassFault> + Drop> PassedAnswers<'_, O> {
     fn write_reply<W: Target>(
         &self,
         alloc: Global,
-        kept: &mut KeptAnswers,
+        kept: &mut CachedAnswers,
         question: Question<'_>,
         target: &mut W,
-    ) -> Result<(), DialogueStop>
+    ) -> Result<(), DialogueFault>
         requires well { W.health target.old ≡ Well }
         requires texts { (heap : HeapValue) → IsWholeHeap self.now.heap.now (O.make_up self.now.objects) heap
             → AreReports self.now.summaries.now.items heap.ids heap.facts kept.old.texts }
-        requires references { AreKeptReferences
+        requires references { AreCachedReferences
             (O.make_up self.now.objects (size_of self.now.heap.now) (facts_of self.now.heap.now))
             (O.agree self.now.objects (size_of self.now.heap.now) (facts_of self.now.heap.now)) (size_of self.now.heap.now)
             kept.old.references }
@@ -220,13 +220,15 @@ impl<O: Objects<Fault = PassFault> + Drop> PassedAnswers<'_, O> {
         ensures lost { TellsLoss (IsLostBy (O.tells self.now.objects (size_of self.now.heap.now) (facts_of self.now.heap.now))) result }
         ensures texts { (heap : HeapValue) → IsWholeHeap self.now.heap.now (O.make_up self.now.objects) heap
             → AreReports self.now.summaries.now.items heap.ids heap.facts kept.new.texts }
-        ensures references { AreKeptReferences
+        ensures references { AreCachedReferences
             (O.make_up self.now.objects (size_of self.now.heap.now) (facts_of self.now.heap.now))
             (O.agree self.now.objects (size_of self.now.heap.now) (facts_of self.now.heap.now)) (size_of self.now.heap.now)
             kept.new.references }
     {
         match question {
-            Question::Report(Report::Heap(report)) => self.write_kept(alloc, kept, report, target),
+            Question::Report(Report::Heap(report)) => self.write_cached(
+                alloc, kept, report, target,
+            ),
             Question::Report(report) => {
                 self.write_report(alloc, &mut kept.references, report, target)
             },
@@ -235,10 +237,10 @@ impl<O: Objects<Fault = PassFault> + Drop> PassedAnswers<'_, O> {
     }
 }
 
-impl<O: Objects<Fault = PassFault> + Drop> Answers for PassedAnswers<'_, O> {
+impl<O: Objects<Fault = InPartsFault> + Drop> Answers for PassedAnswers<'_, O> {
     ghost use Rattle.hprof_heap.specs.HeapFacts.{facts_of, size_of};
     ghost use Rattle.hprof_rows.specs.HeapValue.{HeapValue};
-    ghost use Rattle.hprof_retained.specs.KeptReferences.{AreKeptReferences};
+    ghost use Rattle.hprof_retained.specs.CachedReferences.{AreCachedReferences};
     ghost use Rattle.hprof_ask.specs.HeapAnswers.{IsHeapAnswer};
     ghost use Rattle.hprof_ask.specs.OneHeapAnswer.{one_heap_answer};
     ghost use Rattle.hprof_large.specs.SomeAnswer.{some_answer_of_whole};
@@ -254,18 +256,18 @@ impl<O: Objects<Fault = PassFault> + Drop> Answers for PassedAnswers<'_, O> {
 
     ghost keeps = { λ it kept. ((heap : HeapValue) → IsWholeHeap it.heap.now (O.make_up it.objects) heap
         → AreReports it.summaries.now.items heap.ids heap.facts kept.texts)
-        × AreKeptReferences (O.make_up it.objects (size_of it.heap.now) (facts_of it.heap.now))
+        × AreCachedReferences (O.make_up it.objects (size_of it.heap.now) (facts_of it.heap.now))
         (O.agree it.objects (size_of it.heap.now) (facts_of it.heap.now)) (size_of it.heap.now) kept.references };
 
-    type Kept = KeptAnswers;
+    type Cache = CachedAnswers;
 
     fn answer<W: Target>(
         &self,
         alloc: Global,
-        kept: &mut KeptAnswers,
+        kept: &mut CachedAnswers,
         question: Question<'_>,
         target: &mut W,
-    ) -> Result<(), DialogueStop> {
+    ) -> Result<(), DialogueFault> {
         match self.write_reply(alloc, kept, question, target) {
             Ok(()) => answer_of(write_str(behind_reply(question), target)),
             Err(stop) => Err(stop),

@@ -6,7 +6,7 @@ ghost use Rattle.hprof_stream.specs.declared.summary.PartSummary.{PartSummary};
 ghost use Rattle.hprof_heap.specs.Heap.{heap_of};
 ghost use Rattle.hprof_heap.specs.HeapFacts.{facts_of, size_of};
 ghost use Rattle.hprof_histogram.specs.Known.{MadeUpWith};
-ghost use Rattle.hprof_retained.specs.KeptReferences.{AreKeptReferences};
+ghost use Rattle.hprof_retained.specs.CachedReferences.{AreCachedReferences};
 ghost use Rattle.hprof_making.specs.Over.{EndsOver, heap_with};
 ghost use Rattle.hprof_ask.specs.Report.{IsReportText, RefusesReport};
 ghost use Rattle.hprof_ask.specs.Summarised.{Holds};
@@ -16,13 +16,13 @@ use crate::kind::write_kind;
 use crate::node::write_node;
 use hprof_ask::Reporting;
 use hprof_devices::Target;
-use hprof_engine::{Summaries, WriteStop};
+use hprof_engine::{ProductFault, Summaries};
 use hprof_heap::Heap;
 use hprof_histogram::CountedKinds;
 use hprof_making::PassProduct;
-use hprof_passes::{Objects, PassStop};
+use hprof_passes::{Objects, PassFault};
 use hprof_questions::{HeapReport, KindReport, NodeReport, Report};
-use hprof_retained::KeptReferences;
+use hprof_retained::CachedReferences;
 use hprof_stream::PartSummary;
 use std::alloc::{AllocError, Global};
 
@@ -81,12 +81,12 @@ pub(crate) fn write_report_over<O: Objects, W: Target>(
     kept: &Vec<PartSummary>,
     heap: &Heap,
     objects: &O,
-    references: &mut KeptReferences,
+    references: &mut CachedReferences,
     report: Report<'_>,
     known: Option<CountedKinds>,
     target: &mut W,
-) -> Result<(), PassStop<WriteStop, O::Fault>>
-    requires references { AreKeptReferences (O.make_up objects.now (size_of heap.now) (facts_of heap.now))
+) -> Result<(), PassFault<ProductFault, O::Fault>>
+    requires references { AreCachedReferences (O.make_up objects.now (size_of heap.now) (facts_of heap.now))
         (O.agree objects.now (size_of heap.now) (facts_of heap.now)) (size_of heap.now) references.old }
     requires agree { IsSome known → O.agree objects.now (size_of heap.now) (facts_of heap.now) }
     requires well { W.health target.old ≡ Well }
@@ -95,7 +95,7 @@ pub(crate) fn write_report_over<O: Objects, W: Target>(
         (O.agree objects.now (size_of heap.now) (facts_of heap.now)) (O.tells objects.now (size_of heap.now) (facts_of heap.now))
         (λ all. IsReportText report.entry summaries (heap_with (heap_of heap.now) all))
         (λ refusal all. RefusesReport all report.entry refusal) W.written W.health target.old target.new result }
-    ensures references { AreKeptReferences (O.make_up objects.now (size_of heap.now) (facts_of heap.now))
+    ensures references { AreCachedReferences (O.make_up objects.now (size_of heap.now) (facts_of heap.now))
         (O.agree objects.now (size_of heap.now) (facts_of heap.now)) (size_of heap.now) references.new }
 {
     match report {
@@ -149,8 +149,8 @@ impl PassProduct for PassedReport<'_> {
         objects: &O,
         known: Option<CountedKinds>,
         target: &mut W,
-    ) -> Result<(), PassStop<WriteStop, O::Fault>> {
-        let mut references = KeptReferences::for_one();
+    ) -> Result<(), PassFault<ProductFault, O::Fault>> {
+        let mut references = CachedReferences::for_one();
         write_report_over(
             alloc,
             kept,

@@ -96,7 +96,7 @@ impl KnownLayouts {
     /// Takes the first class dump of a class, and returns the classes whose layouts become known by it, each once.
     ///
     /// Identifiers have the size `ids`. If memory runs out, the answer is `AllocError` and the known layouts are unspecified.
-    pub fn come(&mut self, dump: &ClassDump<'_>, ids: IdSize) -> Result<Vec<u64>, AllocError>
+    pub fn add_class(&mut self, dump: &ClassDump<'_>, ids: IdSize) -> Result<Vec<u64>, AllocError>
         ensures ok { OnOk result ((facts more : List FactValue) → Knows ids facts self.old → HasNoDump facts dump.now.id
             → HasDumpMore facts (class_value dump.now) more → Knows ids more self.new) }
         ensures woken { IfOk result (λ woken. (facts more : List FactValue) → Knows ids facts self.old → HasNoDump facts dump.now.id
@@ -258,7 +258,7 @@ impl KnownLayouts {
     /// `bytes` are those of the instance. There are no references if the layout is not known, or has another number of bytes. The class is
     /// looked up once. If memory runs out, the answer is `AllocError` and the contents of `references` are unspecified.
     #[inline(always)]
-    pub fn lay(
+    pub fn set_references(
         &self,
         class: u64,
         bytes: &[u8],

@@ -16,7 +16,7 @@ pub fn known_layouts(alloc: Global, heap: &Heap) -> Result<KnownLayouts, AllocEr
     let mut known = KnownLayouts::new(alloc);
     for fact in table_facts(heap, Table::Classes) {
         if let Some(dump) = to_class_dump(&fact) {
-            known.come(&dump, ids)?;
+            known.add_class(&dump, ids)?;
         }
     }
     Ok(known)

@@ -41,7 +41,7 @@
 //!   of C's plan: `c` lies after 8 + 1 bytes and 2 + 1 fields, and nothing is left above. It does so if the plan already has a reference,
 //!   and both together have at most 32.
 //!
-//! Instances are laid by `KnownLayouts::lay`:
+//! Instances are laid by `KnownLayouts::set_references`:
 //!
 //! - An instance of A has 13 bytes. A's plan is enough to lay it: the identifiers at the offsets 4 and 9 are its references, those of the
 //!   fields at the places 1 and 3.

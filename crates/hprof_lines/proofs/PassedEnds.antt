@@ -5,21 +5,21 @@ use Rattle.std.specs.Io.KnownBytes.{Appends}
 use Rattle.std.proofs.KnownBytes.{Appends-nil}
 use Rattle.hprof_devices.specs.declared.health.Health.{Health}
 use Rattle.hprof_items.specs.FactValue.{FactValue}
-use Rattle.hprof_passes.specs.declared.pass_stop.PassStop.{PassStop}
-use Rattle.hprof_passes.specs.declared.pass_stop.PassStop.TheVariants.{Sink}
-use Rattle.hprof_engine.specs.declared.product.WriteStop.{WriteStop}
-use Rattle.hprof_engine.specs.declared.product.WriteStop.TheVariants as stops
+use Rattle.hprof_passes.specs.declared.pass_fault.PassFault.{PassFault}
+use Rattle.hprof_passes.specs.declared.pass_fault.PassFault.TheVariants.{Sink}
+use Rattle.hprof_engine.specs.declared.product.ProductFault.{ProductFault}
+use Rattle.hprof_engine.specs.declared.product.ProductFault.TheVariants as stops
 use Rattle.hprof_lines.specs.Passed.{EndsPassed}
 use Rattle.hprof_lines.specs.Stopping.{LeavesTarget, WritesText}
 
 -- the answer of writing as that of the report
-abbrev pub as_passed : {A F : Type 0} → Result A WriteStop → Result A (PassStop WriteStop F)
+abbrev pub as_passed : {A F : Type 0} → Result A ProductFault → Result A (PassFault ProductFault F)
 as_passed (Ok done) = Ok done
 as_passed (Err stop) = Err (Sink stop)
 
 module _ {W F : Type 0} (MakeUp : List FactValue → Type 0) (agree : Type 0) (tells : F → Type 0) (IsText : List FactValue → List ℕ → Type 0)
     (written : W → Option (List ℕ)) (well : W → Health) (old new : W) where
-  pub ends_passed : (r : Result (Unit {0}) WriteStop) → agree
+  pub ends_passed : (r : Result (Unit {0}) ProductFault) → agree
       → ((all : List FactValue) → MakeUp all → (text : List ℕ) × IsText all text × WritesText (written old) (written new) r text)
       → LeavesTarget r (well new) → EndsPassed MakeUp agree tells IsText written well old new (as_passed r)
   ends_passed (Ok done) agreed texts health = (agreed, texts, health)
@@ -38,7 +38,7 @@ module _ {W F : Type 0} (MakeUp : List FactValue → Type 0) (agree : Type 0) (t
 module _ {W : Type 0} (MakeUp : List FactValue → Type 0) (agree : Type 0) (tells : Infallible → Type 0)
     (IsText : List FactValue → List ℕ → Type 0) (written : W → Option (List ℕ)) (well : W → Health) (old new : W) (facts : List FactValue)
     (make : MakeUp facts) (some : (text : List ℕ) × IsText facts text) where
-  stops_in_memory : (kept : WriteStop) → EndsPassed MakeUp agree tells IsText written well old new {A = Unit {0}} (Err (Sink kept))
+  stops_in_memory : (kept : ProductFault) → EndsPassed MakeUp agree tells IsText written well old new {A = Unit {0}} (Err (Sink kept))
       → (text : List ℕ) × IsText facts text × WritesText {A = Unit {0}} (written old) (written new) (Err kept) text
   stops_in_memory (stops.Write fault) ends =
       let front = ends.1 facts make in (front.0, front.3, (front.1, front.2, front.4))
@@ -58,9 +58,9 @@ module _ {W : Type 0} (MakeUp : List FactValue → Type 0) (agree : Type 0) (tel
   stops_in_memory (stops.Refused refusal) ends = absurd ends
 
   -- a report on objects in memory stops as its writing does
-  pub in_memory : (stop : PassStop WriteStop Infallible) (kept : WriteStop) → stop ≡ Sink kept
+  pub in_memory : (stop : PassFault ProductFault Infallible) (kept : ProductFault) → stop ≡ Sink kept
       → EndsPassed MakeUp agree tells IsText written well old new {A = Unit {0}} (Err stop)
       → (text : List ℕ) × IsText facts text × WritesText {A = Unit {0}} (written old) (written new) (Err kept) text
   in_memory stop kept is ends = stops_in_memory kept
-      (subst (λ (s : PassStop WriteStop Infallible). EndsPassed MakeUp agree tells IsText written well old new {A = Unit {0}} (Err s))
+      (subst (λ (s : PassFault ProductFault Infallible). EndsPassed MakeUp agree tells IsText written well old new {A = Unit {0}} (Err s))
       is ends)

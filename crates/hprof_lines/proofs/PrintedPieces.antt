@@ -3,13 +3,13 @@ use Rattle.std.proofs.Common.{◌≡◌, ℕ, List, [], ◌∷◌, ◌++◌, Opt
 use Rattle.hprof_text.specs.Printed.{printed_unit}
 use Rattle.std.specs.Io.KnownBytes.{Appends}
 use Rattle.hprof_devices.proofs.Writes.{Pushed, WritesFront}
-use Rattle.hprof_engine.specs.declared.product.WriteStop.{WriteStop}
+use Rattle.hprof_engine.specs.declared.product.ProductFault.{ProductFault}
 use Rattle.hprof_lines.specs.Stopping.{WritesText}
 use Rattle.hprof_lines.proofs.TextWriting.{text_then}
 use Rattle.hprof_lines.specs.Printed.{printed_units}
 
 -- what was pushed, and then what is left as far as it went
-pub pushed_then : {A : Type 0} (r : Result A WriteStop) (old mid new : Option (List ℕ)) (all rest : List ℕ) → Pushed old mid all rest
+pub pushed_then : {A : Type 0} (r : Result A ProductFault) (old mid new : Option (List ℕ)) (all rest : List ℕ) → Pushed old mid all rest
     → WritesText mid new r rest → WritesText old new r all
 pushed_then r old mid new all rest p writes =
     subst (WritesText old new r) (sym p.parts) (text_then r old mid new p.front rest p.appended writes)

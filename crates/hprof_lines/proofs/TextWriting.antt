@@ -8,37 +8,37 @@ use Rattle.hprof_items.specs.FactValue.{FactValue}
 use Rattle.hprof_heap.specs.declared.heap.Heap.{Heap}
 use Rattle.hprof_heap.specs.Heap.{heap_of}
 use Rattle.hprof_heap.specs.HeapFacts.{facts_of, size_of}
-use Rattle.hprof_engine.specs.declared.product.WriteStop.{WriteStop}
+use Rattle.hprof_engine.specs.declared.product.ProductFault.{ProductFault}
 use Rattle.hprof_lines.specs.Line.{each_line}
-use Rattle.hprof_engine.specs.declared.product.WriteStop.TheVariants as stops
+use Rattle.hprof_engine.specs.declared.product.ProductFault.TheVariants as stops
 use Rattle.hprof_engine.specs.Makes.{EndsWriting}
 use Rattle.hprof_devices.specs.declared.health.Health.{Health}
 use Rattle.std.specs.Prelude.{⊤, map}
 use Rattle.hprof_lines.specs.Stopping.{WritesText, LeavesTarget}
 
-module _ {A : Type 0} (r : Result A WriteStop) where
+module _ {A : Type 0} (r : Result A ProductFault) where
   -- nothing was written before it stopped
-  pub text_unwritten : (old : Option (List ℕ)) (stop : WriteStop) (text : List ℕ) → r ≡ Err stop → WritesText old old r text
+  pub text_unwritten : (old : Option (List ℕ)) (stop : ProductFault) (text : List ℕ) → r ≡ Err stop → WritesText old old r text
   text_unwritten old stop text e = rw e (0, omega arith, Appends-nil old)
 
   -- a front was written when it stopped
-  pub text_stopped : (old new : Option (List ℕ)) (stop : WriteStop) (text : List ℕ) → r ≡ Err stop → WritesFront old new text
+  pub text_stopped : (old new : Option (List ℕ)) (stop : ProductFault) (text : List ℕ) → r ≡ Err stop → WritesFront old new text
       → WritesText old new r text
   text_stopped old new stop text e front = rw e front
 
   -- a front of the first text was
-  pub text_stops : (old new : Option (List ℕ)) (stop : WriteStop) (a b : List ℕ) → r ≡ Err stop → WritesFront old new a
+  pub text_stops : (old new : Option (List ℕ)) (stop : ProductFault) (a b : List ℕ) → r ≡ Err stop → WritesFront old new a
       → WritesText old new r (a ++ b)
   text_stops old new stop a b e front = rw e (WritesFront-more old new a b front)
 
   -- all of the first text was, and nothing of the next
-  pub text_stops_between : (old new : Option (List ℕ)) (stop : WriteStop) (a b : List ℕ) → r ≡ Err stop → Appends old new a
+  pub text_stops_between : (old new : Option (List ℕ)) (stop : ProductFault) (a b : List ℕ) → r ≡ Err stop → Appends old new a
       → WritesText old new r (a ++ b)
   text_stops_between old new stop a b e first =
       rw e (WritesFront-then old new new a b first (0, omega arith, Appends-nil new))
 
 -- the first text was written, and then the next as far as it went
-pub text_then : {A : Type 0} (r : Result A WriteStop) (old mid new : Option (List ℕ)) (a b : List ℕ) → Appends old mid a
+pub text_then : {A : Type 0} (r : Result A ProductFault) (old mid new : Option (List ℕ)) (a b : List ℕ) → Appends old mid a
     → WritesText mid new r b
     → WritesText old new r (a ++ b)
 text_then (Ok done) old mid new a b first second = Appends-trans old mid new a b first second
@@ -46,7 +46,7 @@ text_then (Err stop) old mid new a b first second = WritesFront-then old mid new
 
 -- ---- what is pushed
 
-module _ {A : Type 0} (r : Result A WriteStop) (stop : WriteStop) (e : r ≡ Err stop) (old mid : Option (List ℕ)) (all rest : List ℕ)
+module _ {A : Type 0} (r : Result A ProductFault) (stop : ProductFault) (e : r ≡ Err stop) (old mid : Option (List ℕ)) (all rest : List ℕ)
     (p : Pushed old mid all rest) where
   -- it stopped between two pieces
   pub pushed_stops : WritesText old mid r all
@@ -68,7 +68,7 @@ lines_without_places line place (x ∷ xs) = ap (λ (lines : List (List ℕ)). l
 -- ---- how the writing of a report ends
 
 pub text_ends : {W : Type 0} (written : W → Option (List ℕ)) (well : W → Health) (IsText : List ℕ → Type 0) (before after : W)
-    (r : Result (Unit {0}) WriteStop) (text : List ℕ)
+    (r : Result (Unit {0}) ProductFault) (text : List ℕ)
     → IsText text → WritesText (written before) (written after) r text → LeavesTarget r (well after)
     → EndsWriting written well IsText (λ refusal. ⊥) ⊤ before after r
 text_ends written well IsText before after (Ok done) text is writes health = (health, (text, is, writes))
@@ -78,7 +78,7 @@ text_ends written well IsText before after (Err (stops.Refused refusal)) text is
 
 -- the same of a report that is told by the facts and the size of a heap
 pub report_ends : {W : Type 0} (written : W → Option (List ℕ)) (well : W → Health) (IsText : IdSize → List FactValue → List ℕ → Type 0)
-    (heap : Heap) (before after : W) (r : Result (Unit {0}) WriteStop)
+    (heap : Heap) (before after : W) (r : Result (Unit {0}) ProductFault)
     → (text : List ℕ) × IsText (size_of heap) (facts_of heap) text × WritesText (written before) (written after) r text
     → LeavesTarget r (well after)
     → EndsWriting written well (IsText (heap_of heap).ids (heap_of heap).facts) (λ refusal. ⊥) ⊤ before after r

@@ -6,13 +6,13 @@ use Rattle.hprof_devices.specs.declared.health.Health.TheVariants.{Well}
 use Rattle.hprof_devices.specs.declared.health.WriteFault.{WriteFault}
 use Rattle.hprof_devices.specs.Device.{health_after}
 use Rattle.hprof_items.specs.FactValue.{FactValue}
-use Rattle.hprof_passes.specs.declared.pass_stop.PassStop.{PassStop}
-use Rattle.hprof_passes.specs.declared.pass_stop.PassStop.TheVariants.{Sink, Lost}
-use Rattle.hprof_engine.specs.declared.product.WriteStop.{WriteStop}
-use Rattle.hprof_engine.specs.declared.product.WriteStop.TheVariants as stops
+use Rattle.hprof_passes.specs.declared.pass_fault.PassFault.{PassFault}
+use Rattle.hprof_passes.specs.declared.pass_fault.PassFault.TheVariants.{Sink, Lost}
+use Rattle.hprof_engine.specs.declared.product.ProductFault.{ProductFault}
+use Rattle.hprof_engine.specs.declared.product.ProductFault.TheVariants as stops
 
 -- the fault with which a report stops, where a pass before the first byte stopped
-abbrev pub stop_of_pass : {E F : Type 0} → PassStop E F → PassStop WriteStop F
+abbrev pub stop_of_pass : {E F : Type 0} → PassFault E F → PassFault ProductFault F
 stop_of_pass (Sink fault) = Sink stops.OutOfMemory
 stop_of_pass (Lost fault) = Lost fault
 
@@ -32,7 +32,7 @@ WritesSome MakeUp IsText old new = (all : List FactValue) → MakeUp all
 --   written, well: what a writer holds, where it tells, and how it is doing;  old, new: the writer
 module _ {W F : Type 0} (MakeUp : List FactValue → Type 0) (agree : Type 0) (tells : F → Type 0) (IsText : List FactValue → List ℕ → Type 0)
     (written : W → Option (List ℕ)) (well : W → Health) (old new : W) where
-  abbrev pub EndsPassed : {A : Type 0} → Result A (PassStop WriteStop F) → Type 0
+  abbrev pub EndsPassed : {A : Type 0} → Result A (PassFault ProductFault F) → Type 0
   EndsPassed (Ok done) = agree × WritesWhole MakeUp IsText (written old) (written new) × (well new ≡ Well)
   EndsPassed (Err (Lost fault)) = tells fault × (new ≡ old)
   EndsPassed (Err (Sink stops.OutOfMemory)) =
@@ -42,7 +42,7 @@ module _ {W F : Type 0} (MakeUp : List FactValue → Type 0) (agree : Type 0) (t
   EndsPassed (Err (Sink (stops.Refused refusal))) = ⊥
 
   -- the same of a report that takes no memory itself
-  abbrev pub EndsChecked : {A : Type 0} → Result A (PassStop WriteFault F) → Type 0
+  abbrev pub EndsChecked : {A : Type 0} → Result A (PassFault WriteFault F) → Type 0
   EndsChecked (Ok done) = agree × WritesWhole MakeUp IsText (written old) (written new) × (well new ≡ Well)
   EndsChecked (Err (Lost fault)) = tells fault × (new ≡ old)
   EndsChecked (Err (Sink fault)) = agree × WritesSome MakeUp IsText (written old) (written new) × (well new ≡ health_after fault)

@@ -10,10 +10,10 @@ ghost use Rattle.hprof_lines.specs.ObjectsText.{IsObjectsText, object_line, obje
 use crate::lines::write_str;
 use crate::passed::stop_of_pass;
 use hprof_devices::Target;
-use hprof_engine::WriteStop;
+use hprof_engine::ProductFault;
 use hprof_heap::{Heap, holds_of_heap};
 use hprof_histogram::{Kind, SizedObject, objects_of};
-use hprof_passes::{InHeap, Objects, PassStop};
+use hprof_passes::{InHeap, Objects, PassFault};
 use hprof_text::push_id;
 use itoa::Buffer;
 use std::alloc::{AllocError, Global};
@@ -35,7 +35,7 @@ pub fn write_object_lines<W: Target>(
     alloc: Global,
     objects: &[SizedObject],
     target: &mut W,
-) -> Result<(), WriteStop>
+) -> Result<(), ProductFault>
     requires { W.health target.old ≡ Well }
     ensures bytes { WritesText (W.written target.old) (W.written target.new) result (objects_text objects.now) }
     ensures health { LeavesTarget result (W.health target.new) }
@@ -63,19 +63,16 @@ pub fn write_objects_over<O: Objects, W: Target>(
     objects: &O,
     kind: Kind,
     target: &mut W,
-) -> Result<(), PassStop<WriteStop, O::Fault>>
+) -> Result<(), PassFault<ProductFault, O::Fault>>
     requires { W.health target.old ≡ Well }
     ensures { EndsPassed (O.make_up objects.now (size_of heap.now) (facts_of heap.now))
         (O.agree objects.now (size_of heap.now) (facts_of heap.now)) (O.tells objects.now (size_of heap.now) (facts_of heap.now))
         (λ all. IsObjectsText (size_of heap.now) all kind) W.written W.health target.old target.new result }
 {
-    let found = match objects_of(alloc, heap, objects, kind) {
-        Ok(found) => found,
-        Err(stop) => return Err(stop_of_pass(stop)),
-    };
+    let found = objects_of(alloc, heap, objects, kind).map_err(stop_of_pass)?;
     match write_object_lines(alloc, &found, target) {
         Ok(()) => Ok(()),
-        Err(stop) => Err(PassStop::Sink(stop)),
+        Err(stop) => Err(PassFault::Sink(stop)),
     }
 }
 
@@ -86,7 +83,7 @@ pub fn write_objects<W: Target>(
     heap: &Heap,
     kind: Kind,
     target: &mut W,
-) -> Result<(), WriteStop>
+) -> Result<(), ProductFault>
     requires { W.health target.old ≡ Well }
     ensures bytes { (text : List ℕ) × IsObjectsText (size_of heap.now) (facts_of heap.now) kind text
         × WritesText (W.written target.old) (W.written target.new) result text }

@@ -7,7 +7,7 @@ ghost use Rattle.hprof_lines.specs.Stopping.{LeavesTarget, WritesText};
 ghost use Rattle.hprof_lines.specs.Printed.{printed_units};
 
 use hprof_devices::{Target, push_all};
-use hprof_engine::WriteStop;
+use hprof_engine::ProductFault;
 use hprof_naming::Units;
 use hprof_text::push_unit;
 use std::alloc::Global;
@@ -16,7 +16,7 @@ use std::alloc::Global;
 const PIECE_LEN: usize = 4096;
 
 /// Writes bytes, and keeps none of them.
-fn pass_on<W: Target>(text: &mut Vec<u8>, target: &mut W) -> Result<(), WriteStop>
+fn pass_on<W: Target>(text: &mut Vec<u8>, target: &mut W) -> Result<(), ProductFault>
     requires { W.health target.old ≡ Well }
     ensures bytes { WritesText (W.written target.old) (W.written target.new) result text.old.items }
     ensures empty { text.new.items ≡ [] }
@@ -26,7 +26,7 @@ fn pass_on<W: Target>(text: &mut Vec<u8>, target: &mut W) -> Result<(), WriteSto
     text.clear();
     match pushed {
         Ok(()) => Ok(()),
-        Err(fault) => Err(WriteStop::Write(fault)),
+        Err(fault) => Err(ProductFault::Write(fault)),
     }
 }
 
@@ -35,7 +35,7 @@ pub fn write_units<W: Target>(
     alloc: Global,
     units: Units<'_>,
     target: &mut W,
-) -> Result<(), WriteStop>
+) -> Result<(), ProductFault>
     requires { W.health target.old ≡ Well }
     ensures bytes { WritesText (W.written target.old) (W.written target.new) result
         (printed_units (units_of units.entry.coding units.entry.bytes.now)) }

@@ -8,18 +8,18 @@ use Rattle.hprof_stream.specs.declared.limits.Limits.{Limits}
 use Rattle.hprof_stream.specs.declared.summary.PartSummary.{PartSummary}
 use Rattle.hprof_rows.specs.declared.key.Key.TheVariants as keys
 use Rattle.hprof_rows.specs.HeapValue.{HeapValue}
-use Rattle.hprof_passes.specs.declared.pass_stop.PassStop.{PassStop}
-use Rattle.hprof_passes.specs.declared.pass_stop.PassStop.TheVariants.{Sink, Lost}
-use Rattle.hprof_engine.specs.declared.product.WriteStop.{WriteStop}
-use Rattle.hprof_engine.specs.declared.product.WriteStop.TheVariants as stops
-use Rattle.hprof_engine.specs.declared.product_refusal.ProductRefusal.{ProductRefusal}
+use Rattle.hprof_passes.specs.declared.pass_fault.PassFault.{PassFault}
+use Rattle.hprof_passes.specs.declared.pass_fault.PassFault.TheVariants.{Sink, Lost}
+use Rattle.hprof_engine.specs.declared.product.ProductFault.{ProductFault}
+use Rattle.hprof_engine.specs.declared.product.ProductFault.TheVariants as stops
+use Rattle.hprof_engine.specs.declared.heap_fault.HeapFault.{HeapFault}
 use Rattle.hprof_engine.specs.declared.tool_fault.ToolFault.{ToolFault}
 use Rattle.hprof_engine.specs.Joining.{Agree, AreReadOut, Disagree, Tell}
 use Rattle.hprof_engine.specs.Makes.{IsMadeOf, WritesAll, WritesFront, fault_of_stop}
 use Rattle.hprof_engine.specs.Summaries.{AreSummaries}
 use Rattle.hprof_engine.proofs.Making.{stopped}
-use Rattle.hprof_stored.specs.declared.pass_fault.PassFault.{PassFault}
-use Rattle.hprof_stored.specs.declared.pass_fault.PassFault.TheVariants as faults
+use Rattle.hprof_stored.specs.declared.in_parts_fault.InPartsFault.{InPartsFault}
+use Rattle.hprof_stored.specs.declared.in_parts_fault.InPartsFault.TheVariants as faults
 use Rattle.hprof_stored.specs.InParts.{IsOfSame}
 use Rattle.hprof_stored.specs.Reading.{ReadsStored}
 use Rattle.hprof_stored.specs.Storing.{HaveObject}
@@ -30,16 +30,17 @@ use Rattle.hprof_lines.specs.Passed.{WritesSome, WritesWhole}
 use Rattle.hprof_making.specs.Over.{EndsOver, heap_with}
 
 -- what the objects make up with the facts of the heap, that they make up some facts, and what their faults tell of the parts
-module _ (heap : HeapValue) (MakeUp : List FactValue → Type 0) (agreed : Type 0) (Tells : PassFault → Type 0) (told : List (List ℕ)) where
+module _ (heap : HeapValue) (MakeUp : List FactValue → Type 0) (agreed : Type 0) (Tells : InPartsFault → Type 0)
+    (told : List (List ℕ)) where
   pub record AreOfParts : Type 0 where
     pub agree : agreed → (all : List FactValue) × Agree told heap.ids heap.millis all
     pub made_up : (ids : IdSize) (millis : ℕ) (all : List FactValue) → Agree told ids millis all
         → (ids ≡ heap.ids) × (millis ≡ heap.millis) × MakeUp all
     pub contents : (id : ℕ) → Tells (faults.TwoContents id) → Disagree told (keys.Object id)
-    pub same : (fault : PassFault) → Tells fault → IsOfSame fault
+    pub same : (fault : InPartsFault) → Tells fault → IsOfSame fault
 
   -- what a fault says of the parts
-  pub of_loss : AreOfParts → (fault : PassFault) → Tells fault → IsOfLoss told fault
+  pub of_loss : AreOfParts → (fault : InPartsFault) → Tells fault → IsOfLoss told fault
   of_loss are (faults.TwoContents id) tells = are.contents id tells
   of_loss are faults.TooMany tells = are.same faults.TooMany tells
   of_loss are faults.OutOfMemory tells = tt
@@ -79,13 +80,13 @@ module _ (heap : HeapValue) (MakeUp : List FactValue → Type 0) (agreed : Type 
 
 module _ {R W : Type 0} (left : R → Option (List ℕ)) (health : R → Health) (pulls : R → ℕ) (limits : Limits) (old new : List R)
     (written : W → Option (List ℕ)) (well : W → Health) (IsText : List PartSummary → HeapValue → List ℕ → Type 0)
-    (Refuses : ProductRefusal → HeapValue → Type 0) (before after : W) (some : old ≡ [] → ⊥)
+    (Refuses : HeapFault → HeapValue → Type 0) (before after : W) (some : old ≡ [] → ⊥)
     (stored : ReadsStored left health pulls limits old new None) (out : AreReadOut left health pulls limits old new (length old))
     (was_well : well before ≡ healths.Well)
-    (heap : HeapValue) (MakeUp : List FactValue → Type 0) (agreed : Type 0) (Tells : PassFault → Type 0) (summaries : List PartSummary)
+    (heap : HeapValue) (MakeUp : List FactValue → Type 0) (agreed : Type 0) (Tells : InPartsFault → Type 0) (summaries : List PartSummary)
     (are : (told : List (List ℕ)) → Tell left old told → AreOfParts heap MakeUp agreed Tells told)
     (of_parts : (told : List (List ℕ)) → Tell left old told → AreSummaries told summaries) where
-  abbrev pub Ends : Result (Unit {0}) (PassStop WriteStop PassFault) → Type 0
+  abbrev pub Ends : Result (Unit {0}) (PassFault ProductFault InPartsFault) → Type 0
   Ends result =
       EndsOver MakeUp agreed Tells (λ all. IsText summaries (heap_with heap all)) (λ refusal all. Refuses refusal (heap_with heap all))
       written well before after result
@@ -107,17 +108,17 @@ module _ {R W : Type 0} (left : R → Option (List ℕ)) (health : R → Health)
       (written after) ends.1)
 
   -- the objects are lost
-  pub makes_lost : (stop : PassStop WriteStop PassFault) (fault : PassFault) → stop ≡ Lost fault → Ends (Err stop)
+  pub makes_lost : (stop : PassFault ProductFault InPartsFault) (fault : InPartsFault) → stop ≡ Lost fault → Ends (Err stop)
       → MakesSo (Some (fault_of_pass fault))
   makes_lost (Lost known) fault is ends =
       let same : known ≡ fault = cc in
-      subst (λ (f : PassFault). MakesSo (Some (fault_of_pass f))) same
+      subst (λ (f : InPartsFault). MakesSo (Some (fault_of_pass f))) same
       (pass_makes left health pulls limits old new written well IsText Refuses before after some stored out was_well ends.1 known
       (λ told tell. of_loss heap MakeUp agreed Tells told (are told tell) known ends.0))
   makes_lost (Sink stop) fault is ends = absurd cc
 
   -- writing stopped
-  stop_so : (stop : WriteStop) → Ends (Err (Sink stop)) → MakesSo (Some (fault_of_stop stop))
+  stop_so : (stop : ProductFault) → Ends (Err (Sink stop)) → MakesSo (Some (fault_of_stop stop))
   stop_so stops.OutOfMemory ends = elim ends [
     | inl same ↦ wants_behind left health pulls limits old new written well IsText Refuses before after some stored out
         (subst (λ (w : W). well w ≡ healths.Well) (sym same) was_well) (inl same)
@@ -138,8 +139,8 @@ module _ {R W : Type 0} (left : R → Option (List ℕ)) (health : R → Health)
       let all = its.agree ends.0 in
       (heap_with heap all.0, ends.1 all.0 (its.made_up heap.ids heap.millis all.0 all.1).2, all.1))
 
-  pub makes_stopped : (stop : PassStop WriteStop PassFault) (why : WriteStop) → stop ≡ Sink why → Ends (Err stop)
+  pub makes_stopped : (stop : PassFault ProductFault InPartsFault) (why : ProductFault) → stop ≡ Sink why → Ends (Err stop)
       → MakesSo (Some (fault_of_stop why))
   makes_stopped (Sink known) why is ends =
-      let same : known ≡ why = cc in subst (λ (s : WriteStop). MakesSo (Some (fault_of_stop s))) same (stop_so known ends)
+      let same : known ≡ why = cc in subst (λ (s : ProductFault). MakesSo (Some (fault_of_stop s))) same (stop_so known ends)
   makes_stopped (Lost fault) why is ends = absurd cc

@@ -15,8 +15,8 @@ use Rattle.hprof_objects.specs.declared.stored_objects.StoredObjects.{StoredObje
 use Rattle.hprof_objects.specs.StoredObjects.{IsOneStretch}
 use Rattle.hprof_engine.specs.Joining.{Agree, Disagree}
 use Rattle.hprof_stored.specs.declared.in_parts.InParts.{InParts}
-use Rattle.hprof_stored.specs.declared.pass_fault.PassFault.{PassFault}
-use Rattle.hprof_stored.specs.declared.pass_fault.PassFault.TheVariants.{TwoContents}
+use Rattle.hprof_stored.specs.declared.in_parts_fault.InPartsFault.{InPartsFault}
+use Rattle.hprof_stored.specs.declared.in_parts_fault.InPartsFault.TheVariants.{TwoContents}
 use Rattle.hprof_stored.specs.declared.stored_heap.StoredHeap.{StoredHeap}
 use Rattle.hprof_stored.specs.InParts.{AreStoredOf, HaveUnion, IsOfSame, MakeUp, TellsPass, objects_under}
 use Rattle.hprof_stored.specs.Parts.{PartStored}
@@ -64,7 +64,7 @@ module _ {R S P : Type 0} (left : R → Option (List ℕ)) (written : S → Opti
   -- no part has changed, and no scratch is damaged
   abbrev pub IsSame : Type 0
   IsSame = (readers : List R) (scratch : Option (List ℕ)) (stored : StoredHeap S) (it : InParts S P) (told : List (List ℕ))
-      (fault : PassFault) → AreStoredOf left written health bytes readers scratch stored it told
+      (fault : InPartsFault) → AreStoredOf left written health bytes readers scratch stored it told
       → TellsPass written health bytes unreadable it (size_of stored.heap) (facts_of stored.heap) fault → IsOfSame fault
 
   -- if the objects are one stretch, they have a union

@@ -15,7 +15,7 @@ use hprof_engine::ToolFault;
 use hprof_histogram::CountedKinds;
 use hprof_objects::Keeping;
 use hprof_parts::Parts;
-use hprof_passes::PassStop;
+use hprof_passes::PassFault;
 use hprof_runs::Scratch;
 use hprof_stored::laws::{stored_objects_are_those_of_the_parts, what_was_watched_is_a_pass};
 use hprof_stored::{InParts, StoredHeap, read_watched};
@@ -75,7 +75,7 @@ pub fn make_stored<M: PassProduct, R: Source, S: Scratch + Drop, P: Parts, W: Ta
     let objects = InParts::new(&objects, parts, limits);
     match write_in_parts(alloc, product, &kept, &heap, objects, known, target) {
         Ok(()) => Ok(()),
-        Err(PassStop::Sink(stop)) => Err(ToolFault::from(stop)),
-        Err(PassStop::Lost(fault)) => Err(ToolFault::from(fault)),
+        Err(PassFault::Sink(stop)) => Err(ToolFault::from(stop)),
+        Err(PassFault::Lost(fault)) => Err(ToolFault::from(fault)),
     }
 }

@@ -8,10 +8,10 @@ ghost use Rattle.hprof_histogram.specs.Known.{MadeUpWith};
 ghost use Rattle.hprof_making.specs.Over.{EndsOver, heap_with};
 
 use hprof_devices::Target;
-use hprof_engine::{Summaries, WriteStop};
+use hprof_engine::{ProductFault, Summaries};
 use hprof_heap::Heap;
 use hprof_histogram::CountedKinds;
-use hprof_passes::{Objects, PassStop};
+use hprof_passes::{Objects, PassFault};
 use std::alloc::Global;
 
 /// A report that is made of the heap that parts state, whose objects are gone through, and of the summaries of the parts. It says which
@@ -20,13 +20,13 @@ pub trait PassProduct: Summaries {
     ghost use Rattle.hprof_devices.specs.declared.health.Health.TheVariants.{Well};
     ghost use Rattle.hprof_stream.specs.declared.summary.PartSummary.{PartSummary};
     ghost use Rattle.hprof_rows.specs.HeapValue.{HeapValue};
-    ghost use Rattle.hprof_engine.specs.declared.product_refusal.ProductRefusal.{ProductRefusal};
+    ghost use Rattle.hprof_engine.specs.declared.heap_fault.HeapFault.{HeapFault};
 
     // The text is made of parts with these summaries, which state that heap.
     ghost is_text: { Self → List PartSummary → HeapValue → List ℕ → Type 0 };
 
     // The heap is refused for that reason, before the first byte.
-    ghost refuses: { Self → ProductRefusal → HeapValue → Type 0 };
+    ghost refuses: { Self → HeapFault → HeapValue → Type 0 };
 
     /// Returns whether counts of the objects by kind are of use to it.
     fn wants_counts(&self) -> bool;
@@ -48,7 +48,7 @@ pub trait PassProduct: Summaries {
         objects: &O,
         known: Option<CountedKinds>,
         target: &mut W,
-    ) -> Result<(), PassStop<WriteStop, O::Fault>>
+    ) -> Result<(), PassFault<ProductFault, O::Fault>>
         requires well { W.health target.old ≡ Well }
         requires agree { IsSome known → O.agree objects.now (size_of heap.now) (facts_of heap.now) }
         ensures { (summaries : List PartSummary) → Self.holds self.now kept.now summaries

@@ -11,13 +11,13 @@ ghost use Rattle.hprof_making.specs.Over.{EndsOver, heap_with};
 
 use crate::pass_product::PassProduct;
 use hprof_devices::Target;
-use hprof_engine::WriteStop;
+use hprof_engine::ProductFault;
 use hprof_heap::Heap;
 use hprof_histogram::CountedKinds;
 use hprof_parts::Parts;
-use hprof_passes::PassStop;
+use hprof_passes::PassFault;
 use hprof_runs::Scratch;
-use hprof_stored::{Agreed, InParts, PassFault};
+use hprof_stored::{Agreed, InParts, InPartsFault};
 use std::alloc::Global;
 
 /// Writes the product of the objects of parts. If it wants to pick some of them, all are gone through once before, so that they are known
@@ -34,7 +34,7 @@ pub(crate) fn write_in_parts<M: PassProduct, S: Scratch + Drop, P: Parts, W: Tar
     objects: InParts<'_, S, P>,
     known: Option<CountedKinds>,
     target: &mut W,
-) -> Result<(), PassStop<WriteStop, PassFault>>
+) -> Result<(), PassFault<ProductFault, InPartsFault>>
     requires well { W.health target.old ≡ Well }
     requires agree { IsSome known → HaveUnion S.written S.health P.bytes objects }
     ensures { (summaries : List PartSummary) → M.holds product.now kept.now summaries
@@ -49,7 +49,7 @@ pub(crate) fn write_in_parts<M: PassProduct, S: Scratch + Drop, P: Parts, W: Tar
     }
     let agreed = match Agreed::new(alloc, objects) {
         Ok(agreed) => agreed,
-        Err(fault) => return Err(PassStop::Lost(fault)),
+        Err(fault) => return Err(PassFault::Lost(fault)),
     };
     product.write_over(alloc, kept, heap, &agreed, known, target)
 }

@@ -15,7 +15,7 @@ ghost use Rattle.hprof_meaning.specs.Stated.{class_dumped, class_loaded, class_o
 use hprof_heap::{Heap, Table, table_facts};
 use hprof_histogram::{Kind, Row, histogram_over};
 use hprof_items::Fact;
-use hprof_passes::{Objects, PassStop};
+use hprof_passes::{Objects, PassFault};
 use std::alloc::{AllocError, Global};
 
 /// Appends the class whose objects a row counts, if they are of a class.
@@ -111,19 +111,16 @@ pub(crate) fn all_classes<O: Objects>(
     alloc: Global,
     heap: &Heap,
     objects: &O,
-) -> Result<Vec<u64>, PassStop<AllocError, O::Fault>>
+) -> Result<Vec<u64>, PassFault<AllocError, O::Fault>>
     ensures all { Finds (O.make_up objects.now (size_of heap.now) (facts_of heap.now))
         (O.agree objects.now (size_of heap.now) (facts_of heap.now))
         (O.tells objects.now (size_of heap.now) (facts_of heap.now)) (λ all classes. AreAll (IsClass all) classes.items) result }
     ensures ascend { IfOk result (λ classes. IsStrictlyIncreasing classes.items) }
 {
-    let rows = match histogram_over(alloc, heap, objects, None) {
-        Ok(rows) => rows,
-        Err(stop) => return Err(stop),
-    };
+    let rows = histogram_over(alloc, heap, objects, None)?;
     match classes_of(alloc, heap, &rows) {
         Ok(classes) => Ok(classes),
-        Err(fault) => Err(PassStop::Sink(fault)),
+        Err(fault) => Err(PassFault::Sink(fault)),
     }
 }
 

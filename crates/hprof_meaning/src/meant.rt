@@ -12,7 +12,7 @@ use crate::gathering::{all_classes, dumped_classes};
 use crate::judging::meant_among;
 use hprof_heap::{Heap, holds_of_heap};
 use hprof_naming::{ClassNames, MeantLabel};
-use hprof_passes::{InHeap, Objects, PassStop};
+use hprof_passes::{InHeap, Objects, PassFault};
 use std::alloc::{AllocError, Global};
 
 /// Returns the identifiers of all classes with the label that is meant, ascending, each once. The heap has all facts but the objects.
@@ -30,7 +30,7 @@ pub fn classes_meant_over<O: Objects>(
     objects: &O,
     names: &ClassNames,
     meant: &MeantLabel<'_>,
-) -> Result<Vec<u64>, PassStop<AllocError, O::Fault>>
+) -> Result<Vec<u64>, PassFault<AllocError, O::Fault>>
     requires { AreClassNames (facts_of heap.now) names.now }
     ensures meant { (word : List ℕ) → IsMeantBy word meant.now
         → Finds (O.make_up objects.now (size_of heap.now) (facts_of heap.now)) (O.agree objects.now (size_of heap.now) (facts_of heap.now))
@@ -38,13 +38,10 @@ pub fn classes_meant_over<O: Objects>(
     ensures ascend { (word : List ℕ) → IsMeantBy word meant.now → IfOk result (λ classes. IsStrictlyIncreasing classes.items) }
 {
     holds_of_heap(heap);
-    let classes = match all_classes(alloc, heap, objects) {
-        Ok(classes) => classes,
-        Err(stop) => return Err(stop),
-    };
+    let classes = all_classes(alloc, heap, objects)?;
     match meant_among(alloc, heap, names, meant, &classes) {
         Ok(found) => Ok(found),
-        Err(fault) => Err(PassStop::Sink(fault)),
+        Err(fault) => Err(PassFault::Sink(fault)),
     }
 }
 

@@ -10,7 +10,7 @@ ghost use Rattle.hprof_meaning.specs.NamedText.{IsNamedText, class_line, class_l
 
 use hprof_describe::node_text;
 use hprof_devices::Target;
-use hprof_engine::WriteStop;
+use hprof_engine::ProductFault;
 use hprof_heap::{Heap, holds_of_heap};
 use hprof_lines::write_line;
 use hprof_naming::ClassNames;
@@ -45,7 +45,7 @@ fn write_classes<W: Target>(
     names: &ClassNames,
     classes: &[u64],
     target: &mut W,
-) -> Result<(), WriteStop>
+) -> Result<(), ProductFault>
     requires named { AreClassNames (facts_of heap.now) names.now }
     requires well { W.health target.old ≡ Well }
     ensures bytes { (found : Findings) → AreFindings (size_of heap.now) (facts_of heap.now) found
@@ -70,7 +70,7 @@ pub fn write_classes_of_name<W: Target>(
     names: &ClassNames,
     classes: &[u64],
     target: &mut W,
-) -> Result<(), WriteStop>
+) -> Result<(), ProductFault>
     requires named { AreClassNames (facts_of heap.now) names.now }
     requires well { W.health target.old ≡ Well }
     ensures bytes { (text : List ℕ) × IsNamedText (size_of heap.now) (facts_of heap.now) classes.now text

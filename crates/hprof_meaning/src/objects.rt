@@ -9,11 +9,11 @@ ghost use Rattle.hprof_lines.specs.Stopping.{LeavesTarget, WritesText};
 ghost use Rattle.hprof_meaning.specs.ObjectsOfText.{IsObjectsOfText};
 
 use hprof_devices::Target;
-use hprof_engine::WriteStop;
+use hprof_engine::ProductFault;
 use hprof_heap::{Heap, holds_of_heap};
 use hprof_histogram::{Chosen, chosen_objects};
 use hprof_lines::{stop_of_pass, write_object_lines};
-use hprof_passes::{InHeap, Objects, PassStop};
+use hprof_passes::{InHeap, Objects, PassFault};
 use std::alloc::Global;
 
 /// Writes a line for each instance and each array of objects of the classes, with the bytes of the object, the largest first, and nothing
@@ -31,7 +31,7 @@ pub fn write_objects_of_classes_over<O: Objects, W: Target>(
     objects: &O,
     classes: &[u64],
     target: &mut W,
-) -> Result<(), PassStop<WriteStop, O::Fault>>
+) -> Result<(), PassFault<ProductFault, O::Fault>>
     requires ascend { IsStrictlyIncreasing classes.now }
     requires well { W.health target.old ≡ Well }
     ensures { EndsPassed (O.make_up objects.now (size_of heap.now) (facts_of heap.now))
@@ -44,7 +44,7 @@ pub fn write_objects_of_classes_over<O: Objects, W: Target>(
     };
     match write_object_lines(alloc, &found, target) {
         Ok(()) => Ok(()),
-        Err(stop) => Err(PassStop::Sink(stop)),
+        Err(stop) => Err(PassFault::Sink(stop)),
     }
 }
 
@@ -55,7 +55,7 @@ pub fn write_objects_of_classes<W: Target>(
     heap: &Heap,
     classes: &[u64],
     target: &mut W,
-) -> Result<(), WriteStop>
+) -> Result<(), ProductFault>
     requires ascend { IsStrictlyIncreasing classes.now }
     requires well { W.health target.old ≡ Well }
     ensures bytes { (text : List ℕ) × IsObjectsOfText (size_of heap.now) (facts_of heap.now) classes.now text

@@ -4,8 +4,8 @@ use Rattle.std.proofs.Common.{length, set}
 use Rattle.std.specs.Prelude.{sum_by}
 use Rattle.std.proofs.lemmas.List.{get_or-set_same, get_or-set_other}
 use Rattle.std.proofs.lemmas.Bool.{cases_eq}
-use Rattle.hprof_merge.specs.declared.merge_stop.MergeStop.{MergeStop}
-use Rattle.hprof_merge.specs.declared.merge_stop.MergeStop.TheVariants.{OutOfMemory, TwoContents, Cursor, Sink}
+use Rattle.hprof_merge.specs.declared.merge_fault.MergeFault.{MergeFault}
+use Rattle.hprof_merge.specs.declared.merge_fault.MergeFault.TheVariants.{OutOfMemory, TwoContents, Cursor, Sink}
 use Rattle.hprof_merge.specs.Rows.{ByteRow, Has, IsAscending, first_key, HaveSameFirst}
 use Rattle.hprof_merge.specs.Union.{rows_at, AnyHas, AllAscend}
 use Rattle.hprof_merge.specs.Tree.{head_at}
@@ -151,7 +151,7 @@ module _ {C : Type 0} (shown : C → Option ByteRow) (goes : C → C → Type 0)
 
   -- the cursor at the place failed
   pub passes_fault : (key held place : ℕ) (old mid : List C) (heads : List (Option ℕ)) → PassesEquals shown goes key held old mid heads
-      → head_at heads place ≡ Some key → {F G : Type 0} → (fails : C → F → C → Type 0) (new : List C) (stop : MergeStop F G)
+      → head_at heads place ≡ Some key → {F G : Type 0} → (fails : C → F → C → Type 0) (new : List C) (stop : MergeFault F G)
       → IsFaultAt place stop → LeavesCursors fails stop mid new → StopsPassing shown goes fails key held old new stop
   passes_fault key held place old mid heads passes here fails new OutOfMemory never leaves = absurd never
   passes_fault key held place old mid heads passes here fails new (TwoContents other) never leaves = absurd never

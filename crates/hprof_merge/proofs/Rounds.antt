@@ -4,8 +4,8 @@ use Rattle.std.proofs.Common.{inl, inr, arith, length, set}
 use Rattle.std.specs.Prelude.{sum_by}
 use Rattle.std.proofs.lemmas.List.{get_or-set_same, get_or-set_other}
 use Rattle.std.proofs.lemmas.Bool.{cases_eq}
-use Rattle.hprof_merge.specs.declared.merge_stop.MergeStop.{MergeStop}
-use Rattle.hprof_merge.specs.declared.merge_stop.MergeStop.TheVariants.{OutOfMemory, TwoContents, Cursor, Sink}
+use Rattle.hprof_merge.specs.declared.merge_fault.MergeFault.{MergeFault}
+use Rattle.hprof_merge.specs.declared.merge_fault.MergeFault.TheVariants.{OutOfMemory, TwoContents, Cursor, Sink}
 use Rattle.hprof_merge.specs.Rows.{ByteRow, Has, IsAscending, first_key}
 use Rattle.hprof_merge.specs.Run.{Runs}
 use Rattle.hprof_merge.specs.Union.{rows_at, AnyHas, AllAscend, IsUnionBelow}
@@ -178,7 +178,7 @@ module _ {C T : Type 0} (shown : C → Option ByteRow) (goes : C → C → Type 
       known_taken : TakesBelow steps known key old_sink sink
       known_taken = record { front = so.front; union = known_union; run = so.run }
 
-      pub over_stops : (new : List C) (stop : MergeStop F G) → LeavesCursors fails stop mid new → StopsLevel key (all_shown shown mid) stop
+      pub over_stops : (new : List C) (stop : MergeFault F G) → LeavesCursors fails stop mid new → StopsLevel key (all_shown shown mid) stop
           → StopsMerging shown goes steps fails refuses old new stop old_sink sink
       over_stops new OutOfMemory leaves never = absurd never
       over_stops new (TwoContents other) leaves stops =
@@ -233,7 +233,7 @@ module _ {C T : Type 0} (shown : C → Option ByteRow) (goes : C → C → Type 
           given_step bytes rest is =
               let P : List ByteRow → Type 0 = λ l. GivesFirst steps refuses {A = Unit {0}} l (Ok tt) sink after in subst P is given
 
-          pub over_fault : (new : List C) (stop : MergeStop F G) → IsFaultAt held stop → LeavesCursors fails stop mid new
+          pub over_fault : (new : List C) (stop : MergeFault F G) → IsFaultAt held stop → LeavesCursors fails stop mid new
               → StopsMerging shown goes steps fails refuses old new stop old_sink after
           over_fault new OutOfMemory never leaves = absurd never
           over_fault new (TwoContents other) never leaves = absurd never

@@ -9,7 +9,7 @@
 mod contest;
 mod contest_tree;
 pub mod laws;
-mod merge_stop;
+mod merge_fault;
 mod merging;
 mod one_of;
 mod refuse_late;
@@ -17,7 +17,7 @@ mod row_cursor;
 mod row_sink;
 mod skip_late;
 
-pub use merge_stop::MergeStop;
+pub use merge_fault::MergeFault;
 pub use merging::merge_rows;
 pub use one_of::OneOf;
 pub use refuse_late::RefuseLate;

@@ -10,7 +10,7 @@ ghost use Rattle.hprof_merge.specs.Stopping.{IsFaultAt, LeavesCursors, PassesEqu
 ghost use Rattle.hprof_merge.specs.Stopping.{MergesAll, StopsMerging, UnlessRefused};
 
 use crate::contest::Contest;
-use crate::merge_stop::MergeStop;
+use crate::merge_fault::MergeFault;
 use crate::row_cursor::{AscendingCursor, RowCursor};
 use crate::row_sink::RowSink;
 use std::alloc::{AllocError, Global};
@@ -74,7 +74,7 @@ fn advance<C: RowCursor, F>(
     cursors: &mut [C],
     contest: &mut Contest,
     place: usize,
-) -> Result<(), MergeStop<C::Fault, F>>
+) -> Result<(), MergeFault<C::Fault, F>>
     requires place { place < length cursors.old }
     requires count { length (heads_of contest.old) ≡ length cursors.old }
     requires well { All C.well cursors.old }
@@ -86,7 +86,7 @@ fn advance<C: RowCursor, F>(
     ensures stop { IfErr result (λ stop. IsFaultAt place stop × LeavesCursors C.fails stop cursors.old cursors.new) }
 {
     if let Err(fault) = cursors[place].advance() {
-        return Err(MergeStop::Cursor(place, fault));
+        return Err(MergeFault::Cursor(place, fault));
     }
     let head = head_of(&cursors[place]);
     contest.set(place, head);
@@ -100,7 +100,7 @@ fn pass_equals<C: AscendingCursor, F>(
     contest: &mut Contest,
     key: u64,
     held: usize,
-) -> Result<(), MergeStop<C::Fault, F>>
+) -> Result<(), MergeFault<C::Fault, F>>
     requires held { held < length cursors.old }
     requires count { length (heads_of contest.old) ≡ length cursors.old }
     requires well { All C.well cursors.old }
@@ -118,7 +118,7 @@ fn pass_equals<C: AscendingCursor, F>(
 {
     while let Some(place) = contest.place_of(key) {
         if !agree(&cursors[held], &cursors[place]) {
-            return Err(MergeStop::TwoContents(key));
+            return Err(MergeFault::TwoContents(key));
         }
         advance(cursors, contest, place)?;
     }
@@ -139,7 +139,7 @@ pub fn merge_rows<C: AscendingCursor, T: RowSink>(
     alloc: Global,
     cursors: &mut [C],
     sink: &mut T,
-) -> Result<(), MergeStop<C::Fault, T::Fault>>
+) -> Result<(), MergeFault<C::Fault, T::Fault>>
     requires well { All C.well cursors.old }
     requires sink { T.well sink.old }
     ensures merged { OnOk result (MergesAll C.shown C.goes T.steps cursors.old cursors.new sink.old sink.new) }
@@ -149,13 +149,13 @@ pub fn merge_rows<C: AscendingCursor, T: RowSink>(
     ensures sink { IfErr result (UnlessRefused (T.well sink.new)) }
 {
     let Ok(mut contest) = enter(alloc, cursors) else {
-        return Err(MergeStop::OutOfMemory);
+        return Err(MergeFault::OutOfMemory);
     };
     while let Some((key, place)) = contest.first() {
         contest.set(place, None);
         pass_equals(cursors, &mut contest, key, place)?;
         if let Err(fault) = give(&cursors[place], sink) {
-            return Err(MergeStop::Sink(fault));
+            return Err(MergeFault::Sink(fault));
         }
         advance(cursors, &mut contest, place)?;
     }

@@ -4,13 +4,18 @@ ghost use Rattle.std.specs.Prelude.{◌≡◌, ◌↔◌, IsTrue, IfOk, IfErr, O
 ghost use Rattle.hprof_merge.specs.Skipping.{ShowsLate, SkipsOrStays, FailsBehind};
 
 use crate::row_cursor::{AscendingCursor, RowCursor};
+use std::fmt;
+use thiserror::Error;
 
 /// The fault of a cursor over a cursor that may show late rows.
-#[derive(Clone, Copy, Debug, PartialEq, Eq)]
+#[derive(Clone, Copy, Debug, PartialEq, Eq, Error)]
+#[error_bound(F: fmt::Display)]
 pub enum LateFault<F> {
     /// The cursor below failed.
+    #[error("{0}")]
     Inner(F),
     /// A row came late, and was not skipped.
+    #[error("a row came late")]
     Late,
 }
 

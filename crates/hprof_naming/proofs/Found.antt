@@ -8,9 +8,9 @@ use Rattle.hprof_items.specs.FactValue.{FactValue, Instance}
 use Rattle.hprof_heap.specs.declared.class_dump.ClassDump.{ClassDump}
 use Rattle.hprof_heap.specs.declared.object_dump.ObjectDump.{ObjectDump}
 use Rattle.hprof_heap.specs.declared.object_dump.ObjectDump.TheVariants as dumps
-use Rattle.hprof_heap.specs.ClassDump.{IsFoundClass, class_value}
+use Rattle.hprof_heap.specs.ClassDump.{AnswersClass, class_value}
 use Rattle.hprof_heap.specs.Classes.{ClassValue}
-use Rattle.hprof_heap.specs.ObjectDump.{IsFoundObject, fact_of_object}
+use Rattle.hprof_heap.specs.ObjectDump.{AnswersObject, fact_of_object}
 use Rattle.hprof_layouts.specs.declared.field_value.FieldValue.{FieldValue}
 use Rattle.hprof_layouts.specs.Fields.{FieldsValue, NoObject, AreFields}
 use Rattle.hprof_layouts.proofs.FieldAnswers.{fields_exist}
@@ -24,11 +24,11 @@ use Rattle.hprof_naming.proofs.Lookups.{class_exists, class_is_found, object_is_
 -- its text, where its two fields and the array were found
 pub string_text_is : (ids : IdSize) (facts : List FactValue) (values : List FieldValue) (value coder : Option FieldValue) (target : ℕ)
     (array : Option ObjectDump) (text : TextValue) → IsFirstNamed facts (codes "value") values value
-    → IsFirstNamed facts (codes "coder") values coder → target ≡ target_of_field value → IsFoundObject ids facts target array
+    → IsFirstNamed facts (codes "coder") values coder → target ≡ target_of_field value → AnswersObject ids facts target array
     → text ≡ (if target == 0 then NoText else referred_text (is_wide_coder coder) (option_map fact_of_object array))
     → IsStringText facts values text
 string_text_is ids facts values value coder target array text is_value is_coder same found is =
-    let found_there = subst (λ (n : ℕ). IsFoundObject ids facts n array) same found in
+    let found_there = subst (λ (n : ℕ). AnswersObject ids facts n array) same found in
     record {
       value = value;
       is_value = is_value;
@@ -79,15 +79,15 @@ array_is facts fields (dumps.ObjArray own trace class elements) other (Some dump
 array_is facts fields (dumps.PrimArray own trace elem bytes) other None = refl
 array_is facts fields (dumps.PrimArray own trace elem bytes) other (Some dump) = refl
 
-module _ (ids : IdSize) (facts : List FactValue) (id : ℕ) (row : Option ObjectDump) (found : IsFoundObject ids facts id row) where
+module _ (ids : IdSize) (facts : List FactValue) (id : ℕ) (row : Option ObjectDump) (found : AnswersObject ids facts id row) where
   -- without an object dump
-  pub text_without_object : (class : Option ClassDump) (dump : ClassDump) → IsFoundClass ids facts id class → class ≡ Some dump → row ≡ None
+  pub text_without_object : (class : Option ClassDump) (dump : ClassDump) → AnswersClass ids facts id class → class ≡ Some dump → row ≡ None
       → IsText ids facts id NoText
   text_without_object class dump class_found there none =
-      let no_object = (subst (λ (o : Option ObjectDump). IsFoundObject ids facts id o) none found).none in
+      let no_object = (subst (λ (o : Option ObjectDump). AnswersObject ids facts id o) none found).none in
       record {
         class = Some (class_value dump);
-        class_found = class_is_found ids facts id (Some dump) (subst (λ (c : Option ClassDump). IsFoundClass ids facts id c) there
+        class_found = class_is_found ids facts id (Some dump) (subst (λ (c : Option ClassDump). AnswersClass ids facts id c) there
             class_found);
         object = None;
         object_found = no_object;
@@ -107,7 +107,7 @@ module _ (ids : IdSize) (facts : List FactValue) (id : ℕ) (row : Option Object
           class_found = class.1;
           object = Some (fact_of_object object);
           object_found = object_is_found ids facts id (Some object)
-              (subst (λ (o : Option ObjectDump). IsFoundObject ids facts id o) there found);
+              (subst (λ (o : Option ObjectDump). AnswersObject ids facts id o) there found);
           fields = fields;
           are_fields = are;
           is = is class.0;

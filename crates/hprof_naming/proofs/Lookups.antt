@@ -7,10 +7,10 @@ use Rattle.hprof_rows.specs.declared.key.Key.TheVariants as keys
 use Rattle.hprof_rows.specs.Conflict.{IsConsistent}
 use Rattle.hprof_heap.specs.declared.class_dump.ClassDump.{ClassDump}
 use Rattle.hprof_heap.specs.declared.object_dump.ObjectDump.{ObjectDump}
-use Rattle.hprof_heap.specs.ClassDump.{IsFoundClass, class_value}
+use Rattle.hprof_heap.specs.ClassDump.{AnswersClass, class_value}
 use Rattle.hprof_heap.specs.Classes.{ClassValue}
 use Rattle.hprof_heap.specs.Found.{IsClassFound, IsObjectFound}
-use Rattle.hprof_heap.specs.ObjectDump.{IsFoundObject, fact_of_object}
+use Rattle.hprof_heap.specs.ObjectDump.{AnswersObject, fact_of_object}
 use Rattle.hprof_heap.proofs.ClassFacts as classes
 use Rattle.hprof_heap.proofs.ObjectFacts as objects
 
@@ -46,12 +46,12 @@ module _ (facts : List FactValue) (agree : IsConsistent facts) (id : ℕ) where
 
 -- ---- a look-up gives it
 
-pub class_is_found : (ids : IdSize) (facts : List FactValue) (id : ℕ) (row : Option ClassDump) → IsFoundClass ids facts id row
+pub class_is_found : (ids : IdSize) (facts : List FactValue) (id : ℕ) (row : Option ClassDump) → AnswersClass ids facts id row
     → IsClassFound facts id (option_map class_value row)
 class_is_found ids facts id (Some row) is = (is.found, is.id)
 class_is_found ids facts id None is = is.none
 
-pub object_is_found : (ids : IdSize) (facts : List FactValue) (id : ℕ) (row : Option ObjectDump) → IsFoundObject ids facts id row
+pub object_is_found : (ids : IdSize) (facts : List FactValue) (id : ℕ) (row : Option ObjectDump) → AnswersObject ids facts id row
     → IsObjectFound facts id (option_map fact_of_object row)
 object_is_found ids facts id (Some row) is = (is.found, is.id)
 object_is_found ids facts id None is = is.none

@@ -8,7 +8,7 @@ use Rattle.hprof_numbers.specs.Appends.{Appends}
 use Rattle.hprof_numbers.specs.Lists.{IsListed}
 use Rattle.hprof_numbers.specs.Numbers.{items_in}
 use Rattle.hprof_numbers.specs.Places.{number_in}
-use Rattle.hprof_numbers.specs.Sources.{list_of}
+use Rattle.hprof_numbers.specs.Predecessors.{list_of}
 use Rattle.hprof_numbers.specs.Targets.{AreNumberedEdges, IsNumberOf, number_or}
 use Rattle.hprof_numbers.specs.declared.lists.Lists.{Lists}
 use Rattle.hprof_numbers.proofs.Arriving.{last}

@@ -5,7 +5,7 @@ pub mod Counts
 pub mod Ends
 pub mod Lists
 pub mod Targets
-pub mod Sources
+pub mod Predecessors
 pub mod Renumbered
 pub mod DepthFirst
 pub mod Trail

@@ -2,22 +2,22 @@
 
 ghost use Rattle.std.specs.Prelude.{◌≡◌, ℕ, Contains, IfOk};
 ghost use Rattle.hprof_numbers.specs.Numbered.{nodes_in};
-ghost use Rattle.hprof_numbers.specs.Sources.{IsSource, list_of, nodes_of};
+ghost use Rattle.hprof_numbers.specs.Predecessors.{IsSource, list_of, nodes_of};
 
 use crate::edges::numbered_edges;
 use crate::graph::Graph;
 use crate::numbered::Numbered;
-use crate::sources::Sources;
+use crate::predecessors::Predecessors;
 use crate::turning::turned;
 use std::alloc::{AllocError, Global};
 
 /// Returns for each node of a graph the nodes with an edge to it, in one pass over all edges. Identifiers that are no nodes share one list,
 /// of the nodes with an edge to any of them. If memory runs out, the answer is `AllocError`.
-pub fn sources_of<G: Graph>(
+pub fn predecessors_of<G: Graph>(
     alloc: Global,
     graph: &mut G,
     nodes: Numbered,
-) -> Result<Sources, AllocError>
+) -> Result<Predecessors, AllocError>
     requires { G.stands graph.old }
     ensures nodes { IfOk result (λ sources. nodes_of sources ≡ nodes_in nodes) }
     ensures all { IfOk result (λ sources. (from to : ℕ) → Contains (nodes_in nodes) from → G.leads graph.old from to
@@ -32,5 +32,5 @@ pub fn sources_of<G: Graph>(
     };
     let edges = numbered_edges(alloc, graph, &nodes, Some(others), most)?.with_empty_list(alloc)?;
     let lists = turned(alloc, &edges)?;
-    Ok(Sources { nodes, lists })
+    Ok(Predecessors { nodes, lists })
 }

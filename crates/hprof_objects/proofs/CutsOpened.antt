@@ -6,7 +6,7 @@ use Rattle.hprof_merge.specs.Rows.{ByteRow}
 use Rattle.hprof_objects.specs.declared.any_cut.AnyCut.{AnyCut}
 use Rattle.hprof_objects.specs.declared.any_cut.AnyCut.TheVariants.{InPart}
 use Rattle.hprof_objects.specs.declared.cut.Cut.{Cut}
-use Rattle.hprof_objects.specs.declared.object_stop.ObjectStop.{ObjectStop}
+use Rattle.hprof_objects.specs.declared.object_fault.ObjectFault.{ObjectFault}
 use Rattle.hprof_objects.specs.declared.stretch_cursor.StretchCursor.{StretchCursor}
 use Rattle.hprof_objects.specs.declared.stretch_fault.StretchFault.{StretchFault}
 use Rattle.hprof_objects.specs.declared.stretch_fault.StretchFault.TheVariants as faults
@@ -24,12 +24,12 @@ module _ {S : Type 0} (written : S → Option (List ℕ)) (scratch : S) (limits 
       let its = subst (λ (c : AnyCut). Comes written scratch limits told c rows) is comes in
       (limits.max_reads, opens its.0 rows its.1.is its.2)
 
-  pub part_refuses : (G : Type 0) (unreadable : S → Type 0) (fault : StretchFault) (stop : ObjectStop G)
+  pub part_refuses : (G : Type 0) (unreadable : S → Type 0) (fault : StretchFault) (stop : ObjectFault G)
       → stop ≡ part_stop cut.stretch.part fault → RefusesStretch limits told cut.stretch fault
       → TellsCut written scratch limits told unreadable any stop
   part_refuses G unreadable fault stop why refuses =
       subst (λ (c : AnyCut). TellsCut written scratch limits told unreadable c stop) (sym is)
-      (subst (λ (s : ObjectStop G). TellsInPart written scratch limits told (InPart cut) cut.stretch.part s) (sym why) (tells fault
+      (subst (λ (s : ObjectFault G). TellsInPart written scratch limits told (InPart cut) cut.stretch.part s) (sym why) (tells fault
       refuses))
     where
       tells : (fault : StretchFault) → RefusesStretch limits told cut.stretch fault

@@ -10,8 +10,8 @@ use Rattle.hprof_merge.specs.Run.{Runs}
 use Rattle.hprof_runs.specs.declared.sorted_rows.SortedRows.{SortedRows}
 use Rattle.hprof_runs.proofs.TwoPieces.{ascends_behind, below_behind, has_back, has_either, has_front}
 use Rattle.hprof_objects.specs.declared.any_cut.AnyCut.{AnyCut}
-use Rattle.hprof_objects.specs.declared.object_stop.ObjectStop.{ObjectStop}
-use Rattle.hprof_objects.specs.declared.object_stop.ObjectStop.TheVariants as stops
+use Rattle.hprof_objects.specs.declared.object_fault.ObjectFault.{ObjectFault}
+use Rattle.hprof_objects.specs.declared.object_fault.ObjectFault.TheVariants as stops
 use Rattle.hprof_objects.specs.declared.searched.Searched.{Searched}
 use Rattle.hprof_objects.specs.AnyCuts.{CutCursor}
 use Rattle.hprof_objects.specs.Giving.{GivesIf, IsNowhere, IsThere, PicksHeld}
@@ -197,7 +197,7 @@ module _ {T G : Type 0} (steps : T → ℕ → List ℕ → T → Type 0) (refus
     run = subst (Runs steps old (wanted_rows wanted gave.front)) same gave.run;
   }
 
-  pub gave_stops : (A : Type 0) (stop : ObjectStop G) (new : T) → GivesIf steps refuses {A = A} There Nowhere id (Err stop) mid new
+  pub gave_stops : (A : Type 0) (stop : ObjectFault G) (new : T) → GivesIf steps refuses {A = A} There Nowhere id (Err stop) mid new
       → PicksHeld steps refuses {A = A} wanted rows (Err stop) old new
   gave_stops A stops.OutOfMemory new same = picks_first new same
   gave_stops A (stops.TwoContents key) new never = never

@@ -8,8 +8,8 @@ use Rattle.hprof_stream.specs.declared.limits.Limits.{Limits}
 use Rattle.hprof_merge.specs.Rows.{ByteRow}
 use Rattle.hprof_objects.specs.declared.any_cut.AnyCut.{AnyCut}
 use Rattle.hprof_objects.specs.declared.any_cut.AnyCut.TheVariants.{InPart, InRun}
-use Rattle.hprof_objects.specs.declared.object_stop.ObjectStop.{ObjectStop}
-use Rattle.hprof_objects.specs.declared.object_stop.ObjectStop.TheVariants as stops
+use Rattle.hprof_objects.specs.declared.object_fault.ObjectFault.{ObjectFault}
+use Rattle.hprof_objects.specs.declared.object_fault.ObjectFault.TheVariants as stops
 use Rattle.hprof_objects.specs.declared.searched.Searched.{Searched}
 use Rattle.hprof_objects.specs.AnyCuts.{Among, TellsCut}
 use Rattle.hprof_objects.specs.Giving.{GivesIf, GivesShown, UnlessOfSink}
@@ -90,7 +90,7 @@ module _ {S R : Type 0} where
 -- ---- what the sink is given
 
 module _ {T G A : Type 0} (steps : T → ℕ → List ℕ → T → Type 0) (refuses : T → ℕ → List ℕ → G → T → Type 0) where
-  given_some : (There : ByteRow → Type 0) (Nowhere : Type 0) (id : ℕ) (bytes : List ℕ) (result : Result A (ObjectStop G)) (old new : T)
+  given_some : (There : ByteRow → Type 0) (Nowhere : Type 0) (id : ℕ) (bytes : List ℕ) (result : Result A (ObjectFault G)) (old new : T)
       → There (id, bytes) → GivesShown steps refuses (Some (id, bytes)) result old new
       → GivesIf steps refuses There Nowhere id result old new
   given_some There Nowhere id bytes (Ok done) old new there gives = inl (bytes, there, gives)
@@ -102,14 +102,14 @@ module _ {T G A : Type 0} (steps : T → ℕ → List ℕ → T → Type 0) (ref
 
   -- the row that is shown is there
   pub given_shown : (There : ByteRow → Type 0) (Nowhere : Type 0) (id : ℕ) (bytes : List ℕ) (shown : Option ByteRow)
-      (result : Result A (ObjectStop G)) (old new : T) → shown ≡ Some (id, bytes) → There (id, bytes)
+      (result : Result A (ObjectFault G)) (old new : T) → shown ≡ Some (id, bytes) → There (id, bytes)
       → GivesShown steps refuses shown result old new → GivesIf steps refuses There Nowhere id result old new
   given_shown There Nowhere id bytes shown result old new is there gives =
       given_some There Nowhere id bytes result old new there
       (subst (λ (s : Option ByteRow). GivesShown steps refuses s result old new) is gives)
 
   -- a stop while it was given is one of the sink
-  pub shown_stops : (P : ObjectStop G → Type 0) (shown : Option ByteRow) (result : Result A (ObjectStop G)) (old new : T)
+  pub shown_stops : (P : ObjectFault G → Type 0) (shown : Option ByteRow) (result : Result A (ObjectFault G)) (old new : T)
       → GivesShown steps refuses shown result old new → IfErr result (UnlessOfSink P)
   shown_stops P shown (Ok done) old new gives = tt
   shown_stops P None (Err stop) old new gives = absurd gives
@@ -132,7 +132,7 @@ module _ {S : Type 0} (G : Type 0) (written : S → Option (List ℕ)) (scratch 
   no_sink (InRun cut) fault tells = tells
 
   pub stopped_gives : {T : Type 0} (A : Type 0) (steps : T → ℕ → List ℕ → T → Type 0) (refuses : T → ℕ → List ℕ → G → T → Type 0)
-      (There : ByteRow → Type 0) (Nowhere : Type 0) (id : ℕ) (cuts : List AnyCut) (stop : ObjectStop G) (old new : T)
+      (There : ByteRow → Type 0) (Nowhere : Type 0) (id : ℕ) (cuts : List AnyCut) (stop : ObjectFault G) (old new : T)
       → StopsIn written scratch limits told unreadable cuts stop → old ≡ new
       → GivesIf steps refuses {A = A} There Nowhere id (Err stop) old new
   stopped_gives A steps refuses There Nowhere id cuts stops.OutOfMemory old new stopped same = same
@@ -143,14 +143,14 @@ module _ {S : Type 0} (G : Type 0) (written : S → Option (List ℕ)) (scratch 
   stopped_gives A steps refuses There Nowhere id cuts (stops.Sink fault) old new stopped same =
       absurd (no_sink stopped.cut fault stopped.tells)
 
-pub unless_sink : {G : Type 0} (P : ObjectStop G → Type 0) (stop : ObjectStop G) → P stop → UnlessOfSink P stop
+pub unless_sink : {G : Type 0} (P : ObjectFault G → Type 0) (stop : ObjectFault G) → P stop → UnlessOfSink P stop
 unless_sink P stops.OutOfMemory it = it
 unless_sink P (stops.TwoContents key) it = it
 unless_sink P (stops.Scratch fault) it = it
 unless_sink P (stops.Part part fault) it = it
 unless_sink P (stops.Sink fault) it = tt
 
-pub unless_more : {G : Type 0} (P Q : ObjectStop G → Type 0) (stop : ObjectStop G) → (P stop → Q stop) → UnlessOfSink P stop
+pub unless_more : {G : Type 0} (P Q : ObjectFault G → Type 0) (stop : ObjectFault G) → (P stop → Q stop) → UnlessOfSink P stop
     → UnlessOfSink Q stop
 unless_more P Q stops.OutOfMemory more it = more it
 unless_more P Q (stops.TwoContents key) more it = more it
@@ -158,7 +158,7 @@ unless_more P Q (stops.Scratch fault) more it = more it
 unless_more P Q (stops.Part part fault) more it = more it
 unless_more P Q (stops.Sink fault) more it = tt
 
-pub unless_refused : {A G : Type 0} (P : Type 0) (result : Result A (ObjectStop G)) → P → UnlessRefused P result
+pub unless_refused : {A G : Type 0} (P : Type 0) (result : Result A (ObjectFault G)) → P → UnlessRefused P result
 unless_refused P (Ok done) it = it
 unless_refused P (Err stops.OutOfMemory) it = it
 unless_refused P (Err (stops.TwoContents key)) it = it
@@ -168,7 +168,7 @@ unless_refused P (Err (stops.Sink fault)) it = tt
 
 -- more cuts, or others that are kept
 pub stops_more : {S G : Type 0} (written : S → Option (List ℕ)) (scratch : S) (limits : Limits) (told : List (Option (List ℕ)))
-    (unreadable : S → Type 0) (cuts all : List AnyCut) → ((cut : AnyCut) → Among cuts cut → Among all cut) → (stop : ObjectStop G)
+    (unreadable : S → Type 0) (cuts all : List AnyCut) → ((cut : AnyCut) → Among cuts cut → Among all cut) → (stop : ObjectFault G)
     → StopsIn written scratch limits told unreadable cuts stop → StopsIn written scratch limits told unreadable all stop
 stops_more written scratch limits told unreadable cuts all more stop stopped =
     record { cut = stopped.cut; among = more stopped.cut stopped.among; tells = stopped.tells }

@@ -19,7 +19,7 @@ use Rattle.hprof_runs.proofs.AllRows.{known_so_far}
 use Rattle.hprof_runs.proofs.TwoPieces.{from_first, has_back, has_either}
 use Rattle.hprof_objects.specs.declared.any_cut.AnyCut.{AnyCut}
 use Rattle.hprof_objects.specs.declared.any_cut.AnyCut.TheVariants.{InPart, InRun}
-use Rattle.hprof_objects.specs.declared.object_stop.ObjectStop.{ObjectStop}
+use Rattle.hprof_objects.specs.declared.object_fault.ObjectFault.{ObjectFault}
 use Rattle.hprof_objects.specs.declared.searched.Searched.{Searched}
 use Rattle.hprof_objects.specs.declared.stretch_fault.StretchFault.{StretchFault}
 use Rattle.hprof_objects.specs.declared.stretch_fault.StretchFault.TheVariants as stretches
@@ -329,13 +329,13 @@ module _ {S R : Type 0} (written : S → Option (List ℕ)) (unreadable : S → 
 
       pub stops_open : (G : Type 0) (key : ℕ) (old : List AnyCut) (cut : AnyCut) (it new : CutCursor S R) (fault : OneOf RunFault
           StretchFault)
-          (stop : ObjectStop G) → Among old cut → stop ≡ stop_in cut fault
+          (stop : ObjectFault G) → Among old cut → stop ≡ stop_in cut fault
           → StandsIn written left health pulls scratch limits told cut key it → FailsBehind cut_shown cut_goes cut_fails it fault new
           → StopsIn written scratch limits told unreadable old stop
       stops_open G key old cut it new fault stop among why stands fails = record {
         cut = cut;
         among = among;
-        tells = subst (λ (s : ObjectStop G). TellsCut written scratch limits told unreadable cut s) (sym why)
+        tells = subst (λ (s : ObjectFault G). TellsCut written scratch limits told unreadable cut s) (sym why)
             (cut_refuses G cut fails.mid new fault fails.failed (over_then cut fails.passed it fails.mid fails.shows stands.over)
             (λ rows comes.
             let its = stands.comes rows comes in

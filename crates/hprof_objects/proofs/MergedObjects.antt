@@ -4,8 +4,8 @@ use Rattle.std.specs.Prelude.{All}
 use Rattle.std.specs.declared.convert.Infallible.{Infallible}
 use Rattle.hprof_devices.specs.declared.health.Health.{Health}
 use Rattle.hprof_stream.specs.declared.limits.Limits.{Limits}
-use Rattle.hprof_merge.specs.declared.merge_stop.MergeStop.{MergeStop}
-use Rattle.hprof_merge.specs.declared.merge_stop.MergeStop.TheVariants as stops
+use Rattle.hprof_merge.specs.declared.merge_fault.MergeFault.{MergeFault}
+use Rattle.hprof_merge.specs.declared.merge_fault.MergeFault.TheVariants as stops
 use Rattle.hprof_merge.specs.declared.one_of.OneOf.{OneOf}
 use Rattle.hprof_merge.specs.declared.one_of.OneOf.TheVariants.{First, Second}
 use Rattle.hprof_merge.specs.Merging.{TakesAll}
@@ -116,7 +116,7 @@ module _ {S R : Type 0} (written : S → Option (List ℕ)) (well : S → Health
     -- ---- a stop
 
     module _ {T G : Type 0} (steps : T → ℕ → List ℕ → T → Type 0) (refuses : T → ℕ → List ℕ → G → T → Type 0)
-        (new : List (ObjectCursor S R)) (stop : MergeStop (OneOf (OneOf (OneOf Infallible Infallible) RunFault) StretchFault) G)
+        (new : List (ObjectCursor S R)) (stop : MergeFault (OneOf (OneOf (OneOf Infallible Infallible) RunFault) StretchFault) G)
         (old_sink new_sink : T)
         (stopped : StopsMerging (shown written unreadable left health pulls) (goes written unreadable left health pulls) steps
         (fails written unreadable left health pulls) refuses cursors new stop old_sink new_sink) where
@@ -188,7 +188,7 @@ module _ {S R : Type 0} (written : S → Option (List ℕ)) (well : S → Health
 
     -- ---- what a fault tells
 
-    tells : {G : Type 0} (stop : MergeStop (OneOf (OneOf (OneOf Infallible Infallible) RunFault) StretchFault) G)
+    tells : {G : Type 0} (stop : MergeFault (OneOf (OneOf (OneOf Infallible Infallible) RunFault) StretchFault) G)
         (mid new : List (ObjectCursor S R))
         → LeavesCursors (fails written unreadable left health pulls) stop mid new
         → ((place : ℕ) (next : ObjectCursor S R)
@@ -213,7 +213,7 @@ module _ {S R : Type 0} (written : S → Option (List ℕ)) (well : S → Health
     tells (stops.Cursor place (Second stretches.Changed)) mid new leaves damaged changed = changed place leaves.next leaves.failed
 
     pub stopped_tells : {T G : Type 0} (steps : T → ℕ → List ℕ → T → Type 0) (refuses : T → ℕ → List ℕ → G → T → Type 0)
-        (new : List (ObjectCursor S R)) (stop : MergeStop (OneOf (OneOf (OneOf Infallible Infallible) RunFault) StretchFault) G)
+        (new : List (ObjectCursor S R)) (stop : MergeFault (OneOf (OneOf (OneOf Infallible Infallible) RunFault) StretchFault) G)
         (old_sink new_sink : T)
         → StopsMerging (shown written unreadable left health pulls) (goes written unreadable left health pulls) steps
         (fails written unreadable left health pulls) refuses cursors new stop old_sink new_sink
@@ -222,7 +222,7 @@ module _ {S R : Type 0} (written : S → Option (List ℕ)) (well : S → Health
         tells stop stopped.mid new stopped.leaves (damage steps refuses new stop old_sink new_sink stopped)
         (change steps refuses new stop old_sink new_sink stopped)
 
-    reads_fail : {G : Type 0} (stop : MergeStop (OneOf (OneOf (OneOf Infallible Infallible) RunFault) StretchFault) G)
+    reads_fail : {G : Type 0} (stop : MergeFault (OneOf (OneOf (OneOf Infallible Infallible) RunFault) StretchFault) G)
         (mid new : List (ObjectCursor S R))
         → LeavesCursors (fails written unreadable left health pulls) stop mid new
         → ((place : ℕ) (next : ObjectCursor S R)
@@ -241,7 +241,7 @@ module _ {S R : Type 0} (written : S → Option (List ℕ)) (well : S → Health
     reads_fail (stops.Cursor place (Second stretches.Changed)) mid new leaves one = tt
 
     pub stopped_reads : {T G : Type 0} (steps : T → ℕ → List ℕ → T → Type 0) (refuses : T → ℕ → List ℕ → G → T → Type 0)
-        (new : List (ObjectCursor S R)) (stop : MergeStop (OneOf (OneOf (OneOf Infallible Infallible) RunFault) StretchFault) G)
+        (new : List (ObjectCursor S R)) (stop : MergeFault (OneOf (OneOf (OneOf Infallible Infallible) RunFault) StretchFault) G)
         (old_sink new_sink : T)
         → StopsMerging (shown written unreadable left health pulls) (goes written unreadable left health pulls) steps
         (fails written unreadable left health pulls) refuses cursors new stop old_sink new_sink

@@ -17,8 +17,8 @@ use Rattle.hprof_runs.proofs.TwoPieces.{has_back, has_either, has_front}
 use Rattle.hprof_objects.specs.declared.any_cut.AnyCut.{AnyCut}
 use Rattle.hprof_objects.specs.declared.any_cut.AnyCut.TheVariants.{InPart, InRun}
 use Rattle.hprof_objects.specs.declared.cut.Cut.{Cut}
-use Rattle.hprof_objects.specs.declared.object_stop.ObjectStop.{ObjectStop}
-use Rattle.hprof_objects.specs.declared.object_stop.ObjectStop.TheVariants as stops
+use Rattle.hprof_objects.specs.declared.object_fault.ObjectFault.{ObjectFault}
+use Rattle.hprof_objects.specs.declared.object_fault.ObjectFault.TheVariants as stops
 use Rattle.hprof_objects.specs.declared.stored_objects.StoredObjects.{StoredObjects}
 use Rattle.hprof_objects.specs.declared.stretch_fault.StretchFault.TheVariants as stretches
 use Rattle.hprof_objects.specs.AnyCuts.{Among, Comes, TellsCut}
@@ -219,7 +219,7 @@ module _ {S : Type 0} (written : S → Option (List ℕ)) (health : S → Health
           ]
 
       pub picks_agreed : {T G A : Type 0} (steps : T → ℕ → List ℕ → T → Type 0) (refuses : T → ℕ → List ℕ → G → T → Type 0)
-          (wanted : List ℕ) (old new : T) (result : Result A (ObjectStop G)) → PicksHeld steps refuses wanted all result old new
+          (wanted : List ℕ) (old new : T) (result : Result A (ObjectFault G)) → PicksHeld steps refuses wanted all result old new
           → Picks steps refuses wanted (objects_of reads) result old new
       picks_agreed steps refuses wanted old new (Ok done) picks =
           picks_of (objects_of reads) all union steps refuses wanted old new (Ok done) picks
@@ -286,7 +286,7 @@ module _ {S : Type 0} (written : S → Option (List ℕ)) (health : S → Health
               tells.1 it.0 (reads, it.1, subst (IsSameAt limits told reads) tells.0 same)
         ]
 
-    tells_change : (stop : ObjectStop G) → UnlessOfSink (StopsIn written scratch limits told unreadable (all_cuts objects)) stop
+    tells_change : (stop : ObjectFault G) → UnlessOfSink (StopsIn written scratch limits told unreadable (all_cuts objects)) stop
         → TellsChange written health limits told objects stop
     tells_change stops.OutOfMemory stopped = tt
     tells_change (stops.TwoContents key) stopped = tt
@@ -298,7 +298,7 @@ module _ {S : Type 0} (written : S → Option (List ℕ)) (health : S → Health
     tells_change (stops.Part part stretches.Changed) stopped = changed stopped.cut part stopped.among stopped.tells
     tells_change (stops.Sink fault) stopped = tt
 
-    pub agreed_change : {A : Type 0} (result : Result A (ObjectStop G))
+    pub agreed_change : {A : Type 0} (result : Result A (ObjectFault G))
         → IfErr result (UnlessOfSink (StopsIn written scratch limits told unreadable (all_cuts objects)))
         → IfErr result (TellsChange written health limits told objects)
     agreed_change (Ok done) stopped = tt
@@ -309,7 +309,7 @@ module _ {S : Type 0} (written : S → Option (List ℕ)) (health : S → Health
     scratch_read (InPart cut) fault tells = absurd tells
     scratch_read (InRun cut) fault tells = tells.0
 
-    scratch_fails : (stop : ObjectStop G) → UnlessOfSink (StopsIn written scratch limits told unreadable (all_cuts objects)) stop
+    scratch_fails : (stop : ObjectFault G) → UnlessOfSink (StopsIn written scratch limits told unreadable (all_cuts objects)) stop
         → IfScratchFails stop (unreadable scratch)
     scratch_fails stops.OutOfMemory stopped = tt
     scratch_fails (stops.TwoContents key) stopped = tt
@@ -317,7 +317,7 @@ module _ {S : Type 0} (written : S → Option (List ℕ)) (health : S → Health
     scratch_fails (stops.Part part fault) stopped = tt
     scratch_fails (stops.Sink fault) stopped = tt
 
-    pub agreed_reads : {A : Type 0} (result : Result A (ObjectStop G))
+    pub agreed_reads : {A : Type 0} (result : Result A (ObjectFault G))
         → IfErr result (UnlessOfSink (StopsIn written scratch limits told unreadable (all_cuts objects)))
         → IfErr result (λ stop. IfScratchFails stop (unreadable scratch))
     agreed_reads (Ok done) stopped = tt

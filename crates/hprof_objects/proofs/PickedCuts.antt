@@ -8,8 +8,8 @@ use Rattle.hprof_merge.specs.Rows.{ByteRow, Has, IsAscending}
 use Rattle.hprof_merge.specs.Run.{Runs}
 use Rattle.hprof_runs.proofs.TwoPieces.{ascends_behind, from_first, has_back, has_front}
 use Rattle.hprof_objects.specs.declared.cut.Cut.{Cut}
-use Rattle.hprof_objects.specs.declared.object_stop.ObjectStop.{ObjectStop}
-use Rattle.hprof_objects.specs.declared.object_stop.ObjectStop.TheVariants as stops
+use Rattle.hprof_objects.specs.declared.object_fault.ObjectFault.{ObjectFault}
+use Rattle.hprof_objects.specs.declared.object_fault.ObjectFault.TheVariants as stops
 use Rattle.hprof_objects.specs.declared.stretch_cursor.StretchCursor.{StretchCursor}
 use Rattle.hprof_objects.specs.declared.stretch_fault.StretchFault.{StretchFault}
 use Rattle.hprof_objects.specs.declared.stretch_fault.StretchFault.TheVariants as faults
@@ -62,7 +62,7 @@ module _ {R : Type 0} (left : R → Option (List ℕ)) (health : R → Health) (
       all reads [] are same = absurd are
       all reads (rows ∷ lists) are same = never rows (limits.max_reads, opens reads rows are.0.is same)
 
-  stop_tells : {G : Type 0} (stop : ObjectStop G) → TellsCursor left health pulls cut.stretch.part it stop
+  stop_tells : {G : Type 0} (stop : ObjectFault G) → TellsCursor left health pulls cut.stretch.part it stop
       → TellsCuts limits told (cut ∷ []) stop
   stop_tells stops.OutOfMemory tells = tt
   stop_tells (stops.TwoContents key) tells = tells
@@ -72,7 +72,7 @@ module _ {R : Type 0} (left : R → Option (List ℕ)) (health : R → Health) (
       → IsSameAt limits told reads n → ⊥)) (sym tells.0) (never_changed fault tells.1)
   stop_tells (stops.Sink fault) tells = tt
 
-  pub cut_tells : {A G : Type 0} (result : Result A (ObjectStop G))
+  pub cut_tells : {A G : Type 0} (result : Result A (ObjectFault G))
       → IfErr result (TellsCursor left health pulls cut.stretch.part it) → IfErr result (TellsCuts limits told (cut ∷ []))
   cut_tells (Ok done) tells = tt
   cut_tells (Err stop) tells = stop_tells stop tells
@@ -82,7 +82,7 @@ module _ {R : Type 0} (left : R → Option (List ℕ)) (health : R → Health) (
 -- what a stop at one of them tells of all
 pub among_tells : {G : Type 0} (limits : Limits) (told : List (Option (List ℕ))) (cuts : List Cut) (cut : Cut)
     → ((reads : List PartRead) (lists : List (List ByteRow)) → AreCuts limits reads cuts lists
-    → (rows : List ByteRow) × IsCutOf limits reads cut rows) → (stop : ObjectStop G) → TellsCuts limits told (cut ∷ []) stop
+    → (rows : List ByteRow) × IsCutOf limits reads cut rows) → (stop : ObjectFault G) → TellsCuts limits told (cut ∷ []) stop
     → TellsCuts limits told cuts stop
 among_tells limits told cuts cut among stops.OutOfMemory tells = tt
 among_tells limits told cuts cut among (stops.TwoContents key) tells = tells
@@ -246,7 +246,7 @@ module _ {T : Type 0} (steps : T → ℕ → List ℕ → T → Type 0) (wanted 
         refused = picks.refused;
       }
 
-      pub cut_stops : (A : Type 0) (stop : ObjectStop G) → PicksOf steps refuses next {A = A} next_cut.its (Err stop) mid new
+      pub cut_stops : (A : Type 0) (stop : ObjectFault G) → PicksOf steps refuses next {A = A} next_cut.its (Err stop) mid new
           → PicksOf steps refuses wanted {A = A} rows (Err stop) old new
       cut_stops A stops.OutOfMemory picks = first_of_it picks
       cut_stops A (stops.TwoContents key) picks = absurd picks

@@ -8,8 +8,8 @@ use Rattle.hprof_merge.specs.Rows.{ByteRow, Has, IsAscending}
 use Rattle.hprof_merge.specs.Union.{IsUnion, IsUnionBelow}
 use Rattle.hprof_runs.proofs.TwoPieces.{ascends_behind, ascends_front, below_behind, from_first, has_either, has_front}
 use Rattle.hprof_objects.specs.declared.cut.Cut.{Cut}
-use Rattle.hprof_objects.specs.declared.object_stop.ObjectStop.{ObjectStop}
-use Rattle.hprof_objects.specs.declared.object_stop.ObjectStop.TheVariants as stops
+use Rattle.hprof_objects.specs.declared.object_fault.ObjectFault.{ObjectFault}
+use Rattle.hprof_objects.specs.declared.object_fault.ObjectFault.TheVariants as stops
 use Rattle.hprof_objects.specs.declared.stored_objects.StoredObjects.{StoredObjects}
 use Rattle.hprof_objects.specs.declared.stretch_fault.StretchFault.TheVariants as faults
 use Rattle.hprof_objects.specs.MergedObjects.{IfScratchFails, TellsChange}
@@ -91,7 +91,7 @@ module _ (lists : List (List ByteRow)) (rows : List ByteRow) (union : IsUnion li
       },
     )
 
-    pub picks_of : {A : Type 0} (result : Result A (ObjectStop G)) → PicksOf steps refuses wanted rows result old new
+    pub picks_of : {A : Type 0} (result : Result A (ObjectFault G)) → PicksOf steps refuses wanted rows result old new
         → Picks steps refuses wanted lists result old new
     picks_of (Ok done) picks = record { all = rows; union = union; run = picks }
     picks_of (Err stops.OutOfMemory) picks = picks_front picks
@@ -104,7 +104,7 @@ module _ (lists : List (List ByteRow)) (rows : List ByteRow) (union : IsUnion li
 
 module _ {S : Type 0} (written : S → Option (List ℕ)) (health : S → Health) (limits : Limits) (told : List (Option (List ℕ)))
     (objects : StoredObjects S) where
-  stop_changes : {G : Type 0} (stop : ObjectStop G) → TellsCuts limits told objects.cuts.items stop
+  stop_changes : {G : Type 0} (stop : ObjectFault G) → TellsCuts limits told objects.cuts.items stop
       → TellsChange written health limits told objects stop
   stop_changes stops.OutOfMemory tells = tt
   stop_changes (stops.TwoContents key) tells = tt
@@ -114,13 +114,13 @@ module _ {S : Type 0} (written : S → Option (List ℕ)) (health : S → Health
   stop_changes (stops.Part part faults.Changed) tells = λ reads holds same. tells reads holds.cut.lists holds.cut.are same
   stop_changes (stops.Sink fault) tells = tt
 
-  pub cuts_change : {A G : Type 0} (result : Result A (ObjectStop G)) → IfErr result (TellsCuts limits told objects.cuts.items)
+  pub cuts_change : {A G : Type 0} (result : Result A (ObjectFault G)) → IfErr result (TellsCuts limits told objects.cuts.items)
       → IfErr result (TellsChange written health limits told objects)
   cuts_change (Ok done) tells = tt
   cuts_change (Err stop) tells = stop_changes stop tells
 
 pub no_scratch : {A G : Type 0} (limits : Limits) (told : List (Option (List ℕ))) (cuts : List Cut) (P : Type 0)
-    (result : Result A (ObjectStop G)) → IfErr result (TellsCuts limits told cuts)
+    (result : Result A (ObjectFault G)) → IfErr result (TellsCuts limits told cuts)
     → IfErr result (λ stop. IfScratchFails stop P)
 no_scratch limits told cuts P (Ok done) tells = tt
 no_scratch limits told cuts P (Err stops.OutOfMemory) tells = tt

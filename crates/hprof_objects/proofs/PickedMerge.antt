@@ -8,8 +8,8 @@ use Rattle.hprof_merge.specs.Run.{Runs}
 use Rattle.hprof_merge.specs.Union.{IsUnion}
 use Rattle.hprof_merge.proofs.Lists.{append-last}
 use Rattle.hprof_runs.proofs.TwoPieces.{ascends_front}
-use Rattle.hprof_objects.specs.declared.object_stop.ObjectStop.{ObjectStop}
-use Rattle.hprof_objects.specs.declared.object_stop.ObjectStop.TheVariants as stops
+use Rattle.hprof_objects.specs.declared.object_fault.ObjectFault.{ObjectFault}
+use Rattle.hprof_objects.specs.declared.object_fault.ObjectFault.TheVariants as stops
 use Rattle.hprof_objects.specs.declared.picking_sink.PickingSink.{PickingSink}
 use Rattle.hprof_objects.specs.MergedObjects.{MergesLists, UnlessRefused}
 use Rattle.hprof_objects.specs.Picks.{Picks, PicksBelow, RefusesWanted}
@@ -24,7 +24,7 @@ module _ {T G : Type 0} (steps : T → ℕ → List ℕ → T → Type 0) (refus
   over_run old [] new run = ap (λ (it : PickingSink T). it.sink.ghost_name) (sym run)
   over_run old (row ∷ rows) new run = over_run run.0 rows new run.2 ∙ run.1.over
 
-  pub over_lists : {A : Type 0} (lists : List (List ByteRow)) (result : Result A (ObjectStop G)) (old new : PickingSink T)
+  pub over_lists : {A : Type 0} (lists : List (List ByteRow)) (result : Result A (ObjectFault G)) (old new : PickingSink T)
       → MergesLists (PicksRow steps) (RefusesPicked refuses) lists result old new → IsOver new old.sink
   over_lists lists (Ok done) old new taken = over_run old taken.all new taken.run
   over_lists lists (Err stops.OutOfMemory) old new front = over_run old front.1.front new front.1.run
@@ -81,7 +81,7 @@ module _ {T G : Type 0} (steps : T → ℕ → List ℕ → T → Type 0) (refus
         refused = it.refused.refused;
       }
 
-      pub picks_merged : {A : Type 0} (result : Result A (ObjectStop G))
+      pub picks_merged : {A : Type 0} (result : Result A (ObjectFault G))
           → MergesLists (PicksRow steps) (RefusesPicked refuses) lists result old new
           → Picks steps refuses wanted lists result (sink_under old) (sink_under new)
       picks_merged (Ok done) taken = record {
@@ -96,7 +96,7 @@ module _ {T G : Type 0} (steps : T → ℕ → List ℕ → T → Type 0) (refus
       picks_merged (Err (stops.Sink fault)) it = (it.0, refused it.0 fault it.1)
 
       -- from one sink to another
-      pub merged_picks : (was now : T) → sink_under old ≡ was → now ≡ sink_under new → {A : Type 0} (result : Result A (ObjectStop G))
+      pub merged_picks : (was now : T) → sink_under old ≡ was → now ≡ sink_under new → {A : Type 0} (result : Result A (ObjectFault G))
           → MergesLists (PicksRow steps) (RefusesPicked refuses) lists result old new → Picks steps refuses wanted lists result was now
       merged_picks was now first last result merges =
           subst (λ (t : T). Picks steps refuses wanted lists result was t) (sym last)
@@ -104,14 +104,14 @@ module _ {T G : Type 0} (steps : T → ℕ → List ℕ → T → Type 0) (refus
 
 -- lists have a union if a merge of them came to its end
 pub merged_union : {A T G I : Type 0} (steps : T → ℕ → List ℕ → T → Type 0) (refuses : T → ℕ → List ℕ → G → T → Type 0) (old new : T)
-    (Holds : I → Type 0) (lists : I → List (List ByteRow)) (result : Result A (ObjectStop G))
+    (Holds : I → Type 0) (lists : I → List (List ByteRow)) (result : Result A (ObjectFault G))
     → ((it : I) → Holds it → MergesLists steps refuses (lists it) result old new)
     → OnOk result ((it : I) → Holds it → (rows : List ByteRow) × IsUnion (lists it) rows)
 merged_union steps refuses old new Holds lists (Ok done) merges = λ it holds. let taken = merges it holds in (taken.all, taken.union)
 merged_union steps refuses old new Holds lists (Err stop) merges = tt
 
 -- the sink under it may be called, unless it refused a row
-well_under : {A T G : Type 0} (well : T → Type 0) (it : PickingSink T) (result : Result A (ObjectStop G))
+well_under : {A T G : Type 0} (well : T → Type 0) (it : PickingSink T) (result : Result A (ObjectFault G))
     → UnlessRefused (IsWell well it) result → UnlessRefused (well (sink_under it)) result
 well_under well it (Ok done) is = is.1
 well_under well it (Err stops.OutOfMemory) is = is.1
@@ -121,6 +121,6 @@ well_under well it (Err (stops.Part part fault)) is = is.1
 well_under well it (Err (stops.Sink fault)) is = tt
 
 pub well_merged : {A T G : Type 0} (well : T → Type 0) (it : PickingSink T) (now : T) → now ≡ sink_under it
-    → (result : Result A (ObjectStop G)) → UnlessRefused (IsWell well it) result → UnlessRefused (well now) result
+    → (result : Result A (ObjectFault G)) → UnlessRefused (IsWell well it) result → UnlessRefused (well now) result
 well_merged well it now last result is =
     subst (λ t. UnlessRefused (well t) result) (sym last) (well_under well it result is)

@@ -6,8 +6,8 @@ use Rattle.std.proofs.lemmas.List.{length-append, length-take}
 use Rattle.hprof_devices.specs.declared.health.Health.{Health}
 use Rattle.hprof_values.specs.declared.ids.IdSize.{IdSize}
 use Rattle.hprof_values.specs.declared.reason.Reason.TheVariants.{Truncated}
-use Rattle.hprof_values.specs.declared.stop.Stop.{Stop}
-use Rattle.hprof_values.specs.declared.stop.Stop.TheVariants.{Short, TooLong, Fault}
+use Rattle.hprof_values.specs.declared.parse_stop.ParseStop.{ParseStop}
+use Rattle.hprof_values.specs.declared.parse_stop.ParseStop.TheVariants.{Short, TooLong, Fault}
 use Rattle.hprof_items.specs.FactValue.{FactValue, Name, Load, Unload, Frame, Trace, Start, End, Rooted, Class, Instance, ObjArray}
 use Rattle.hprof_items.specs.FactValue.{PrimArray}
 use Rattle.hprof_items.specs.SubRecord.{dump_bytes}
@@ -99,7 +99,7 @@ by_fault_too whys.Read P Q More Other read changed tells = read tells
 by_fault_too whys.Changed P Q More Other read changed tells = changed tells
 
 -- a fault of an item is one of the bytes
-item_fault : (offset : ℕ) (step : Result (Found × ℕ) Stop) (fault : PartFault) → fault_at offset step ≡ Some fault
+item_fault : (offset : ℕ) (step : Result (Found × ℕ) ParseStop) (fault : PartFault) → fault_at offset step ≡ Some fault
     → stretch_fault fault ≡ whys.Read → ⊥
 item_fault offset (Ok found) fault fails is = cc
 item_fault offset (Err Short) fault fails is =

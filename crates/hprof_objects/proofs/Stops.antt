@@ -1,8 +1,8 @@
 -- What a merge of lists that are enough tells of all.
 use Rattle.std.proofs.Common.{◌≡◌, ◌≤◌, ◌+◌, ◌++◌, ℕ, List, [], ◌∷◌, inl, inr, refl, arith}
 use Rattle.std.specs.declared.convert.Infallible.{Infallible}
-use Rattle.hprof_merge.specs.declared.merge_stop.MergeStop.{MergeStop}
-use Rattle.hprof_merge.specs.declared.merge_stop.MergeStop.TheVariants as stops
+use Rattle.hprof_merge.specs.declared.merge_fault.MergeFault.{MergeFault}
+use Rattle.hprof_merge.specs.declared.merge_fault.MergeFault.TheVariants as stops
 use Rattle.hprof_merge.specs.declared.one_of.OneOf.{OneOf}
 use Rattle.hprof_merge.specs.declared.one_of.OneOf.TheVariants.{First, Second}
 use Rattle.hprof_merge.specs.Merging.{TakesAll, TakesBelow}
@@ -13,8 +13,8 @@ use Rattle.hprof_merge.specs.Union.{AllFrom, IsUnionBelow}
 use Rattle.hprof_merge.proofs.Unions.{enough_union}
 use Rattle.hprof_runs.specs.declared.run_fault.RunFault.{RunFault}
 use Rattle.hprof_runs.specs.declared.run_fault.RunFault.TheVariants as runs
-use Rattle.hprof_objects.specs.declared.object_stop.ObjectStop.{ObjectStop}
-use Rattle.hprof_objects.specs.declared.object_stop.ObjectStop.TheVariants.{OutOfMemory, TwoContents, Scratch, Part, Sink}
+use Rattle.hprof_objects.specs.declared.object_fault.ObjectFault.{ObjectFault}
+use Rattle.hprof_objects.specs.declared.object_fault.ObjectFault.TheVariants.{OutOfMemory, TwoContents, Scratch, Part, Sink}
 use Rattle.hprof_objects.specs.declared.stretch_fault.StretchFault.{StretchFault}
 use Rattle.hprof_objects.specs.declared.stretch_fault.StretchFault.TheVariants as stretches
 use Rattle.hprof_objects.specs.MergedObjects.{StopsWithin, TakesFront}
@@ -31,7 +31,7 @@ module _ {T G : Type 0} (steps : T → ℕ → List ℕ → T → Type 0) (refus
   nothing_taken lists old new same = (0, record { front = []; union = nothing_below lists; run = same })
 
   -- the merge did not begin
-  pub stops_before : (stop : ObjectStop G) → IsBefore stop → (lists : List (List ByteRow)) (sink : T)
+  pub stops_before : (stop : ObjectFault G) → IsBefore stop → (lists : List (List ByteRow)) (sink : T)
       → StopsWithin steps refuses lists stop sink sink
   stops_before OutOfMemory before lists sink = nothing_taken lists sink sink refl
   stops_before (TwoContents key) before lists sink = absurd before
@@ -64,7 +64,7 @@ module _ {T G : Type 0} (steps : T → ℕ → List ℕ → T → Type 0) (refus
     takes_front key low (inl takes) = (key, takes_below key key low (omega arith) takes)
     takes_front key low (inr takes) = (key + 1, takes_below key (key + 1) low (omega arith) takes)
 
-    pub stops_within : (stop : MergeStop (OneOf (OneOf (OneOf Infallible Infallible) RunFault) StretchFault) G)
+    pub stops_within : (stop : MergeFault (OneOf (OneOf (OneOf Infallible Infallible) RunFault) StretchFault) G)
         → StopsBecause steps refuses came now stop old new → StopsWithin steps refuses lists (object_stop part_at stop) old new
     stops_within stops.OutOfMemory because = nothing_taken lists old new because.1
     stops_within (stops.TwoContents key) because =

@@ -14,8 +14,8 @@ use Rattle.hprof_runs.specs.RunCuts.{IsRunCut}
 use Rattle.hprof_runs.specs.RunFault.{IfDamaged, IfReadFailed}
 use Rattle.hprof_objects.specs.declared.any_cut.AnyCut.{AnyCut}
 use Rattle.hprof_objects.specs.declared.any_cut.AnyCut.TheVariants.{InPart, InRun}
-use Rattle.hprof_objects.specs.declared.object_stop.ObjectStop.{ObjectStop}
-use Rattle.hprof_objects.specs.declared.object_stop.ObjectStop.TheVariants.{OutOfMemory, TwoContents, Scratch, Part, Sink}
+use Rattle.hprof_objects.specs.declared.object_fault.ObjectFault.{ObjectFault}
+use Rattle.hprof_objects.specs.declared.object_fault.ObjectFault.TheVariants.{OutOfMemory, TwoContents, Scratch, Part, Sink}
 use Rattle.hprof_objects.specs.declared.stretch_cursor.StretchCursor.{StretchCursor}
 use Rattle.hprof_objects.specs.declared.stretch_fault.StretchFault.{StretchFault}
 use Rattle.hprof_objects.specs.Cuts.{IsCutOf}
@@ -41,7 +41,7 @@ part_in (InPart cut) = cut.stretch.part
 part_in (InRun cut) = 0
 
 -- why a cursor over the cut failed
-abbrev pub stop_in : {G : Type 0} → AnyCut → OneOf RunFault StretchFault → ObjectStop G
+abbrev pub stop_in : {G : Type 0} → AnyCut → OneOf RunFault StretchFault → ObjectFault G
 stop_in cut (First fault) = scratch_stop fault
 stop_in cut (Second fault) = part_stop (part_in cut) fault
 
@@ -88,14 +88,14 @@ module _ {S : Type 0} (written : S → Option (List ℕ)) (scratch : S) (limits 
   Comes (InRun cut) rows = (all : List ℕ) × (written scratch ≡ Some all) × IsRunCut all cut rows
 
   -- it is a stop of reading the cut: a damage or a change: no rows are those of the cut; a read that failed: reads of the scratch may fail
-  abbrev pub TellsInPart : {G : Type 0} → AnyCut → ℕ → ObjectStop G → Type 0
+  abbrev pub TellsInPart : {G : Type 0} → AnyCut → ℕ → ObjectFault G → Type 0
   TellsInPart cut number OutOfMemory = ⊤
   TellsInPart cut number (TwoContents key) = ⊥
   TellsInPart cut number (Scratch fault) = ⊥
   TellsInPart cut number (Part part fault) = (part ≡ number) × ByFault fault ⊤ ((rows : List ByteRow) → Comes cut rows → ⊥)
   TellsInPart cut number (Sink fault) = ⊥
 
-  abbrev pub TellsInRun : {G : Type 0} → (S → Type 0) → AnyCut → ObjectStop G → Type 0
+  abbrev pub TellsInRun : {G : Type 0} → (S → Type 0) → AnyCut → ObjectFault G → Type 0
   TellsInRun unreadable cut OutOfMemory = ⊤
   TellsInRun unreadable cut (TwoContents key) = ⊥
   TellsInRun unreadable cut (Scratch fault) =
@@ -103,6 +103,6 @@ module _ {S : Type 0} (written : S → Option (List ℕ)) (scratch : S) (limits 
   TellsInRun unreadable cut (Part part fault) = ⊥
   TellsInRun unreadable cut (Sink fault) = ⊥
 
-  abbrev pub TellsCut : {G : Type 0} → (S → Type 0) → AnyCut → ObjectStop G → Type 0
+  abbrev pub TellsCut : {G : Type 0} → (S → Type 0) → AnyCut → ObjectFault G → Type 0
   TellsCut unreadable (InPart cut) stop = TellsInPart (InPart cut) cut.stretch.part stop
   TellsCut unreadable (InRun cut) stop = TellsInRun unreadable (InRun cut) stop

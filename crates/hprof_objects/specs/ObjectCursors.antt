@@ -3,8 +3,8 @@ use Rattle.std.specs.Prelude.{◌≡◌, ◌+◌, ◌-◌, ◌∷◌, ◌++◌, 
 use Rattle.std.specs.declared.convert.Infallible.{Infallible}
 use Rattle.hprof_devices.specs.declared.health.Health.{Health}
 use Rattle.hprof_stream.specs.declared.limits.Limits.{Limits}
-use Rattle.hprof_merge.specs.declared.merge_stop.MergeStop.{MergeStop}
-use Rattle.hprof_merge.specs.declared.merge_stop.MergeStop.TheVariants as stops
+use Rattle.hprof_merge.specs.declared.merge_fault.MergeFault.{MergeFault}
+use Rattle.hprof_merge.specs.declared.merge_fault.MergeFault.TheVariants as stops
 use Rattle.hprof_merge.specs.declared.one_of.OneOf.{OneOf}
 use Rattle.hprof_merge.specs.declared.one_of.OneOf.TheVariants.{First, Second}
 use Rattle.hprof_merge.specs.Rows.{ByteRow}
@@ -18,8 +18,8 @@ use Rattle.hprof_runs.specs.Known.{AllComeTo, comes_either}
 use Rattle.hprof_runs.specs.Picked.{firsts_of, others_of}
 use Rattle.hprof_runs.specs.RowsIn.{sorted_in}
 use Rattle.hprof_runs.specs.Runs.{HoldsRuns, run_count}
-use Rattle.hprof_objects.specs.declared.object_stop.ObjectStop.{ObjectStop}
-use Rattle.hprof_objects.specs.declared.object_stop.ObjectStop.TheVariants.{OutOfMemory, TwoContents, Scratch, Part, Sink}
+use Rattle.hprof_objects.specs.declared.object_fault.ObjectFault.{ObjectFault}
+use Rattle.hprof_objects.specs.declared.object_fault.ObjectFault.TheVariants.{OutOfMemory, TwoContents, Scratch, Part, Sink}
 use Rattle.hprof_objects.specs.declared.stored_objects.StoredObjects.{StoredObjects}
 use Rattle.hprof_objects.specs.declared.stretch.Stretch.{Stretch}
 use Rattle.hprof_objects.specs.declared.stretch_cursor.StretchCursor.{StretchCursor}
@@ -34,25 +34,25 @@ abbrev pub ObjectCursor : Type 0 → Type 0 → Type 0
 ObjectCursor S R = OneOf (OneOf (OneOf Firsts Others) (RunCursor S)) (StretchCursor R)
 
 -- why the scratch cannot be read back
-abbrev pub scratch_stop : {G : Type 0} → RunFault → ObjectStop G
+abbrev pub scratch_stop : {G : Type 0} → RunFault → ObjectFault G
 scratch_stop runs.OutOfMemory = OutOfMemory
 scratch_stop runs.Read = Scratch runs.Read
 scratch_stop runs.Damaged = Scratch runs.Damaged
 
 -- why a part cannot be read again
-abbrev pub part_stop : {G : Type 0} → ℕ → StretchFault → ObjectStop G
+abbrev pub part_stop : {G : Type 0} → ℕ → StretchFault → ObjectFault G
 part_stop part stretches.OutOfMemory = OutOfMemory
 part_stop part stretches.Read = Part part stretches.Read
 part_stop part stretches.Changed = Part part stretches.Changed
 
 -- why the merge stopped; the cursor at each place reads this part
-abbrev pub fault_stop : {G : Type 0} → ℕ → OneOf (OneOf (OneOf Infallible Infallible) RunFault) StretchFault → ObjectStop G
+abbrev pub fault_stop : {G : Type 0} → ℕ → OneOf (OneOf (OneOf Infallible Infallible) RunFault) StretchFault → ObjectFault G
 fault_stop part (First (First never)) = OutOfMemory
 fault_stop part (First (Second fault)) = scratch_stop fault
 fault_stop part (Second fault) = part_stop part fault
 
-abbrev pub object_stop : {G : Type 0} → (ℕ → ℕ) → MergeStop (OneOf (OneOf (OneOf Infallible Infallible) RunFault) StretchFault) G
-    → ObjectStop G
+abbrev pub object_stop : {G : Type 0} → (ℕ → ℕ) → MergeFault (OneOf (OneOf (OneOf Infallible Infallible) RunFault) StretchFault) G
+    → ObjectFault G
 object_stop part_at stops.OutOfMemory = OutOfMemory
 object_stop part_at (stops.TwoContents key) = TwoContents key
 object_stop part_at (stops.Cursor place fault) = fault_stop (part_at place) fault
@@ -69,7 +69,7 @@ abbrev pub part_under : {S : Type 0} → StoredObjects S → ℕ → ℕ
 part_under objects place = part_of objects.stretches.items (place - (run_count objects.runs + 2))
 
 -- the merge did not begin
-abbrev pub IsBefore : {G : Type 0} → ObjectStop G → Type 0
+abbrev pub IsBefore : {G : Type 0} → ObjectFault G → Type 0
 IsBefore OutOfMemory = ⊤
 IsBefore (TwoContents key) = ⊥
 IsBefore (Scratch fault) = ⊤

@@ -4,8 +4,8 @@ use Rattle.hprof_merge.specs.Rows.{ByteRow}
 use Rattle.hprof_merge.specs.Run.{Runs}
 use Rattle.hprof_merge.specs.TwoContents.{IsLeastWithTwoContents}
 use Rattle.hprof_merge.specs.Union.{IsUnion, IsUnionBelow}
-use Rattle.hprof_objects.specs.declared.object_stop.ObjectStop.{ObjectStop}
-use Rattle.hprof_objects.specs.declared.object_stop.ObjectStop.TheVariants.{OutOfMemory, TwoContents, Scratch, Part, Sink}
+use Rattle.hprof_objects.specs.declared.object_fault.ObjectFault.{ObjectFault}
+use Rattle.hprof_objects.specs.declared.object_fault.ObjectFault.TheVariants.{OutOfMemory, TwoContents, Scratch, Part, Sink}
 use Rattle.hprof_objects.specs.Wanted.{is_among, wanted_rows}
 
 module _ {T : Type 0} (steps : T → ℕ → List ℕ → T → Type 0) (wanted : List ℕ) where
@@ -37,7 +37,7 @@ module _ {T G : Type 0} (steps : T → ℕ → List ℕ → T → Type 0) (refus
 
   -- why picking from these lists stopped, and what the sink took before: at the least key with two contents all wanted rows below it, at a
   -- row that the sink refused all wanted rows below that one
-  abbrev pub StopsPicking : List (List ByteRow) → ObjectStop G → T → T → Type 0
+  abbrev pub StopsPicking : List (List ByteRow) → ObjectFault G → T → T → Type 0
   StopsPicking lists OutOfMemory old new = PicksFront steps wanted lists old new
   StopsPicking lists (TwoContents key) old new = IsLeastWithTwoContents lists key × PicksBelow steps wanted lists key old new
   StopsPicking lists (Scratch fault) old new = PicksFront steps wanted lists old new
@@ -45,7 +45,7 @@ module _ {T G : Type 0} (steps : T → ℕ → List ℕ → T → Type 0) (refus
   StopsPicking lists (Sink fault) old new = (row : ByteRow) × RefusesWanted lists row fault old new
 
   -- what picking from these lists answers, and what it does to the sink
-  abbrev pub Picks : {A : Type 0} → List (List ByteRow) → Result A (ObjectStop G) → T → T → Type 0
+  abbrev pub Picks : {A : Type 0} → List (List ByteRow) → Result A (ObjectFault G) → T → T → Type 0
   Picks lists (Ok done) old new = PicksAll steps wanted lists old new
   Picks lists (Err stop) old new = StopsPicking lists stop old new
 
@@ -70,7 +70,7 @@ module _ {T G : Type 0} (steps : T → ℕ → List ℕ → T → Type 0) (refus
     pub refused : refuses mid row.0 row.1 fault new
 
   -- what picking from a list of rows answers, of which none has two contents and none is in scratch
-  abbrev pub PicksOf : {A : Type 0} → List ByteRow → Result A (ObjectStop G) → T → T → Type 0
+  abbrev pub PicksOf : {A : Type 0} → List ByteRow → Result A (ObjectFault G) → T → T → Type 0
   PicksOf rows (Ok done) old new = Runs steps old (wanted_rows wanted rows) new
   PicksOf rows (Err OutOfMemory) old new = PicksFirst rows old new
   PicksOf rows (Err (TwoContents key)) old new = ⊥

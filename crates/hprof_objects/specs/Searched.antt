@@ -6,7 +6,7 @@ use Rattle.hprof_merge.specs.OneOf.{of_either}
 use Rattle.hprof_merge.specs.Rows.{ByteRow, Has}
 use Rattle.hprof_runs.specs.RunCursor.{run_shown}
 use Rattle.hprof_objects.specs.declared.any_cut.AnyCut.{AnyCut}
-use Rattle.hprof_objects.specs.declared.object_stop.ObjectStop.{ObjectStop}
+use Rattle.hprof_objects.specs.declared.object_fault.ObjectFault.{ObjectFault}
 use Rattle.hprof_objects.specs.declared.searched.Searched.{Searched}
 use Rattle.hprof_objects.specs.AnyCuts.{Among, AreApart, Comes, CutCanGoOn, CutComes, CutCursor, IsOver, TellsCut, last_in}
 use Rattle.hprof_objects.specs.StretchCursor.{stretch_shown}
@@ -100,7 +100,7 @@ module _ {S : Type 0} (written : S → Option (List ℕ)) (scratch : S) (limits 
   Finds id false cuts shown = (cut : AnyCut) → Among cuts cut → LackFor id cut
 
   -- it is a stop of reading one of the cuts
-  pub record StopsIn {G : Type 0} (unreadable : S → Type 0) (cuts : List AnyCut) (stop : ObjectStop G) : Type 0 where
+  pub record StopsIn {G : Type 0} (unreadable : S → Type 0) (cuts : List AnyCut) (stop : ObjectFault G) : Type 0 where
     pub cut : AnyCut
     pub among : Among cuts cut
     pub tells : TellsCut written scratch limits told unreadable cut stop

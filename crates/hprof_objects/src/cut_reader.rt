@@ -8,7 +8,7 @@ ghost use Rattle.hprof_objects.specs.StretchCursor.{CanGoOn, OpensStretch, Refus
 
 use crate::any_cut::AnyCut;
 use crate::cut::Cut;
-use crate::object_stop::ObjectStop;
+use crate::object_fault::ObjectFault;
 use crate::opening::{part_stop, scratch_stop};
 use crate::stretch_cursor::StretchCursor;
 use crate::stretch_fault::StretchFault;
@@ -53,7 +53,7 @@ fn open_in_part<R: Source + Drop, P: Parts<Reader = R>>(
 pub(crate) fn open_cut<'a, S: Scratch + Drop, R: Source + Drop, P: Parts<Reader = R>, F>(
     reader: &CutReader<'a, S, P>,
     cut: &AnyCut,
-) -> Result<CutCursor<'a, S, R>, ObjectStop<F>>
+) -> Result<CutCursor<'a, S, R>, ObjectFault<F>>
     ensures comes { IfOk result (λ cursor. (rows : List ByteRow)
         → Comes S.written (scratch_of reader.now.runs.now) reader.now.limits (P.bytes reader.now.parts.now) cut.now rows
         → CutComes S.written R.left R.health R.pulls cursor rows) }
@@ -75,7 +75,7 @@ pub(crate) fn open_cut<'a, S: Scratch + Drop, R: Source + Drop, P: Parts<Reader 
 }
 
 /// Returns why a cursor over a cut failed.
-pub(crate) fn cut_stop<F>(cut: &AnyCut, fault: OneOf<RunFault, StretchFault>) -> ObjectStop<F>
+pub(crate) fn cut_stop<F>(cut: &AnyCut, fault: OneOf<RunFault, StretchFault>) -> ObjectFault<F>
     ensures { result ≡ stop_in cut.now fault }
 {
     match fault {

@@ -10,7 +10,7 @@ ghost use Rattle.hprof_objects.specs.SearchedLists.{cuts_in};
 ghost use Rattle.hprof_objects.specs.Wanted.{Rises};
 
 use crate::cut_reader::CutReader;
-use crate::object_stop::ObjectStop;
+use crate::object_fault::ObjectFault;
 use crate::searched::Searched;
 use hprof_devices::Source;
 use hprof_merge::RowSink;
@@ -21,7 +21,7 @@ use hprof_runs::{Scratch, SortedRows};
 fn give_shown<S: Scratch + Drop, R: Source + Drop, T: RowSink>(
     list: &Searched<'_, S, R>,
     sink: &mut T,
-) -> Result<(), ObjectStop<T::Fault>>
+) -> Result<(), ObjectFault<T::Fault>>
     requires can { OpenCanGoOn R.health list.now.cursor }
     requires sink { T.well sink.old }
     ensures gives { GivesShown T.steps T.refuses (open_shown list.now.cursor) result sink.old sink.new }
@@ -29,7 +29,7 @@ fn give_shown<S: Scratch + Drop, R: Source + Drop, T: RowSink>(
 {
     match list.give(sink) {
         Ok(()) => Ok(()),
-        Err(fault) => Err(ObjectStop::Sink(fault)),
+        Err(fault) => Err(ObjectFault::Sink(fault)),
     }
 }
 
@@ -39,7 +39,7 @@ fn give_from<'a, S: Scratch + Drop, R: Source + Drop, P: Parts<Reader = R>, T: R
     reader: &CutReader<'a, S, P>,
     id: u64,
     sink: &mut T,
-) -> Result<(), ObjectStop<T::Fault>>
+) -> Result<(), ObjectFault<T::Fault>>
     requires ready { All (IsReady S.written R.left R.health R.pulls (scratch_of reader.now.runs.now) reader.now.limits
         (P.bytes reader.now.parts.now) id) lists.old }
     requires sink { T.well sink.old }
@@ -71,7 +71,7 @@ fn give_one<'a, S: Scratch + Drop, R: Source + Drop, P: Parts<Reader = R>, T: Ro
     reader: &CutReader<'a, S, P>,
     id: u64,
     sink: &mut T,
-) -> Result<(), ObjectStop<T::Fault>>
+) -> Result<(), ObjectFault<T::Fault>>
     requires ready { All (IsReady S.written R.left R.health R.pulls (scratch_of reader.now.runs.now) reader.now.limits
         (P.bytes reader.now.parts.now) id) lists.old }
     requires sink { T.well sink.old }
@@ -91,7 +91,7 @@ fn give_one<'a, S: Scratch + Drop, R: Source + Drop, P: Parts<Reader = R>, T: Ro
     };
     match sink.take(id, bytes) {
         Ok(()) => Ok(()),
-        Err(fault) => Err(ObjectStop::Sink(fault)),
+        Err(fault) => Err(ObjectFault::Sink(fault)),
     }
 }
 
@@ -108,7 +108,7 @@ pub(crate) fn give_wanted<
     reader: &CutReader<'a, S, P>,
     wanted: &[u64],
     sink: &mut T,
-) -> Result<(), ObjectStop<T::Fault>>
+) -> Result<(), ObjectFault<T::Fault>>
     requires ready { All (IsReady S.written R.left R.health R.pulls (scratch_of reader.now.runs.now) reader.now.limits
         (P.bytes reader.now.parts.now) 0) lists.old }
     requires rises { Rises wanted.now }

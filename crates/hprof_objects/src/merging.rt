@@ -9,12 +9,12 @@ ghost use Rattle.hprof_objects.specs.ObjectCursors.{object_stop, part_under};
 ghost use Rattle.hprof_objects.specs.PartsRead.{PartRead};
 ghost use Rattle.hprof_objects.specs.StoredObjects.{AreToldAgain, HoldsObjects, IsOneStretch, objects_of, scratch_under};
 
-use crate::object_stop::ObjectStop;
+use crate::object_fault::ObjectFault;
 use crate::opening::{part_stop, scratch_stop};
 use crate::stored_objects::StoredObjects;
 use crate::stretch_fault::StretchFault;
 use hprof_devices::Source;
-use hprof_merge::{MergeStop, OneOf, RowSink, merge_rows};
+use hprof_merge::{MergeFault, OneOf, RowSink, merge_rows};
 use hprof_parts::Parts;
 use hprof_runs::{RunFault, Scratch};
 use hprof_stream::Limits;
@@ -37,16 +37,19 @@ impl<S: Scratch + Drop> StoredObjects<S> {
     }
 
     /// Returns the reason why the objects cannot be merged.
-    fn stop_of<F>(&self, stop: MergeStop<CursorFault, F>) -> ObjectStop<F>
+    fn stop_of<F>(&self, stop: MergeFault<CursorFault, F>) -> ObjectFault<F>
         ensures { result ≡ object_stop (part_under self.now) stop }
     {
         match stop {
-            MergeStop::OutOfMemory => ObjectStop::OutOfMemory,
-            MergeStop::TwoContents(id) => ObjectStop::TwoContents(id),
-            MergeStop::Cursor(_, OneOf::First(OneOf::First(_))) => ObjectStop::OutOfMemory,
-            MergeStop::Cursor(_, OneOf::First(OneOf::Second(fault))) => scratch_stop(fault),
-            MergeStop::Cursor(place, OneOf::Second(fault)) => part_stop(self.part_at(place), fault),
-            MergeStop::Sink(fault) => ObjectStop::Sink(fault),
+            MergeFault::OutOfMemory => ObjectFault::OutOfMemory,
+            MergeFault::TwoContents(id) => ObjectFault::TwoContents(id),
+            MergeFault::Cursor(_, OneOf::First(OneOf::First(_))) => ObjectFault::OutOfMemory,
+            MergeFault::Cursor(_, OneOf::First(OneOf::Second(fault))) => scratch_stop(fault),
+            MergeFault::Cursor(place, OneOf::Second(fault)) => part_stop(
+                self.part_at(place),
+                fault,
+            ),
+            MergeFault::Sink(fault) => ObjectFault::Sink(fault),
         }
     }
 
@@ -90,7 +93,7 @@ impl<S: Scratch + Drop> StoredObjects<S> {
         parts: &P,
         limits: Limits,
         sink: &mut T,
-    ) -> Result<(), ObjectStop<T::Fault>>
+    ) -> Result<(), ObjectFault<T::Fault>>
         requires sink { T.well sink.old }
         ensures rows { (lists : List (List ByteRow)) × MergesLists T.steps T.refuses lists result sink.old sink.new }
         ensures objects { (reads : List PartRead) → AreToldAgain S.written S.health limits (P.bytes parts.now) reads self.now

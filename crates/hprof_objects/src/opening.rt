@@ -8,7 +8,7 @@ ghost use Rattle.hprof_objects.specs.ObjectCursors.{AddsStretches, IsBefore, Ope
 ghost use Rattle.hprof_objects.specs.StoredObjects.{scratch_under};
 ghost use Rattle.hprof_objects.specs.StretchCursor.{CanGoOn, RefusesOneOf};
 
-use crate::object_stop::ObjectStop;
+use crate::object_fault::ObjectFault;
 use crate::stored_objects::StoredObjects;
 use crate::stretch::Stretch;
 use crate::stretch_cursor::StretchCursor;
@@ -24,22 +24,22 @@ use std::alloc::Global;
 pub(crate) type ObjectCursor<'a, S, R> = OneOf<AnyRows<'a, S>, StretchCursor<R>>;
 
 /// Returns the reason why the scratch cannot be read back.
-pub(crate) fn scratch_stop<F>(fault: RunFault) -> ObjectStop<F>
+pub(crate) fn scratch_stop<F>(fault: RunFault) -> ObjectFault<F>
     ensures { result ≡ scratch_stop fault }
 {
     match fault {
-        RunFault::OutOfMemory => ObjectStop::OutOfMemory,
-        RunFault::Read | RunFault::Damaged => ObjectStop::Scratch(fault),
+        RunFault::OutOfMemory => ObjectFault::OutOfMemory,
+        RunFault::Read | RunFault::Damaged => ObjectFault::Scratch(fault),
     }
 }
 
 /// Returns the reason why a part cannot be read again.
-pub(crate) fn part_stop<F>(part: usize, fault: StretchFault) -> ObjectStop<F>
+pub(crate) fn part_stop<F>(part: usize, fault: StretchFault) -> ObjectFault<F>
     ensures { result ≡ part_stop part fault }
 {
     match fault {
-        StretchFault::OutOfMemory => ObjectStop::OutOfMemory,
-        StretchFault::Read | StretchFault::Changed => ObjectStop::Part { part, fault },
+        StretchFault::OutOfMemory => ObjectFault::OutOfMemory,
+        StretchFault::Read | StretchFault::Changed => ObjectFault::Part { part, fault },
     }
 }
 
@@ -81,7 +81,7 @@ impl<S: Scratch + Drop> StoredObjects<S> {
         alloc: Global,
         parts: &P,
         limits: Limits,
-    ) -> Result<Vec<ObjectCursor<'_, S, R>>, ObjectStop<F>>
+    ) -> Result<Vec<ObjectCursor<'_, S, R>>, ObjectFault<F>>
         ensures opens { IfOk result (λ cursors. OpensObjects R.left R.health R.pulls limits (P.bytes parts.now) S.written S.health self.now
             cursors.items) }
         ensures well { IfOk result (λ cursors. All (holds_either any_well (CanGoOn R.health)) cursors.items) }

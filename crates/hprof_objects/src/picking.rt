@@ -17,7 +17,7 @@ ghost use Rattle.hprof_objects.specs.Stretches.{EndsAt};
 ghost use Rattle.hprof_objects.specs.Wanted.{Rises};
 
 use crate::cut::Cut;
-use crate::object_stop::ObjectStop;
+use crate::object_fault::ObjectFault;
 use crate::opening::part_stop;
 use crate::picking_sink::{PickingSink, give};
 use crate::stored_objects::StoredObjects;
@@ -37,7 +37,7 @@ fn pick_rows<R: Source + Drop, T: RowSink>(
     cut: &Cut,
     wanted: &[u64],
     sink: &mut T,
-) -> Result<(), ObjectStop<T::Fault>>
+) -> Result<(), ObjectFault<T::Fault>>
     requires cursor { CanGoOn R.health cursor.old }
     requires sink { T.well sink.old }
     requires rises { Rises wanted.now }
@@ -57,7 +57,7 @@ fn pick_rows<R: Source + Drop, T: RowSink>(
             return Ok(());
         }
         if let Err(fault) = give(rest, key, bytes, sink) {
-            return Err(ObjectStop::Sink(fault));
+            return Err(ObjectFault::Sink(fault));
         }
         if let Err(fault) = cursor.advance() {
             return Err(part_stop(cut.stretch.part, fault));
@@ -74,7 +74,7 @@ fn pick_cut<R: Source + Drop, P: Parts<Reader = R>, T: RowSink>(
     limits: Limits,
     wanted: &[u64],
     sink: &mut T,
-) -> Result<(), ObjectStop<T::Fault>>
+) -> Result<(), ObjectFault<T::Fault>>
     requires sink { T.well sink.old }
     requires rises { Rises wanted.now }
     ensures rows { (reads : List PartRead) (rows : List ByteRow) → IsCutOf limits reads cut.now rows
@@ -106,7 +106,7 @@ fn pick_cuts<R: Source + Drop, P: Parts<Reader = R>, T: RowSink>(
     limits: Limits,
     wanted: &[u64],
     sink: &mut T,
-) -> Result<(), ObjectStop<T::Fault>>
+) -> Result<(), ObjectFault<T::Fault>>
     requires sink { T.well sink.old }
     requires rises { Rises wanted.now }
     ensures rows { (reads : List PartRead) (rows : List ByteRow) → CutInto limits reads cuts.now rows → IsAscending rows
@@ -148,7 +148,7 @@ impl<S: Scratch + Drop> StoredObjects<S> {
         limits: Limits,
         wanted: &[u64],
         sink: &mut T,
-    ) -> Result<(), ObjectStop<T::Fault>>
+    ) -> Result<(), ObjectFault<T::Fault>>
         requires sink { T.well sink.old }
         requires ascend { IsStrictlyIncreasing wanted.now }
         ensures objects { (reads : List PartRead) → AreToldAgain S.written S.health limits (P.bytes parts.now) reads self.now

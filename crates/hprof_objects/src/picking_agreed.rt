@@ -13,7 +13,7 @@ ghost use Rattle.hprof_objects.specs.StoredObjects.{AreToldAgain, objects_of, sc
 use crate::cut_lists::CutLists;
 use crate::cut_reader::CutReader;
 use crate::giving::give_wanted;
-use crate::object_stop::ObjectStop;
+use crate::object_fault::ObjectFault;
 use crate::stored_objects::StoredObjects;
 use hprof_devices::Source;
 use hprof_merge::RowSink;
@@ -53,7 +53,7 @@ impl<S: Scratch + Drop> StoredObjects<S> {
         limits: Limits,
         wanted: &[u64],
         sink: &mut T,
-    ) -> Result<(), ObjectStop<T::Fault>>
+    ) -> Result<(), ObjectFault<T::Fault>>
         requires lists { AreListsOf self.now lists.now }
         requires agree { (reads : List PartRead) → AreToldAgain S.written S.health limits (P.bytes parts.now) reads self.now
             → (rows : List ByteRow) × IsUnion (objects_of reads) rows }
@@ -69,7 +69,7 @@ impl<S: Scratch + Drop> StoredObjects<S> {
             return self.pick(alloc, parts, limits, wanted, sink);
         }
         let Ok(mut lists) = lists.searched(alloc) else {
-            return Err(ObjectStop::OutOfMemory);
+            return Err(ObjectFault::OutOfMemory);
         };
         let reader = CutReader {
             alloc,

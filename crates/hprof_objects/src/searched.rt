@@ -9,7 +9,7 @@ ghost use Rattle.hprof_objects.specs.Searched.{OpenCanGoOn, PassesBelow, StopsIn
 
 use crate::any_cut::AnyCut;
 use crate::cut_reader::{CutCursor, CutReader, cut_stop, open_cut};
-use crate::object_stop::ObjectStop;
+use crate::object_fault::ObjectFault;
 use crate::seeking::go_up_to;
 use hprof_devices::Source;
 use hprof_merge::{RowCursor, RowSink};
@@ -50,7 +50,7 @@ impl<'a, S: Scratch + Drop, R: Source + Drop> Searched<'a, S, R> {
         reader: &CutReader<'a, S, P>,
         cut: &AnyCut,
         id: u64,
-    ) -> Result<(), ObjectStop<F>>
+    ) -> Result<(), ObjectFault<F>>
         requires first { (rest : List AnyCut) × (self.old.cuts.now ≡ cut.now ∷ rest) }
         requires ready { IsReady S.written R.left R.health R.pulls (scratch_of reader.now.runs.now) reader.now.limits
             (P.bytes reader.now.parts.now) id self.old }
@@ -77,7 +77,7 @@ impl<'a, S: Scratch + Drop, R: Source + Drop> Searched<'a, S, R> {
         &mut self,
         reader: &CutReader<'a, S, P>,
         id: u64,
-    ) -> Result<bool, ObjectStop<F>>
+    ) -> Result<bool, ObjectFault<F>>
         requires { IsReady S.written R.left R.health R.pulls (scratch_of reader.now.runs.now) reader.now.limits
             (P.bytes reader.now.parts.now) id self.old }
         ensures ready { OnOk result (IsReady S.written R.left R.health R.pulls (scratch_of reader.now.runs.now) reader.now.limits

@@ -3,8 +3,8 @@ use Rattle.std.proofs.Common.{◌≡◌, ℕ, true, List, [], ◌∷◌, ◌++�
 use Rattle.std.proofs.lemmas.List.Elements.{filter-append}
 use Rattle.hprof_values.specs.declared.ids.IdSize.{IdSize}
 use Rattle.hprof_items.specs.FactValue.{FactValue}
-use Rattle.hprof_passes.specs.declared.pass_stop.PassStop.{PassStop}
-use Rattle.hprof_passes.specs.declared.pass_stop.PassStop.TheVariants.{Sink, Lost}
+use Rattle.hprof_passes.specs.declared.pass_fault.PassFault.{PassFault}
+use Rattle.hprof_passes.specs.declared.pass_fault.PassFault.TheVariants.{Sink, Lost}
 use Rattle.hprof_passes.specs.declared.picking.Picking.{Picking}
 use Rattle.hprof_passes.specs.Passing.{Passes, TakesObjects}
 use Rattle.hprof_passes.specs.Picked.{is_wanted, picked}
@@ -34,7 +34,7 @@ module _ {T E : Type 0} (takes : T → IdSize → FactValue → T → Type 0) (r
     alike_taken (object ∷ objects) old new took =
         alike_then old took.0 new took.1.alike (alike_taken objects took.0 new took.2)
 
-    pub alike_passed : {A F : Type 0} (objects : List FactValue) (result : Result A (PassStop E F)) (old new : Picking T)
+    pub alike_passed : {A F : Type 0} (objects : List FactValue) (result : Result A (PassFault E F)) (old new : Picking T)
         → Passes (PicksObject takes) (RefusesPicked refuses) ids objects result old new → PickAlike old new
     alike_passed objects (Ok done) old new took = alike_taken objects old new took
     alike_passed objects (Err (Sink fault)) old new is =
@@ -58,7 +58,7 @@ module _ {T E : Type 0} (takes : T → IdSize → FactValue → T → Type 0) (r
         first rest)
 
     -- a pass of objects gives it those that are wanted
-    given_passed : {A F : Type 0} (wanted : List ℕ) (objects : List FactValue) (result : Result A (PassStop E F)) (old new : Picking T)
+    given_passed : {A F : Type 0} (wanted : List ℕ) (objects : List FactValue) (result : Result A (PassFault E F)) (old new : Picking T)
         → wanted_by old ≡ wanted → Passes (PicksObject takes) (RefusesPicked refuses) ids objects result old new
         → Passes takes refuses ids (picked wanted objects) result (sink_under old) (sink_under new)
     given_passed wanted objects (Ok done) old new same took = given_taken wanted objects old new same took
@@ -85,7 +85,7 @@ module _ {T E : Type 0} (takes : T → IdSize → FactValue → T → Type 0) (r
     }
 
     -- the same, from what that sink was before the pass to what it is behind it
-    pub given_between : {A F : Type 0} (wanted : List ℕ) (objects : List FactValue) (result : Result A (PassStop E F))
+    pub given_between : {A F : Type 0} (wanted : List ℕ) (objects : List FactValue) (result : Result A (PassFault E F))
         (old new : Picking T) → wanted_by old ≡ wanted → Passes (PicksObject takes) (RefusesPicked refuses) ids objects result old new
         → (was now : T) → sink_under old ≡ was → now ≡ sink_under new → Passes takes refuses ids (picked wanted objects) result was now
     given_between wanted objects result old new same passes was now begins ends =

@@ -8,8 +8,8 @@ use Rattle.hprof_rows.specs.declared.table.Table.TheVariants as tables
 use Rattle.hprof_rows.specs.Facts.{AllFit}
 use Rattle.hprof_rows.specs.Order.{IsCanonicalOrder}
 use Rattle.hprof_rows.specs.Tables.{facts_of_table}
-use Rattle.hprof_passes.specs.declared.pass_stop.PassStop.{PassStop}
-use Rattle.hprof_passes.specs.declared.pass_stop.PassStop.TheVariants.{Sink, Lost}
+use Rattle.hprof_passes.specs.declared.pass_fault.PassFault.{PassFault}
+use Rattle.hprof_passes.specs.declared.pass_fault.PassFault.TheVariants.{Sink, Lost}
 
 -- the objects among facts
 abbrev pub objects_among : List FactValue → List FactValue
@@ -61,12 +61,12 @@ module _ {T E : Type 0} (takes : T → IdSize → FactValue → T → Type 0) (r
       pub refused : refuses mid ids object fault new
 
     -- what a pass over these objects does to a sink
-    abbrev pub Passes : {A F : Type 0} → List FactValue → Result A (PassStop E F) → T → T → Type 0
+    abbrev pub Passes : {A F : Type 0} → List FactValue → Result A (PassFault E F) → T → T → Type 0
     Passes objects (Ok done) old new = TakesObjects takes ids old objects new
     Passes objects (Err (Sink fault)) old new = RefusesObject objects fault old new
     Passes objects (Err (Lost fault)) old new = TakesFront takes ids objects old new
 
 -- if the objects cannot be gone through, this holds of the reason
-abbrev pub IfLost : {E F : Type 0} → (F → Type 0) → PassStop E F → Type 0
+abbrev pub IfLost : {E F : Type 0} → (F → Type 0) → PassFault E F → Type 0
 IfLost Tells (Sink fault) = ⊤
 IfLost Tells (Lost fault) = Tells fault

@@ -9,8 +9,8 @@ ghost use Rattle.hprof_passes.specs.Picked.{picked};
 
 use crate::object_sink::ObjectSink;
 use crate::objects::Objects;
-use crate::pass_stop::PassStop;
-use hprof_heap::{Finger, Heap, Table, id_size, table_facts, table_len};
+use crate::pass_fault::PassFault;
+use hprof_heap::{Cursor, Heap, Table, id_size, table_facts, table_len};
 use hprof_items::Fact;
 use std::alloc::Global;
 use std::convert::Infallible;
@@ -19,9 +19,9 @@ use std::convert::Infallible;
 #[derive(Clone, Copy)]
 pub struct InHeap;
 
-/// Returns the object with an identifier, or `None` if the heap has none. It is looked up near the finger first.
+/// Returns the object with an identifier, or `None` if the heap has none. It is looked up near the cursor first.
 #[inline(always)]
-fn object_at<'a>(heap: &'a Heap, id: u64, near: &mut Finger) -> Option<Fact<'a>>
+fn object_at<'a>(heap: &'a Heap, id: u64, near: &mut Cursor) -> Option<Fact<'a>>
     ensures value { picked (id ∷ []) (objects_among (facts_of heap.now)) ≡ option_to_list (option_map value_of result) }
     ensures lists { IfSome result (ListsHave (size_of heap.now)) }
 {
@@ -34,7 +34,7 @@ fn object_at<'a>(heap: &'a Heap, id: u64, near: &mut Finger) -> Option<Fact<'a>>
 fn give_object<T: ObjectSink>(
     heap: &Heap,
     id: u64,
-    near: &mut Finger,
+    near: &mut Cursor,
     sink: &mut T,
 ) -> Result<(), T::Fault>
     ensures takes { OnOk result (TakesObjects T.takes (size_of heap.now) sink.old (picked (id ∷ []) (objects_among (facts_of heap.now)))
@@ -65,13 +65,13 @@ impl Objects for InHeap {
         _alloc: Global,
         heap: &Heap,
         sink: &mut T,
-    ) -> Result<(), PassStop<T::Fault, Infallible>> {
+    ) -> Result<(), PassFault<T::Fault, Infallible>> {
         let ids = id_size(heap);
         let mut facts = table_facts(heap, Table::Objects);
         let mut fact = Fact::End { thread: 0 };
         while facts.next_into(&mut fact) {
             if let Err(fault) = sink.take(ids, &fact) {
-                return Err(PassStop::Sink(fault));
+                return Err(PassFault::Sink(fault));
             }
         }
         Ok(())
@@ -83,12 +83,12 @@ impl Objects for InHeap {
         heap: &Heap,
         wanted: &[u64],
         sink: &mut T,
-    ) -> Result<(), PassStop<T::Fault, Infallible>> {
+    ) -> Result<(), PassFault<T::Fault, Infallible>> {
         id_size(heap);
-        let mut near = Finger::start();
+        let mut near = Cursor::start();
         for id in wanted {
             if let Err(fault) = give_object(heap, *id, &mut near, sink) {
-                return Err(PassStop::Sink(fault));
+                return Err(PassFault::Sink(fault));
             }
         }
         Ok(())

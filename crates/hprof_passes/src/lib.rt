@@ -7,11 +7,11 @@
 mod in_heap;
 mod object_sink;
 mod objects;
-mod pass_stop;
+mod pass_fault;
 mod picking;
 
 pub use in_heap::InHeap;
 pub use object_sink::ObjectSink;
 pub use objects::Objects;
-pub use pass_stop::PassStop;
+pub use pass_fault::PassFault;
 pub use picking::Picking;

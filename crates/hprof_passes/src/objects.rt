@@ -8,7 +8,7 @@ ghost use Rattle.hprof_passes.specs.Passing.{IfLost, Passes, objects_among};
 ghost use Rattle.hprof_passes.specs.Picked.{picked};
 
 use crate::object_sink::ObjectSink;
-use crate::pass_stop::PassStop;
+use crate::pass_fault::PassFault;
 use crate::picking::Picking;
 use hprof_heap::Heap;
 use std::alloc::Global;
@@ -41,7 +41,7 @@ pub trait Objects {
         alloc: Global,
         heap: &Heap,
         sink: &mut T,
-    ) -> Result<(), PassStop<T::Fault, Self::Fault>>
+    ) -> Result<(), PassFault<T::Fault, Self::Fault>>
         ensures given { (all : List FactValue) → make_up self.now (size_of heap.now) (facts_of heap.now) all
             → Passes T.takes T.refuses (size_of heap.now) (objects_among all) result sink.old sink.new }
         ensures agree { OnOk result (agree self.now (size_of heap.now) (facts_of heap.now)) }
@@ -62,7 +62,7 @@ pub trait Objects {
         heap: &Heap,
         wanted: &[u64],
         sink: &mut T,
-    ) -> Result<(), PassStop<T::Fault, Self::Fault>>
+    ) -> Result<(), PassFault<T::Fault, Self::Fault>>
         requires ascend { IsStrictlyIncreasing wanted.now }
         ensures given { (all : List FactValue) → make_up self.now (size_of heap.now) (facts_of heap.now) all
             → Passes T.takes T.refuses (size_of heap.now) (picked wanted.now (objects_among all)) result sink.old sink.new }

@@ -2,7 +2,7 @@
 
 use crate::expecting::{equal, equal_at};
 use hprof_devices::WriteFault;
-use hprof_engine::{FaultedPart, Joined, ProductRefusal, ToolFault};
+use hprof_engine::{FaultedPart, HeapFault, Joined, ToolFault};
 use hprof_heap::Key;
 use hprof_items::Reason;
 use hprof_stream::{PartFault, SinkFault};
@@ -89,12 +89,9 @@ const FAULTS: [(ToolFault, &str); 13] = [
     (ToolFault::Write(WriteFault::Failed), "write failed"),
     (ToolFault::Write(WriteFault::Stuck), "write failed"),
     (ToolFault::OutOfMemory, "out of memory"),
+    (ToolFault::Refused(HeapFault::DumpTooLong), "dump too long"),
     (
-        ToolFault::Refused(ProductRefusal::DumpTooLong),
-        "dump too long",
-    ),
-    (
-        ToolFault::Refused(ProductRefusal::NoClass),
+        ToolFault::Refused(HeapFault::NoClass),
         "no class has this name",
     ),
 ];

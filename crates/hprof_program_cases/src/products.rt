@@ -5,7 +5,7 @@ ghost use Rattle.std.specs.Prelude.{⊤};
 use crate::expecting::equal;
 use crate::samples::readers_of;
 use hprof_devices::{Device, Target};
-use hprof_engine::{Product, ProductRefusal, Summaries, ToolFault, WriteStop, make_to};
+use hprof_engine::{HeapFault, Product, ProductFault, Summaries, ToolFault, make_to};
 use hprof_fixtures::HEADER;
 use hprof_heap::Heap;
 use hprof_stream::{Limits, PartSummary};
@@ -16,7 +16,7 @@ use std::test::Fail;
 // A product that nothing is written of: it stops at once.
 #[derive(Clone, Copy)]
 struct Stopped {
-    stop: WriteStop,
+    stop: ProductFault,
 }
 
 impl Summaries for Stopped {
@@ -53,14 +53,14 @@ impl Product for Stopped {
         _kept: &(),
         _heap: &Heap,
         target: &mut W,
-    ) -> Result<(), WriteStop> {
+    ) -> Result<(), ProductFault> {
         match self.stop {
-            WriteStop::Refused(refusal) => Err(WriteStop::Refused(refusal)),
-            WriteStop::OutOfMemory => match target.push(&[]) {
-                Ok(_) => Err(WriteStop::OutOfMemory),
-                Err(fault) => Err(WriteStop::Write(fault)),
+            ProductFault::Refused(refusal) => Err(ProductFault::Refused(refusal)),
+            ProductFault::OutOfMemory => match target.push(&[]) {
+                Ok(_) => Err(ProductFault::OutOfMemory),
+                Err(fault) => Err(ProductFault::Write(fault)),
             },
-            WriteStop::Write(_) => Ok(()),
+            ProductFault::Write(_) => Ok(()),
         }
     }
 
@@ -71,7 +71,7 @@ impl Product for Stopped {
 fn check_stopped(
     rt: &impl Abort,
     alloc: Global,
-    stop: WriteStop,
+    stop: ProductFault,
     expected: ToolFault,
 ) -> Result<(), Fail> {
     let mut readers = readers_of(alloc, &[HEADER])?;
@@ -92,14 +92,14 @@ fn check_stopped(
 fn products_that_stop(rt: HostRuntime) -> Result<(), Fail> {
     let cases = [
         (
-            WriteStop::Refused(ProductRefusal::DumpTooLong),
-            ToolFault::Refused(ProductRefusal::DumpTooLong),
+            ProductFault::Refused(HeapFault::DumpTooLong),
+            ToolFault::Refused(HeapFault::DumpTooLong),
         ),
         (
-            WriteStop::Refused(ProductRefusal::NoClass),
-            ToolFault::Refused(ProductRefusal::NoClass),
+            ProductFault::Refused(HeapFault::NoClass),
+            ToolFault::Refused(HeapFault::NoClass),
         ),
-        (WriteStop::OutOfMemory, ToolFault::OutOfMemory),
+        (ProductFault::OutOfMemory, ToolFault::OutOfMemory),
     ];
     for (stop, fault) in cases {
         check_stopped(&rt, rt.alloc(), stop, fault)?;

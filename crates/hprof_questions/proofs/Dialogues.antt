@@ -9,8 +9,8 @@ use Rattle.hprof_devices.specs.declared.health.ReadFault.{ReadFault}
 use Rattle.hprof_engine.specs.declared.loss.Loss.{Loss}
 use Rattle.hprof_rows.specs.HeapValue.{HeapValue}
 use Rattle.hprof_questions.specs.declared.question.Question.{Question}
-use Rattle.hprof_questions.specs.declared.stop.DialogueStop.{DialogueStop}
-use Rattle.hprof_questions.specs.declared.stop.DialogueStop.TheVariants as stops
+use Rattle.hprof_questions.specs.declared.dialogue_fault.DialogueFault.{DialogueFault}
+use Rattle.hprof_questions.specs.declared.dialogue_fault.DialogueFault.TheVariants as stops
 use Rattle.hprof_questions.specs.Answering.{IsOfWriter, LeavesWriter, TellsLoss}
 use Rattle.hprof_questions.specs.Dialogue.{AnswersDialogue, AnswersLines, AnswersStopped, AreLinesToQuit, Came, EndsBehind}
 use Rattle.hprof_questions.specs.Dialogue.{Finishes, Heard, LetsReadOnAbout, TakesLines}
@@ -23,7 +23,7 @@ use Rattle.hprof_questions.proofs.Taking.{taken_none, taken_open}
 module _ (IsAnswer : Question → List ℕ → Type 0) {Q W : Type 0} (left : Q → Option (List ℕ)) (asking : Q → Health) (pulls : Q → ℕ)
     (written : W → Option (List ℕ)) (well : W → Health) (was : Q) (before : W) (is : Q) (bytes : List ℕ)
     (consumed : Consumes (left was) (left is) bytes) where
-  abbrev Ends : {A : Type 0} → W → Result A DialogueStop → Type 0
+  abbrev Ends : {A : Type 0} → W → Result A DialogueFault → Type 0
   Ends after r = AnswersDialogue IsAnswer left asking pulls written well was is before after r
 
   came : (after : W) (Holds : (bytes : List ℕ) (start now : Option (List ℕ)) → Type 0) → Holds bytes (written before) (written after)
@@ -32,7 +32,7 @@ module _ (IsAnswer : Question → List ℕ → Type 0) {Q W : Type 0} (left : Q 
 
   -- it stopped behind these bytes
   --   IsEnd: no more come
-  stopped : (IsEnd : Type 0) → (IsEnd → IsAtEnd (left is)) → (after : W) (stop : DialogueStop)
+  stopped : (IsEnd : Type 0) → (IsEnd → IsAtEnd (left is)) → (after : W) (stop : DialogueFault)
       → AnswersStopped IsAnswer IsEnd bytes (written before) (written after) stop → LeavesWriter {A = Unit {0}} (Err stop) (well after)
       → Ends {A = Unit {0}} after (Err stop)
   stopped IsEnd ends after (stops.Questions fault) some health = absurd health
@@ -44,24 +44,24 @@ module _ (IsAnswer : Question → List ℕ → Type 0) {Q W : Type 0} (left : Q 
       came after _ (before_for IsAnswer IsEnd (IsAtEnd (left is)) ends bytes (written before) (written after) some)
 
   -- in the midst of them
-  pub stopped_within : (after : W) (stop : DialogueStop)
+  pub stopped_within : (after : W) (stop : DialogueFault)
       → AnswersStopped IsAnswer ⊥ bytes (written before) (written after) stop → LeavesWriter {A = Unit {0}} (Err stop) (well after)
       → Ends {A = Unit {0}} after (Err stop)
   stopped_within after stop some health = stopped ⊥ (λ none. absurd none) after stop some health
 
   -- nothing more comes
-  pub finished : (after : W) (r : Result (Unit {0}) DialogueStop) → IsAtEnd (left is)
+  pub finished : (after : W) (r : Result (Unit {0}) DialogueFault) → IsAtEnd (left is)
       → Finishes IsAnswer bytes (written before) (written after) r → LeavesWriter r (well after) → Ends after r
   finished after (Ok done) end all health = inl (came after _ all, end)
   finished after (Err stop) end some health = stopped ⊤ (λ _. end) after stop some health
 
   -- a line ended it; then all is passed on, or the writer failed
-  pub quit : (then after : W) (r : Result (Unit {0}) DialogueStop)
+  pub quit : (then after : W) (r : Result (Unit {0}) DialogueFault)
       → AnswersLines IsAnswer AreLinesToQuit bytes (written before) (written then) → Keeps (written then) (written after)
       → IfErr r IsOfWriter → Ends after r
   quit then after r all keeps writes =
       by r (lines_still IsAnswer AreLinesToQuit bytes (written before) (written then) (written after) keeps all) writes where
-        by : (r : Result (Unit {0}) DialogueStop) → AnswersLines IsAnswer AreLinesToQuit bytes (written before) (written after)
+        by : (r : Result (Unit {0}) DialogueFault) → AnswersLines IsAnswer AreLinesToQuit bytes (written before) (written after)
             → IfErr r IsOfWriter → Ends after r
         by (Ok done) all writes = inr (came after _ all)
         by (Err (stops.Write fault)) all writes =
@@ -73,7 +73,7 @@ module _ (IsAnswer : Question → List ℕ → Type 0) {Q W : Type 0} (left : Q 
   module _ (mid after : W) (kept : List ℕ) (heard : Heard IsAnswer bytes (written before) (written mid) kept)
       (keeps : Keeps (written mid) (written after)) where
     -- memory was wanted before more was read, or the writer failed
-    pub hindered : (stop : DialogueStop) → (stop ≡ stops.OutOfMemory) ⊎ IsOfWriter stop
+    pub hindered : (stop : DialogueFault) → (stop ≡ stops.OutOfMemory) ⊎ IsOfWriter stop
         → LeavesWriter {A = Unit {0}} (Err stop) (well after) → Ends {A = Unit {0}} after (Err stop)
     hindered stop why health =
         stopped_within after stop
@@ -88,29 +88,29 @@ module _ (IsAnswer : Question → List ℕ → Type 0) {Q W : Type 0} (left : Q 
 
 module _ {Q W : Type 0} (left : Q → Option (List ℕ)) (asking : Q → Health) (pulls : Q → ℕ) (well : W → Health) (was is : Q) (after : W)
     (bytes : List ℕ) where
-  pub ends_stopped : (stop : DialogueStop) → asking is ≡ healths.Well → LeavesWriter {A = Unit {0}} (Err stop) (well after)
+  pub ends_stopped : (stop : DialogueFault) → asking is ≡ healths.Well → LeavesWriter {A = Unit {0}} (Err stop) (well after)
       → EndsBehind left asking pulls well was is after {A = Unit {0}} bytes (Err stop)
   ends_stopped (stops.Questions fault) asks health = absurd health
   ends_stopped (stops.Write fault) asks health = (asks, health)
   ends_stopped stops.OutOfMemory asks health = (asks, health)
   ends_stopped (stops.Lost loss) asks health = (asks, health)
 
-  pub ends_over : (r : Result (Unit {0}) DialogueStop) → IsAtEnd (left is) ⊎ ((lines : List (List ℕ)) × AreLinesToQuit bytes lines)
+  pub ends_over : (r : Result (Unit {0}) DialogueFault) → IsAtEnd (left is) ⊎ ((lines : List (List ℕ)) × AreLinesToQuit bytes lines)
       → asking is ≡ healths.Well → LeavesWriter r (well after) → EndsBehind left asking pulls well was is after bytes r
   ends_over (Ok done) over asks health = (over, asks, health)
   ends_over (Err stop) over asks health = ends_stopped stop asks health
 
 -- all was passed on behind a stop, or the writer failed
-pub lost_passed : (Loses : Loss → Type 0) (stop last : DialogueStop) → TellsLoss {A = Unit {0}} Loses (Err stop)
+pub lost_passed : (Loses : Loss → Type 0) (stop last : DialogueFault) → TellsLoss {A = Unit {0}} Loses (Err stop)
     → (last ≡ stop) ⊎ IsOfWriter last → TellsLoss {A = Unit {0}} Loses (Err last)
 lost_passed Loses stop last tells (inl same) =
-    subst (λ (s : DialogueStop). TellsLoss {A = Unit {0}} Loses (Err s)) (sym same) tells
+    subst (λ (s : DialogueFault). TellsLoss {A = Unit {0}} Loses (Err s)) (sym same) tells
 lost_passed Loses stop (stops.Write fault) tells (inr writes) = tt
 lost_passed Loses stop (stops.Questions fault) tells (inr writes) = tt
 lost_passed Loses stop stops.OutOfMemory tells (inr writes) = tt
 lost_passed Loses stop (stops.Lost loss) tells (inr writes) = absurd writes
 
-pub lost_none : (Loses : Loss → Type 0) (r : Result (Unit {0}) DialogueStop) → IfErr r IsOfWriter → TellsLoss Loses r
+pub lost_none : (Loses : Loss → Type 0) (r : Result (Unit {0}) DialogueFault) → IfErr r IsOfWriter → TellsLoss Loses r
 lost_none Loses (Ok done) writes = tt
 lost_none Loses (Err (stops.Write fault)) writes = tt
 lost_none Loses (Err (stops.Questions fault)) writes = tt

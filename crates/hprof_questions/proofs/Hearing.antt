@@ -9,8 +9,8 @@ use Rattle.hprof_questions.specs.declared.dialogue.Course.{Course}
 use Rattle.hprof_questions.specs.declared.dialogue.Course.TheVariants as courses
 use Rattle.hprof_questions.specs.declared.question.Question.{Question}
 use Rattle.hprof_questions.specs.declared.question.Question.TheVariants as questions
-use Rattle.hprof_questions.specs.declared.stop.DialogueStop.{DialogueStop}
-use Rattle.hprof_questions.specs.declared.stop.DialogueStop.TheVariants as stops
+use Rattle.hprof_questions.specs.declared.dialogue_fault.DialogueFault.{DialogueFault}
+use Rattle.hprof_questions.specs.declared.dialogue_fault.DialogueFault.TheVariants as stops
 use Rattle.hprof_questions.specs.Answering.{AreAnswers, IsLineAnswer, IsOfWriter, TakesQuestion}
 use Rattle.hprof_questions.specs.Asked.{Asks, NoneQuits, Quits}
 use Rattle.hprof_questions.specs.Dialogue.{AnswersBefore, AnswersFront, AnswersLines, AnswersSome, AnswersStopped, AreLinesToQuit}
@@ -104,7 +104,7 @@ module _ (IsAnswer : Question → List ℕ → Type 0) where
         appended = Appends-trans start now new heard.text (take n answer) heard.appended appends;
       }
 
-      pub heard_stop : (more : List ℕ) (new : Option (List ℕ)) (stop : DialogueStop) → TakesQuestion IsAnswer question now new (Err stop)
+      pub heard_stop : (more : List ℕ) (new : Option (List ℕ)) (stop : DialogueFault) → TakesQuestion IsAnswer question now new (Err stop)
           → AnswersStopped IsAnswer ⊥ (bytes ++ 10 ∷ more) start new stop
       heard_stop more new (stops.Lost loss) (other, answer, is, same) =
           (front_of_last more new other answer is 0 (omega arith) (nothing_written now new same), refl)
@@ -147,7 +147,7 @@ module _ (IsAnswer : Question → List ℕ → Type 0) where
     }
 
     -- memory was wanted behind them, or the writer failed
-    pub heard_hindered : (new : Option (List ℕ)) (stop : DialogueStop) → Keeps now new → (stop ≡ stops.OutOfMemory) ⊎ IsOfWriter stop
+    pub heard_hindered : (new : Option (List ℕ)) (stop : DialogueFault) → Keeps now new → (stop ≡ stops.OutOfMemory) ⊎ IsOfWriter stop
         → AnswersStopped IsAnswer ⊥ bytes start new stop
     heard_hindered new stops.OutOfMemory keeps why = inl (heard_taken ⊥ new keeps)
     heard_hindered new (stops.Write fault) keeps why = inl (heard_taken ⊥ new keeps)
@@ -215,7 +215,7 @@ module _ (IsAnswer : Question → List ℕ → Type 0) where
       }
 
       -- what is behind the last line feed was answered, or ended the dialogue, or the answer stopped
-      pub heard_last : (r : Result Course DialogueStop) (new : Option (List ℕ)) → TakesQuestion IsAnswer question now new r
+      pub heard_last : (r : Result Course DialogueFault) (new : Option (List ℕ)) → TakesQuestion IsAnswer question now new r
           → Finishes IsAnswer bytes start new r
       heard_last (Ok courses.Open) new (other, answer, is, appends) = record {
         lines = before ++ unended ∷ [];
@@ -274,14 +274,14 @@ module _ (IsAnswer : Question → List ℕ → Type 0) where
   some_still IsEnd bytes start now new keeps (inr front) = inr (front_still IsEnd bytes start now new keeps front)
 
   -- whatever it stopped at, some of the answers were written
-  some_stopped : (IsEnd : Type 0) (bytes : List ℕ) (start now : Option (List ℕ)) (stop : DialogueStop)
+  some_stopped : (IsEnd : Type 0) (bytes : List ℕ) (start now : Option (List ℕ)) (stop : DialogueFault)
       → AnswersStopped IsAnswer IsEnd bytes start now stop → AnswersSome IsAnswer IsEnd bytes start now
   some_stopped IsEnd bytes start now (stops.Lost loss) before = inr before.0
   some_stopped IsEnd bytes start now (stops.Questions fault) some = some
   some_stopped IsEnd bytes start now (stops.Write fault) some = some
   some_stopped IsEnd bytes start now stops.OutOfMemory some = some
 
-  stopped_still : (IsEnd : Type 0) (bytes : List ℕ) (start now new : Option (List ℕ)) (stop : DialogueStop) → Keeps now new
+  stopped_still : (IsEnd : Type 0) (bytes : List ℕ) (start now new : Option (List ℕ)) (stop : DialogueFault) → Keeps now new
       → AnswersStopped IsAnswer IsEnd bytes start now stop → AnswersStopped IsAnswer IsEnd bytes start new stop
   stopped_still IsEnd bytes start now new (stops.Lost loss) keeps before =
       (front_still IsEnd bytes start now new keeps before.0, before.1)
@@ -290,7 +290,7 @@ module _ (IsAnswer : Question → List ℕ → Type 0) where
   stopped_still IsEnd bytes start now new stops.OutOfMemory keeps some = some_still IsEnd bytes start now new keeps some
 
   -- all was passed on behind it, or the writer failed
-  pub stopped_passed : (IsEnd : Type 0) (bytes : List ℕ) (start now new : Option (List ℕ)) (stop last : DialogueStop) → Keeps now new
+  pub stopped_passed : (IsEnd : Type 0) (bytes : List ℕ) (start now new : Option (List ℕ)) (stop last : DialogueFault) → Keeps now new
       → (last ≡ stop) ⊎ IsOfWriter last → AnswersStopped IsAnswer IsEnd bytes start now stop
       → AnswersStopped IsAnswer IsEnd bytes start new last
   stopped_passed IsEnd bytes start now new stop last keeps (inl same) stopped =
@@ -339,7 +339,7 @@ module _ (IsAnswer : Question → List ℕ → Type 0) where
   before_for IsEnd Ends ends bytes start now before = (front_for IsEnd Ends ends bytes start now before.0, before.1)
 
   -- all lines are answered, and all is passed on, or the writer failed
-  pub flushes_all : {A : Type 0} (r : Result A DialogueStop) (bytes : List ℕ) (start now new : Option (List ℕ))
+  pub flushes_all : {A : Type 0} (r : Result A DialogueFault) (bytes : List ℕ) (start now new : Option (List ℕ))
       → AnswersLines IsAnswer AreLines bytes start now → Keeps now new → IfErr r IsOfWriter → Finishes IsAnswer bytes start new r
   flushes_all (Ok done) bytes start now new all keeps writes = lines_still AreLines bytes start now new keeps all
   flushes_all (Err (stops.Write fault)) bytes start now new all keeps writes = inl (record {

@@ -10,8 +10,8 @@ use Rattle.hprof_rows.specs.HeapValue.{HeapValue}
 use Rattle.hprof_questions.specs.declared.dialogue.Course.{Course}
 use Rattle.hprof_questions.specs.declared.dialogue.Course.TheVariants as courses
 use Rattle.hprof_questions.specs.declared.question.Question.{Question}
-use Rattle.hprof_questions.specs.declared.stop.DialogueStop.{DialogueStop}
-use Rattle.hprof_questions.specs.declared.stop.DialogueStop.TheVariants as stops
+use Rattle.hprof_questions.specs.declared.dialogue_fault.DialogueFault.{DialogueFault}
+use Rattle.hprof_questions.specs.declared.dialogue_fault.DialogueFault.TheVariants as stops
 use Rattle.hprof_questions.specs.Answering.{AreAnswers, IsLineAnswer}
 use Rattle.hprof_questions.specs.Asked.{NoneQuits, Quits}
 use Rattle.hprof_questions.specs.Lines.{AreEndedLines, AreFirstLines, AreLines, AreTaken, HasNoFeed}
@@ -40,7 +40,7 @@ pub record TakesLines (bytes kept : List ℕ) : Type 0 where
   pub kept_is : kept ≡ take 4098 rest
 
 -- a piece of the bytes was gone over: more lines are taken, or one ended the dialogue
-abbrev pub TakesOn : (bytes kept : List ℕ) → Result Course DialogueStop → Type 0
+abbrev pub TakesOn : (bytes kept : List ℕ) → Result Course DialogueFault → Type 0
 TakesOn bytes kept (Ok courses.Open) = TakesLines bytes kept
 TakesOn bytes kept (Ok courses.Ended) = (lines : List (List ℕ)) × AreLinesToQuit bytes lines
 TakesOn bytes kept (Err stop) = ⊤
@@ -81,7 +81,7 @@ module _ (IsAnswer : Question → List ℕ → Type 0) where
   AnswersBefore IsEnd bytes start now = (front : AnswersFront IsEnd bytes start now) × (front.count ≡ 0)
 
   -- what was written as the answering of lines stopped: where that which they are about was lost, nothing of the last answer
-  abbrev pub AnswersStopped : (IsEnd : Type 0) (bytes : List ℕ) (start now : Option (List ℕ)) → DialogueStop → Type 0
+  abbrev pub AnswersStopped : (IsEnd : Type 0) (bytes : List ℕ) (start now : Option (List ℕ)) → DialogueFault → Type 0
   AnswersStopped IsEnd bytes start now (stops.Lost loss) = AnswersBefore IsEnd bytes start now
   AnswersStopped IsEnd bytes start now other = AnswersSome IsEnd bytes start now
 
@@ -93,13 +93,13 @@ module _ (IsAnswer : Question → List ℕ → Type 0) where
     pub appended : Appends start now text
 
   -- a piece of the bytes was gone over, behind which more may come, or a line in it ended the dialogue
-  abbrev pub GoesOver : (bytes : List ℕ) (start now : Option (List ℕ)) (kept : List ℕ) → Result Course DialogueStop → Type 0
+  abbrev pub GoesOver : (bytes : List ℕ) (start now : Option (List ℕ)) (kept : List ℕ) → Result Course DialogueFault → Type 0
   GoesOver bytes start now kept (Ok courses.Open) = Heard bytes start now kept
   GoesOver bytes start now kept (Ok courses.Ended) = AnswersLines AreLinesToQuit bytes start now
   GoesOver bytes start now kept (Err stop) = AnswersStopped ⊥ bytes start now stop
 
   -- there are no more bytes
-  abbrev pub Finishes : {A : Type 0} → (bytes : List ℕ) (start now : Option (List ℕ)) → Result A DialogueStop → Type 0
+  abbrev pub Finishes : {A : Type 0} → (bytes : List ℕ) (start now : Option (List ℕ)) → Result A DialogueFault → Type 0
   Finishes bytes start now (Ok done) = AnswersLines AreLines bytes start now
   Finishes bytes start now (Err stop) = AnswersStopped ⊤ bytes start now stop
 
@@ -119,7 +119,7 @@ module _ (IsAnswer : Question → List ℕ → Type 0) where
     IsOver = (Came (AnswersLines AreLines) × IsAtEnd (left is)) ⊎ Came (AnswersLines AreLinesToQuit)
 
     -- what was written of the answers as a dialogue ended
-    abbrev pub AnswersDialogue : {A : Type 0} → Result A DialogueStop → Type 0
+    abbrev pub AnswersDialogue : {A : Type 0} → Result A DialogueFault → Type 0
     -- no more is to be answered
     AnswersDialogue (Ok done) = IsOver
     -- the questions could not be read on, or were read more often than can be counted: the lines that had ended are answered, and none of
@@ -149,7 +149,7 @@ module _ (IsAnswer : Question → List ℕ → Type 0) where
 module _ {Q W : Type 0} (left : Q → Option (List ℕ)) (asking : Q → Health) (pulls : Q → ℕ) (well : W → Health) (was is : Q)
     (after : W) where
   -- behind these bytes of the questions
-  abbrev pub EndsBehind : {A : Type 0} → List ℕ → Result A DialogueStop → Type 0
+  abbrev pub EndsBehind : {A : Type 0} → List ℕ → Result A DialogueFault → Type 0
   -- no more bytes come, or a line ended the dialogue
   EndsBehind bytes (Ok done) = (IsAtEnd (left is) ⊎ ((lines : List (List ℕ)) × AreLinesToQuit bytes lines))
       × (asking is ≡ healths.Well) × (well after ≡ healths.Well)
@@ -163,7 +163,7 @@ module _ {Q W : Type 0} (left : Q → Option (List ℕ)) (asking : Q → Health)
   -- that which the answers are about was lost
   EndsBehind bytes (Err (stops.Lost loss)) = (asking is ≡ healths.Well) × (well after ≡ healths.Well)
 
-  abbrev pub EndsDialogue : {A : Type 0} → Result A DialogueStop → Type 0
+  abbrev pub EndsDialogue : {A : Type 0} → Result A DialogueFault → Type 0
   EndsDialogue r = (bytes : List ℕ) × Consumes (left was) (left is) bytes × EndsBehind bytes r
 
 -- the leave to read on: the same as that above, for answers that may be about any of some heaps

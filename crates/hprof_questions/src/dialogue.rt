@@ -10,8 +10,8 @@ ghost use Rattle.hprof_questions.specs.Dialogue.{AnswersDialogue, EndsDialogue, 
 ghost use Rattle.hprof_questions.specs.Dialogue.{TakesOn};
 
 use crate::asker::Asker;
+use crate::dialogue_fault::DialogueFault;
 use crate::question::{Question, ended_question, last_question};
-use crate::stop::DialogueStop;
 use hprof_devices::{Flush, ReadFault, Target};
 use std::alloc::Global;
 
@@ -52,27 +52,27 @@ pub trait Answers {
     ghost loses: { Self → Loss → Type 0 };
 
     // What is kept between questions is of this. It is no part of any answer.
-    ghost keeps: { Self → Self.Kept → Type 0 };
+    ghost keeps: { Self → Self.Cache → Type 0 };
 
     /// The state that is kept between questions.
-    type Kept;
+    type Cache;
 
     /// Writes the answer to a question. If it stops, at a fault or because memory runs out, some of the answer was written, from the front.
     /// If it stops because what it is about is lost, nothing of it was written.
     fn answer<W: Target>(
         &self,
         alloc: Global,
-        kept: &mut Self::Kept,
+        cache: &mut Self::Cache,
         question: Question<'_>,
         target: &mut W,
-    ) -> Result<(), DialogueStop>
+    ) -> Result<(), DialogueFault>
         requires well { W.health target.old ≡ Well }
-        requires kept { keeps self.now kept.old }
+        requires kept { keeps self.now cache.old }
         ensures bytes { (heap : HeapValue) → about self.now heap → (text : List ℕ) × is_answer self.now heap question.entry text
             × WritesAnswer (W.written target.old) (W.written target.new) result text }
         ensures health { LeavesWriter result (W.health target.new) }
         ensures lost { TellsLoss (loses self.now) result }
-        ensures kept { keeps self.now kept.new };
+        ensures kept { keeps self.now cache.new };
 
     // A question has an answer about each heap.
     ghost some_answer: { (answers : Self) (heap : HeapValue) → about answers heap → (question : Question)
@@ -98,23 +98,23 @@ fn keep(line: &mut Vec<u8>, byte: u8)
 fn take_question<A: Answers, W: Target>(
     alloc: Global,
     answers: &A,
-    kept: &mut A::Kept,
+    cache: &mut A::Cache,
     question: Question<'_>,
     target: &mut W,
-) -> Result<Course, DialogueStop>
+) -> Result<Course, DialogueFault>
     requires well { W.health target.old ≡ Well }
-    requires kept { A.keeps answers.now kept.old }
+    requires kept { A.keeps answers.now cache.old }
     ensures takes { (heap : HeapValue) → A.about answers.now heap
         → TakesQuestion (A.is_answer answers.now heap) question.entry (W.written target.old) (W.written target.new) result }
     ensures ends { EndsAtQuit question.entry result }
     ensures health { LeavesWriter result (W.health target.new) }
     ensures lost { TellsLoss (A.loses answers.now) result }
-    ensures kept { A.keeps answers.now kept.new }
+    ensures kept { A.keeps answers.now cache.new }
 {
     match question {
         Question::Quit => Ok(Course::Ended),
         _ => {
-            answers.answer(alloc, kept, question, target)?;
+            answers.answer(alloc, cache, question, target)?;
             Ok(Course::Open)
         }
     }
@@ -125,13 +125,13 @@ fn take_question<A: Answers, W: Target>(
 fn go_over<A: Answers, W: Target>(
     alloc: Global,
     answers: &A,
-    kept: &mut A::Kept,
+    cache: &mut A::Cache,
     piece: &[u8],
     line: &mut Vec<u8>,
     target: &mut W,
-) -> Result<Course, DialogueStop>
+) -> Result<Course, DialogueFault>
     requires well { W.health target.old ≡ Well }
-    requires kept { A.keeps answers.now kept.old }
+    requires kept { A.keeps answers.now cache.old }
     requires room { KEPT ≤ vec_capacity line.old }
     ensures bytes { (heap : HeapValue) → A.about answers.now heap → (bytes : List ℕ) (start : Option (List ℕ))
         → Heard (A.is_answer answers.now heap) bytes start (W.written target.old) line.old.items
@@ -139,13 +139,13 @@ fn go_over<A: Answers, W: Target>(
     ensures takes { (bytes : List ℕ) → TakesLines bytes line.old.items → TakesOn (bytes ++ piece.now) line.new.items result }
     ensures health { LeavesWriter result (W.health target.new) }
     ensures lost { TellsLoss (A.loses answers.now) result }
-    ensures kept { A.keeps answers.now kept.new }
+    ensures kept { A.keeps answers.now cache.new }
     ensures room { KEPT ≤ vec_capacity line.new }
 {
     for byte in piece {
         if *byte == b'\n' {
             let question = ended_question(line);
-            if let Course::Ended = take_question(alloc, answers, kept, question, target)? {
+            if let Course::Ended = take_question(alloc, answers, cache, question, target)? {
                 return Ok(Course::Ended);
             }
             line.clear();
@@ -157,7 +157,7 @@ fn go_over<A: Answers, W: Target>(
 }
 
 /// Passes on all bytes that were written.
-fn flush_all<W: Flush>(target: &mut W) -> Result<(), DialogueStop>
+fn flush_all<W: Flush>(target: &mut W) -> Result<(), DialogueFault>
     requires { W.health target.old ≡ Well }
     ensures bytes { Keeps (W.written target.old) (W.written target.new) }
     ensures flushed { OnOk result (W.flushed target.new) }
@@ -167,20 +167,20 @@ fn flush_all<W: Flush>(target: &mut W) -> Result<(), DialogueStop>
 {
     match target.flush() {
         Ok(()) => Ok(()),
-        Err(fault) => Err(DialogueStop::Write(fault)),
+        Err(fault) => Err(DialogueFault::Write(fault)),
     }
 }
 
 /// Passes on all bytes that were written before a stop, unless the writer has failed. Returns why it stops now.
-fn pass_on<W: Flush>(stop: DialogueStop, target: &mut W) -> DialogueStop
+fn pass_on<W: Flush>(stop: DialogueFault, target: &mut W) -> DialogueFault
     requires { LeavesWriter {A = Unit {0}} (Err stop) (W.health target.old) }
     ensures bytes { Keeps (W.written target.old) (W.written target.new) }
     ensures passes { PassesOn {A = Unit {0}} (Err result) (W.flushed target.new) }
     ensures health { LeavesWriter {A = Unit {0}} (Err result) (W.health target.new) }
     ensures stop { (result ≡ stop) ⊎ IsOfWriter result }
 {
-    if let DialogueStop::Write(fault) = stop {
-        return DialogueStop::Write(fault);
+    if let DialogueFault::Write(fault) = stop {
+        return DialogueFault::Write(fault);
     }
     match flush_all(target) {
         Ok(()) => stop,
@@ -192,23 +192,23 @@ fn pass_on<W: Flush>(stop: DialogueStop, target: &mut W) -> DialogueStop
 fn answer_last<A: Answers, W: Target>(
     alloc: Global,
     answers: &A,
-    kept: &mut A::Kept,
+    cache: &mut A::Cache,
     line: &[u8],
     target: &mut W,
-) -> Result<(), DialogueStop>
+) -> Result<(), DialogueFault>
     requires well { W.health target.old ≡ Well }
-    requires kept { A.keeps answers.now kept.old }
+    requires kept { A.keeps answers.now cache.old }
     ensures bytes { (heap : HeapValue) → A.about answers.now heap → (bytes : List ℕ) (start : Option (List ℕ))
         → Heard (A.is_answer answers.now heap) bytes start (W.written target.old) line.now
         → Finishes (A.is_answer answers.now heap) bytes start (W.written target.new) result }
     ensures health { LeavesWriter result (W.health target.new) }
     ensures lost { TellsLoss (A.loses answers.now) result }
-    ensures kept { A.keeps answers.now kept.new }
+    ensures kept { A.keeps answers.now cache.new }
 {
     if line.is_empty() {
         return Ok(());
     }
-    take_question(alloc, answers, kept, last_question(line), target)?;
+    take_question(alloc, answers, cache, last_question(line), target)?;
     Ok(())
 }
 
@@ -216,21 +216,21 @@ fn answer_last<A: Answers, W: Target>(
 fn finish<A: Answers, W: Flush>(
     alloc: Global,
     answers: &A,
-    kept: &mut A::Kept,
+    cache: &mut A::Cache,
     line: &[u8],
     target: &mut W,
-) -> Result<(), DialogueStop>
+) -> Result<(), DialogueFault>
     requires well { W.health target.old ≡ Well }
-    requires kept { A.keeps answers.now kept.old }
+    requires kept { A.keeps answers.now cache.old }
     ensures bytes { (heap : HeapValue) → A.about answers.now heap → (bytes : List ℕ) (start : Option (List ℕ))
         → Heard (A.is_answer answers.now heap) bytes start (W.written target.old) line.now
         → Finishes (A.is_answer answers.now heap) bytes start (W.written target.new) result }
     ensures health { LeavesWriter result (W.health target.new) }
     ensures lost { TellsLoss (A.loses answers.now) result }
     ensures flushed { PassesOn result (W.flushed target.new) }
-    ensures kept { A.keeps answers.now kept.new }
+    ensures kept { A.keeps answers.now cache.new }
 {
-    if let Err(stop) = answer_last(alloc, answers, kept, line, target) {
+    if let Err(stop) = answer_last(alloc, answers, cache, line, target) {
         return Err(pass_on(stop, target));
     }
     flush_all(target)
@@ -240,15 +240,15 @@ fn finish<A: Answers, W: Flush>(
 fn take_lines<A: Answers, Q: Asker<W>, W: Flush>(
     alloc: Global,
     answers: &A,
-    kept: &mut A::Kept,
+    cache: &mut A::Cache,
     questions: &mut Q,
     piece: &mut [u8],
     line: &mut Vec<u8>,
     target: &mut W,
-) -> Result<(), DialogueStop>
+) -> Result<(), DialogueFault>
     requires asking { Q.health questions.old ≡ Well }
     requires well { W.health target.old ≡ Well }
-    requires kept { A.keeps answers.now kept.old }
+    requires kept { A.keeps answers.now cache.old }
     requires leave { LetsReadOnAbout (A.about answers.now) (A.is_answer answers.now) Q.left W.written W.flushed Q.may_read questions.old
         (W.written target.old) }
     requires some { 0 < length piece.old }
@@ -260,7 +260,7 @@ fn take_lines<A: Answers, Q: Asker<W>, W: Flush>(
     ensures ends { EndsDialogue Q.left Q.health Q.pulls W.health questions.old questions.new target.new result }
     ensures flushed { PassesOn result (W.flushed target.new) }
     ensures lost { TellsLoss (A.loses answers.now) result }
-    ensures kept { A.keeps answers.now kept.new }
+    ensures kept { A.keeps answers.now cache.new }
 {
     'turns: for _turn in 0..u64::MAX {
         if let Err(stop) = flush_all(target) {
@@ -268,12 +268,12 @@ fn take_lines<A: Answers, Q: Asker<W>, W: Flush>(
         }
         let count = match questions.read_on(piece, target) {
             Ok(count) => count,
-            Err(fault) => return Err(DialogueStop::Questions(fault)),
+            Err(fault) => return Err(DialogueFault::Questions(fault)),
         };
         if count == 0 {
-            return finish(alloc, answers, kept, line, target);
+            return finish(alloc, answers, cache, line, target);
         }
-        match go_over(alloc, answers, kept, &piece[..count], line, target) {
+        match go_over(alloc, answers, cache, &piece[..count], line, target) {
             Ok(Course::Open) => {}
             Ok(Course::Ended) => return flush_all(target),
             Err(stop) => return Err(pass_on(stop, target)),
@@ -281,7 +281,7 @@ fn take_lines<A: Answers, Q: Asker<W>, W: Flush>(
     }
     // So often no source is pulled.
     match flush_all(target) {
-        Ok(()) => Err(DialogueStop::Questions(ReadFault::Failed)),
+        Ok(()) => Err(DialogueFault::Questions(ReadFault::Failed)),
         Err(stop) => Err(stop),
     }
 }
@@ -292,13 +292,13 @@ fn take_lines<A: Answers, Q: Asker<W>, W: Flush>(
 pub fn converse<A: Answers, Q: Asker<W>, W: Flush>(
     alloc: Global,
     answers: &A,
-    kept: &mut A::Kept,
+    cache: &mut A::Cache,
     questions: &mut Q,
     target: &mut W,
-) -> Result<(), DialogueStop>
+) -> Result<(), DialogueFault>
     requires asking { Q.health questions.old ≡ Well }
     requires well { W.health target.old ≡ Well }
-    requires kept { A.keeps answers.now kept.old }
+    requires kept { A.keeps answers.now cache.old }
     // No more is read before all lines that ended are answered, and the answers were flushed, nor behind a line that ends the dialogue.
     requires leave { LetsReadOnAbout (A.about answers.now) (A.is_answer answers.now) Q.left W.written W.flushed Q.may_read questions.old
         (W.written target.old) }
@@ -308,15 +308,15 @@ pub fn converse<A: Answers, Q: Asker<W>, W: Flush>(
     ensures ends { EndsDialogue Q.left Q.health Q.pulls W.health questions.old questions.new target.new result }
     ensures flushed { PassesOn result (W.flushed target.new) }
     ensures lost { TellsLoss (A.loses answers.now) result }
-    ensures kept { A.keeps answers.now kept.new }
+    ensures kept { A.keeps answers.now cache.new }
 {
     let Ok(mut piece) = vec![in alloc; 0u8; PIECE_LEN] else {
-        return Err(pass_on(DialogueStop::OutOfMemory, target));
+        return Err(pass_on(DialogueFault::OutOfMemory, target));
     };
     let Ok(mut line) = Vec::with_capacity(alloc, KEPT) else {
-        return Err(pass_on(DialogueStop::OutOfMemory, target));
+        return Err(pass_on(DialogueFault::OutOfMemory, target));
     };
     take_lines(
-        alloc, answers, kept, questions, &mut piece, &mut line, target,
+        alloc, answers, cache, questions, &mut piece, &mut line, target,
     )
 }

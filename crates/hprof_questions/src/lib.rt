@@ -5,18 +5,18 @@
 
 mod asker;
 mod dialogue;
+mod dialogue_fault;
 mod help;
 pub mod laws;
 mod question;
 mod report;
 mod report_word;
-mod stop;
 mod subject;
 
 pub use asker::Asker;
 pub use dialogue::{Answers, converse};
+pub use dialogue_fault::DialogueFault;
 pub use question::{Question, question_of};
 pub use report::{HeapReport, KindReport, Kinds, Node, NodeReport, Report};
 pub use report_word::{Follows, ReportRow, ReportWord};
-pub use stop::DialogueStop;
 pub use subject::Misnamed;

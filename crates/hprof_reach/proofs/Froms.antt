@@ -18,7 +18,7 @@ use Rattle.hprof_edges.specs.DumpEdges.{IsObjectEdge}
 use Rattle.hprof_edges.specs.Edges.{AreReferrers, IsEdge}
 use Rattle.hprof_edges.proofs.OnlyDumps.{dumps_from}
 use Rattle.hprof_reach.specs.Reaching.{IsNode, Leads}
-use Rattle.hprof_numbers.specs.Sources.{end_of, start_of}
+use Rattle.hprof_numbers.specs.Predecessors.{end_of, start_of}
 use Rattle.hprof_reach.specs.declared.index.ReferrerIndex.{ReferrerIndex}
 use Rattle.hprof_reach.specs.Index.{IsIndexOf}
 use Rattle.hprof_reach.specs.Referring.{PutSoFar, PutsReferrers}

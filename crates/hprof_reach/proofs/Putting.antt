@@ -13,8 +13,8 @@ use Rattle.hprof_edges.specs.Edges.{IsEdge}
 use Rattle.hprof_edges.specs.LeftOut.{IsKept}
 use Rattle.hprof_edges.proofs.LeftOutEdges.{all_from}
 use Rattle.hprof_edges.proofs.PutTogether as together
-use Rattle.hprof_numbers.specs.declared.sources.Sources.{Sources}
-use Rattle.hprof_numbers.specs.Sources.{end_of, nodes_of, number_at}
+use Rattle.hprof_numbers.specs.declared.predecessors.Predecessors.{Predecessors}
+use Rattle.hprof_numbers.specs.Predecessors.{end_of, nodes_of, number_at}
 use Rattle.hprof_reach.specs.Referring.{PutSoFar, StandsAt}
 
 pub earlier : (before place : ℕ) → before < place + 1 → (before < place) ⊎ (before ≡ place)
@@ -24,7 +24,7 @@ earlier before place few = by (ltb before place) refl where
   by false e = inr (omega (arith, few, ltb-false before place e))
 
 -- the node that stands at a place of a list is what is told of the place
-pub node_there : (sources : Sources) (id place last : ℕ) (told : Option ℕ) → place < end_of sources id
+pub node_there : (sources : Predecessors) (id place last : ℕ) (told : Option ℕ) → place < end_of sources id
     → ((from to : ℕ) → place < end_of sources to → number_at sources place < length (nodes_of sources)
     → slice_index (nodes_of sources) (number_at sources place) ≡ from → MatchOption told ⊥ (λ node. node ≡ from))
     → (node : ℕ) → StandsAt sources place node → node ≡ unwrap_or told last
@@ -38,7 +38,7 @@ pub all_put : (ids : IdSize) (facts : List FactValue) (fields : List FieldPlace)
     → PutBehind holds edges (λ edge. IsEdge ids facts edge × (edge.from ≡ node))
 all_put ids facts fields none holds edges node put = together.put_same edges holds _ _ put (all_from ids facts fields node none)
 
-module _ (ids : IdSize) (facts : List FactValue) (sources : Sources) (start : ℕ) where
+module _ (ids : IdSize) (facts : List FactValue) (sources : Predecessors) (start : ℕ) where
   -- those of 0 are put first
   pub put_zero : (holds : List Edge → Type 0) → PutBehind holds [] (λ edge. IsEdge ids facts edge × (edge.from ≡ 0))
       → PutSoFar ids facts holds sources start start 0

@@ -105,7 +105,7 @@ module _ (ids : IdSize) (facts : List FactValue) (agree : IsConsistent facts) (i
     | classes.NotFound none ↦ listed_none _ (by_no_class facts id none)
     | classes.Found dump has same ↦ listed_same _ _ (record {
       edges = named_edges dump ++ (numbered dump.id vias.Constant 0 (targets_of_constants dump.constants)
-          ++ numbered dump.id vias.Fixed 0 (targets_of_statics dump.statics));
+          ++ numbered dump.id vias.Static 0 (targets_of_statics dump.statics));
       exact = class_dump_edges dump;
     }) (by_class facts id dump has same
         (λ other has_other same_other. one_dump_each facts agree dump other has has_other (same ∙ sym same_other)))

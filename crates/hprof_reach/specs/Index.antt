@@ -4,7 +4,7 @@ use Rattle.hprof_values.specs.declared.ids.IdSize.{IdSize}
 use Rattle.hprof_items.specs.FactValue.{FactValue}
 use Rattle.hprof_layouts.specs.Known.{Knows}
 use Rattle.hprof_reach.specs.Reaching.{IsNode, Leads}
-use Rattle.hprof_numbers.specs.Sources.{IsSource}
+use Rattle.hprof_numbers.specs.Predecessors.{IsSource}
 use Rattle.hprof_reach.specs.declared.index.ReferrerIndex.{ReferrerIndex}
 
 -- the layouts are known, and each node that refers to an identifier is among its sources

@@ -4,17 +4,17 @@ use Rattle.hprof_values.specs.declared.ids.IdSize.{IdSize}
 use Rattle.hprof_items.specs.FactValue.{FactValue}
 use Rattle.hprof_edges.specs.declared.edge.Edge.{Edge}
 use Rattle.hprof_edges.specs.Edges.{IsEdge}
-use Rattle.hprof_numbers.specs.declared.sources.Sources.{Sources}
-use Rattle.hprof_numbers.specs.Sources.{nodes_of, number_at}
+use Rattle.hprof_numbers.specs.declared.predecessors.Predecessors.{Predecessors}
+use Rattle.hprof_numbers.specs.Predecessors.{nodes_of, number_at}
 
 -- the node stands at that place
-abbrev pub StandsAt : Sources → ℕ → ℕ → Type 0
+abbrev pub StandsAt : Predecessors → ℕ → ℕ → Type 0
 StandsAt sources place node = (number_at sources place < length (nodes_of sources))
     × (slice_index (nodes_of sources) (number_at sources place) ≡ node)
 
 module _ (ids : IdSize) (facts : List FactValue) (holds : List Edge → Type 0) where
   -- edges were put, and no other than edges: all from 0, from the last node, and from those at the places so far
-  pub record PutSoFar (sources : Sources) (start place last : ℕ) : Type 0 where
+  pub record PutSoFar (sources : Predecessors) (start place last : ℕ) : Type 0 where
     pub edges : List Edge
     pub held : holds edges
     pub only : (edge : Edge) → Contains edges edge → IsEdge ids facts edge

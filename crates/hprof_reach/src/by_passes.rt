@@ -16,7 +16,7 @@ use crate::numbering::graph_over;
 use crate::reach::Reach;
 use hprof_edges::LeftOut;
 use hprof_heap::Heap;
-use hprof_passes::{Objects, PassStop};
+use hprof_passes::{Objects, PassFault};
 use hprof_search::{ByLists, search_numbered};
 use std::alloc::{AllocError, Global};
 
@@ -61,18 +61,15 @@ pub fn reach_over<O: Objects>(
     heap: &Heap,
     objects: &O,
     left_out: &LeftOut,
-) -> Result<Reach, PassStop<AllocError, O::Fault>>
+) -> Result<Reach, PassFault<AllocError, O::Fault>>
     ensures { Finds (O.make_up objects.now (size_of heap.now) (facts_of heap.now))
         (O.agree objects.now (size_of heap.now) (facts_of heap.now))
         (O.tells objects.now (size_of heap.now) (facts_of heap.now))
         (λ all. IsReachBy (IsKept (fields_in left_out.now) all) (size_of heap.now) all) result }
 {
-    let graph = match graph_over(alloc, heap, objects, left_out) {
-        Ok(graph) => graph,
-        Err(stop) => return Err(stop),
-    };
+    let graph = graph_over(alloc, heap, objects, left_out)?;
     match reach_in(alloc, graph) {
         Ok(reach) => Ok(reach),
-        Err(fault) => Err(PassStop::Sink(fault)),
+        Err(fault) => Err(PassFault::Sink(fault)),
     }
 }

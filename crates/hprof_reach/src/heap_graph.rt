@@ -5,7 +5,9 @@ ghost use Rattle.hprof_reach.specs.Graph.{TellsEdges, targets_in};
 
 use crate::nodes::class_nodes;
 use crate::targets::Targets;
-use hprof_edges::{LeftOut, Near, class_edges, kept_object_edges, known_edges, known_object_edges};
+use hprof_edges::{
+    Cursors, LeftOut, class_edges, kept_object_edges, known_edges, known_object_edges,
+};
 use hprof_heap::{Heap, ObjectDump, find_class_near};
 use hprof_layouts::{KnownLayouts, Reference, known_layouts};
 use hprof_numbers::{Graph, Numbered};
@@ -23,7 +25,7 @@ pub struct HeapGraph<'h> {
     /// The nodes that have a class dump. For other nodes none is looked up.
     pub(crate) classes: Numbered,
     /// The places of the last dumps.
-    pub(crate) near: Near,
+    pub(crate) near: Cursors,
     pub(crate) references: Vec<Reference>,
     pub(crate) targets: Targets,
 }
@@ -46,7 +48,7 @@ pub fn graph_of<'h>(
         left_out,
         known,
         classes,
-        near: Near::start(),
+        near: Cursors::start(),
         references: Vec::new(alloc),
         targets: Targets {
             list: Vec::new(alloc),

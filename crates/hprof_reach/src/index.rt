@@ -7,16 +7,16 @@ ghost use Rattle.hprof_reach.specs.Index.{IsIndexOf};
 
 use crate::heap_graph::graph_of;
 use crate::nodes::nodes_of;
-use hprof_edges::{Edge, EdgeSet, LeftOut, Near, known_edges, sort_edges};
+use hprof_edges::{Cursors, Edge, EdgeSet, LeftOut, known_edges, sort_edges};
 use hprof_heap::Heap;
 use hprof_layouts::{KnownLayouts, Wanted, known_layouts};
-use hprof_numbers::{Numbered, Sources, sources_of};
+use hprof_numbers::{Numbered, Predecessors, predecessors_of};
 use std::alloc::{AllocError, Global};
 
 /// For each class and object of a heap its possible referrers, with the layouts of the classes.
 #[derive(Drop)]
 pub struct ReferrerIndex {
-    pub(crate) sources: Sources,
+    pub(crate) sources: Predecessors,
     pub(crate) known: KnownLayouts,
 }
 
@@ -39,7 +39,7 @@ impl ReferrerIndex {
         ensures keeps { OnOk result (is_edge_wanted (wanted_in set.new) ≡ is_edge_wanted (wanted_in set.old)) }
     {
         let none = LeftOut::none(alloc);
-        let mut near = Near::start();
+        let mut near = Cursors::start();
         let mut references = Vec::new(alloc);
         // A class dump of 0 has edges, and 0 is no node.
         known_edges(heap, &self.known, 0, &none, &mut near, &mut references, set)?;
@@ -90,7 +90,7 @@ pub fn index_referrers(alloc: Global, heap: &Heap) -> Result<ReferrerIndex, Allo
     let nodes = Numbered::new(alloc, nodes_of(alloc, heap)?)?;
     let none = LeftOut::none(alloc);
     let mut graph = graph_of(alloc, heap, &none)?;
-    let sources = sources_of(alloc, &mut graph, nodes)?;
+    let sources = predecessors_of(alloc, &mut graph, nodes)?;
     let known = known_layouts(alloc, heap)?;
     Ok(ReferrerIndex { sources, known })
 }

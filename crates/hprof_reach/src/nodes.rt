@@ -11,7 +11,7 @@ ghost use Rattle.hprof_reach.specs.Reaching.{IsNode};
 
 use crate::node_sink::NodeSink;
 use hprof_heap::{Heap, ObjectDump, Table, holds_of_heap, table_facts, table_len, to_class_dump};
-use hprof_passes::{InHeap, Objects, PassStop};
+use hprof_passes::{InHeap, Objects, PassFault};
 use std::alloc::{AllocError, Global};
 
 /// Appends an identifier, unless it is 0. If memory runs out, the answer is `AllocError`.
@@ -90,7 +90,7 @@ pub(crate) fn nodes_over<O: Objects>(
     alloc: Global,
     heap: &Heap,
     objects: &O,
-) -> Result<Vec<u64>, PassStop<AllocError, O::Fault>>
+) -> Result<Vec<u64>, PassFault<AllocError, O::Fault>>
     ensures ascend { IfOk result (λ nodes. IsStrictlyIncreasing nodes.items) }
     ensures all { Finds (O.make_up objects.now (size_of heap.now) (facts_of heap.now))
         (O.agree objects.now (size_of heap.now) (facts_of heap.now))
@@ -99,16 +99,13 @@ pub(crate) fn nodes_over<O: Objects>(
 {
     let mut sink = match begun(alloc, heap) {
         Ok(sink) => sink,
-        Err(fault) => return Err(PassStop::Sink(fault)),
+        Err(fault) => return Err(PassFault::Sink(fault)),
     };
-    match objects.pass(alloc, heap, &mut sink) {
-        Ok(()) => {}
-        Err(stop) => return Err(stop),
-    }
+    objects.pass(alloc, heap, &mut sink)?;
     let mut nodes = sink.nodes;
     match sort_once(&mut nodes) {
         Ok(()) => Ok(nodes),
-        Err(fault) => Err(PassStop::Sink(fault)),
+        Err(fault) => Err(PassFault::Sink(fault)),
     }
 }
 

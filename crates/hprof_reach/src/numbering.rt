@@ -18,7 +18,7 @@ use crate::starts::starts_of;
 use hprof_edges::LeftOut;
 use hprof_heap::{Heap, holds_of_heap};
 use hprof_numbers::{Lists, Numbered, Numbers, numbers_of};
-use hprof_passes::{InHeap, Objects, PassStop};
+use hprof_passes::{InHeap, Objects, PassFault};
 use std::alloc::{AllocError, Global};
 
 /// Returns the nodes that objects make up with a heap, with their numbers.
@@ -26,19 +26,16 @@ fn numbered_over<O: Objects>(
     alloc: Global,
     heap: &Heap,
     objects: &O,
-) -> Result<Numbered, PassStop<AllocError, O::Fault>>
+) -> Result<Numbered, PassFault<AllocError, O::Fault>>
     ensures { Finds (O.make_up objects.now (size_of heap.now) (facts_of heap.now))
         (O.agree objects.now (size_of heap.now) (facts_of heap.now))
         (O.tells objects.now (size_of heap.now) (facts_of heap.now))
         (λ all nodes. (node : ℕ) → Contains (nodes_in nodes) node ↔ IsNode all node) result }
 {
-    let nodes = match nodes_over(alloc, heap, objects) {
-        Ok(nodes) => nodes,
-        Err(stop) => return Err(stop),
-    };
+    let nodes = nodes_over(alloc, heap, objects)?;
     match Numbered::new(alloc, nodes) {
         Ok(nodes) => Ok(nodes),
-        Err(fault) => Err(PassStop::Sink(fault)),
+        Err(fault) => Err(PassFault::Sink(fault)),
     }
 }
 
@@ -57,7 +54,7 @@ pub fn edges_over<O: Objects>(
     objects: &O,
     left_out: &LeftOut,
     nodes: Numbered,
-) -> Result<(Numbered, Lists), PassStop<AllocError, O::Fault>>
+) -> Result<(Numbered, Lists), PassFault<AllocError, O::Fault>>
     ensures as_many { IfOk result (λ made. count_in made.1 ≡ length (nodes_in made.0)) }
     ensures leads { IfOk result (λ made. LeadsWithin made.1) }
     ensures exact { Finds (O.make_up objects.now (size_of heap.now) (facts_of heap.now))
@@ -68,15 +65,12 @@ pub fn edges_over<O: Objects>(
 {
     let mut sink = match EdgeSink::new(alloc, heap, left_out, nodes) {
         Ok(sink) => sink,
-        Err(fault) => return Err(PassStop::Sink(fault)),
+        Err(fault) => return Err(PassFault::Sink(fault)),
     };
-    match objects.pass(alloc, heap, &mut sink) {
-        Ok(()) => {}
-        Err(stop) => return Err(stop),
-    }
+    objects.pass(alloc, heap, &mut sink)?;
     match sink.finish() {
         Ok(made) => Ok(made),
-        Err(fault) => Err(PassStop::Sink(fault)),
+        Err(fault) => Err(PassFault::Sink(fault)),
     }
 }
 
@@ -103,24 +97,18 @@ pub fn graph_over<O: Objects>(
     heap: &Heap,
     objects: &O,
     left_out: &LeftOut,
-) -> Result<NumberedGraph, PassStop<AllocError, O::Fault>>
+) -> Result<NumberedGraph, PassFault<AllocError, O::Fault>>
     ensures numbered { IfOk result IsNumbered }
     ensures graph { Finds (O.make_up objects.now (size_of heap.now) (facts_of heap.now))
         (O.agree objects.now (size_of heap.now) (facts_of heap.now))
         (O.tells objects.now (size_of heap.now) (facts_of heap.now))
         (λ all. IsGraphBy (IsKept (fields_in left_out.now) all) (size_of heap.now) all) result }
 {
-    let numbered = match numbered_over(alloc, heap, objects) {
-        Ok(numbered) => numbered,
-        Err(stop) => return Err(stop),
-    };
-    let (nodes, edges) = match edges_over(alloc, heap, objects, left_out, numbered) {
-        Ok(made) => made,
-        Err(stop) => return Err(stop),
-    };
+    let numbered = numbered_over(alloc, heap, objects)?;
+    let (nodes, edges) = edges_over(alloc, heap, objects, left_out, numbered)?;
     let starts = match numbered_starts(alloc, heap, &nodes) {
         Ok(starts) => starts,
-        Err(fault) => return Err(PassStop::Sink(fault)),
+        Err(fault) => return Err(PassFault::Sink(fault)),
     };
     Ok(NumberedGraph {
         nodes,

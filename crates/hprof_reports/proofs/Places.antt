@@ -89,7 +89,7 @@ field_there ids facts object place to refers =
 -- the name of the place of an edge
 pub place_exists : (ids : IdSize) (facts : List FactValue) (from : ℕ) (via : Via) (place to : ℕ) → Refers ids facts from via place to
     → (name : Option ℕ) × IsPlaceName facts from via place name
-place_exists ids facts from vias.Fixed place to refers = let some = static_there facts from place to refers in (Some some.0, some.1)
+place_exists ids facts from vias.Static place to refers = let some = static_there facts from place to refers in (Some some.0, some.1)
 place_exists ids facts from vias.Field place to refers = let some = field_there ids facts from place to refers in (Some some.0, some.1)
 place_exists ids facts from vias.Class place to refers = (None, refl)
 place_exists ids facts from vias.Parent place to refers = (None, refl)
@@ -101,7 +101,7 @@ place_exists ids facts from vias.Element place to refers = (None, refl)
 
 -- ---- the name of the place of an edge that is found
 
-pub named_static : (ids : IdSize) (facts : List FactValue) (from place to : ℕ) (via : Via) (found : Option ℕ) → via ≡ vias.Fixed
+pub named_static : (ids : IdSize) (facts : List FactValue) (from place to : ℕ) (via : Via) (found : Option ℕ) → via ≡ vias.Static
     → IfSome found (IsStaticNamed facts from place) → IfNone found ((name : ℕ) → IsStaticNamed facts from place name → ⊥)
     → Refers ids facts from via place to → IsPlaceName facts from via place found
 named_static ids facts from place to via (Some name) is some none refers =

@@ -66,9 +66,9 @@ module _ (facts : List FactValue) (agree : IsConsistent facts) where
 
   pub place_once : (from : ℕ) (via : Via) (place : ℕ) (one other : Option ℕ) → IsPlaceName facts from via place one
       → IsPlaceName facts from via place other → one ≡ other
-  place_once from vias.Fixed place (Some one) (Some other) is too = ap Some (static_once from place one other is too)
-  place_once from vias.Fixed place (Some one) None is too = absurd too
-  place_once from vias.Fixed place None other is too = absurd is
+  place_once from vias.Static place (Some one) (Some other) is too = ap Some (static_once from place one other is too)
+  place_once from vias.Static place (Some one) None is too = absurd too
+  place_once from vias.Static place None other is too = absurd is
   place_once from vias.Field place (Some one) (Some other) is too = ap Some (field_once from place one other is too)
   place_once from vias.Field place (Some one) None is too = absurd too
   place_once from vias.Field place None other is too = absurd is

@@ -32,8 +32,8 @@ pub record IsFieldNamed (facts : List FactValue) (object place name : ℕ) : Typ
 
 -- the name of the part at that place by which the identifier refers; of static fields and fields alone
 abbrev pub IsPlaceName : List FactValue → ℕ → Via → ℕ → Option ℕ → Type 0
-IsPlaceName facts from vias.Fixed place (Some name) = IsStaticNamed facts from place name
-IsPlaceName facts from vias.Fixed place None = ⊥
+IsPlaceName facts from vias.Static place (Some name) = IsStaticNamed facts from place name
+IsPlaceName facts from vias.Static place None = ⊥
 IsPlaceName facts from vias.Field place (Some name) = IsFieldNamed facts from place name
 IsPlaceName facts from vias.Field place None = ⊥
 IsPlaceName facts from vias.Class place name = name ≡ None

@@ -18,7 +18,7 @@ via_word vias.Loader = codes "loader"
 via_word vias.Signers = codes "signers"
 via_word vias.Domain = codes "domain"
 via_word vias.Constant = codes "constant"
-via_word vias.Fixed = codes "static"
+via_word vias.Static = codes "static"
 via_word vias.Field = codes "field"
 via_word vias.Element = codes "element"
 

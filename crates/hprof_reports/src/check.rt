@@ -16,7 +16,7 @@ use crate::line::{write_count, write_pieces};
 use hprof_devices::{Target, WriteFault};
 use hprof_heap::{Heap, Table, holds_of_heap, table_facts, table_len};
 use hprof_items::{Fact, Version};
-use hprof_passes::{Objects, PassStop};
+use hprof_passes::{Objects, PassFault};
 use hprof_stream::PartSummary;
 use hprof_text::is_modified;
 use itoa::Buffer;
@@ -198,7 +198,7 @@ pub fn write_check_over<O: Objects, W: Target>(
     heap: &Heap,
     objects: &O,
     target: &mut W,
-) -> Result<(), PassStop<WriteFault, O::Fault>>
+) -> Result<(), PassFault<WriteFault, O::Fault>>
     requires { W.health target.old ≡ Well }
     ensures { EndsChecked (O.make_up objects.now (size_of heap.now) (facts_of heap.now))
         (O.agree objects.now (size_of heap.now) (facts_of heap.now)) (O.tells objects.now (size_of heap.now) (facts_of heap.now))
@@ -206,11 +206,11 @@ pub fn write_check_over<O: Objects, W: Target>(
 {
     let count = match objects.count(alloc, heap) {
         Ok(count) => count,
-        Err(fault) => return Err(PassStop::Lost(fault)),
+        Err(fault) => return Err(PassFault::Lost(fault)),
     };
     match write_counts(summaries, heap, count, target) {
         Ok(()) => Ok(()),
-        Err(fault) => Err(PassStop::Sink(fault)),
+        Err(fault) => Err(PassFault::Sink(fault)),
     }
 }
 

@@ -16,12 +16,12 @@ ghost use Rattle.hprof_reports.specs.ClassDumps.{dumps_in};
 ghost use Rattle.hprof_reports.specs.ClassesText.{IsClassesText, class_end, class_line, classes_text, counted_line};
 
 use hprof_devices::Target;
-use hprof_engine::WriteStop;
+use hprof_engine::ProductFault;
 use hprof_heap::{ClassDump, Heap, Table, holds_of_heap, table_facts, to_class_dump};
 use hprof_histogram::{Counted, CountedKinds, count_known};
 use hprof_lines::{stop_of_pass, write_line};
 use hprof_naming::{ClassNames, label_of};
-use hprof_passes::{InHeap, Objects, PassStop};
+use hprof_passes::{InHeap, Objects, PassFault};
 use std::alloc::{AllocError, Global};
 
 /// Returns the end of a class's line: its objects, and its label.
@@ -70,7 +70,7 @@ fn write_dumps<W: Target>(
     names: &ClassNames,
     counts: &CountedKinds,
     target: &mut W,
-) -> Result<(), WriteStop>
+) -> Result<(), ProductFault>
     requires named { AreClassNames (facts_of heap.now) names.now }
     requires well { W.health target.old ≡ Well }
     ensures bytes { (naming : Naming) (all : List FactValue) → IsNaming (facts_of heap.now) naming
@@ -94,7 +94,7 @@ fn write_counted<W: Target>(
     heap: &Heap,
     counts: &CountedKinds,
     target: &mut W,
-) -> Result<(), WriteStop>
+) -> Result<(), ProductFault>
     requires { W.health target.old ≡ Well }
     ensures bytes { (all : List FactValue) → IsWhole (size_of heap.now) (facts_of heap.now) all
         → IsTally (size_of heap.now) all counts.now → (text : List ℕ) × IsClassesText (size_of heap.now) all text
@@ -118,7 +118,7 @@ pub fn write_classes_over<O: Objects, W: Target>(
     objects: &O,
     known: Option<CountedKinds>,
     target: &mut W,
-) -> Result<(), PassStop<WriteStop, O::Fault>>
+) -> Result<(), PassFault<ProductFault, O::Fault>>
     requires well { W.health target.old ≡ Well }
     requires agree { IsSome known → O.agree objects.now (size_of heap.now) (facts_of heap.now) }
     ensures { EndsPassed (MadeUpWith (O.make_up objects.now (size_of heap.now) (facts_of heap.now)) (size_of heap.now) known)
@@ -131,13 +131,17 @@ pub fn write_classes_over<O: Objects, W: Target>(
     };
     match write_counted(alloc, heap, &counts, target) {
         Ok(()) => Ok(()),
-        Err(stop) => Err(PassStop::Sink(stop)),
+        Err(stop) => Err(PassFault::Sink(stop)),
     }
 }
 
 /// Writes the report `classes` on a heap with its objects in memory, as [`write_classes_over`] does. If the writer fails or memory runs
 /// out, the bytes written are the beginning of the report.
-pub fn write_classes<W: Target>(alloc: Global, heap: &Heap, target: &mut W) -> Result<(), WriteStop>
+pub fn write_classes<W: Target>(
+    alloc: Global,
+    heap: &Heap,
+    target: &mut W,
+) -> Result<(), ProductFault>
     requires { W.health target.old ≡ Well }
     ensures bytes { (text : List ℕ) × IsClassesText (size_of heap.now) (facts_of heap.now) text
         × WritesText (W.written target.old) (W.written target.new) result text }

@@ -8,7 +8,7 @@ ghost use Rattle.hprof_reports.specs.ObjectText.{contents_text};
 ghost use Rattle.hprof_lines.specs.Stopping.{LeavesTarget, WritesText};
 
 use hprof_devices::{Target, WriteFault, push_all};
-use hprof_engine::WriteStop;
+use hprof_engine::ProductFault;
 use hprof_lines::write_str;
 
 /// The number of bytes that are written at a time.
@@ -43,7 +43,7 @@ fn write_digits<W: Target>(bytes: &[u8], target: &mut W) -> Result<(), WriteFaul
 }
 
 /// Writes the line of an array's contents, if it has any, piece by piece. At a fault some of it was written, from the front.
-pub(crate) fn write_contents<W: Target>(bytes: &[u8], target: &mut W) -> Result<(), WriteStop>
+pub(crate) fn write_contents<W: Target>(bytes: &[u8], target: &mut W) -> Result<(), ProductFault>
     requires { W.health target.old ≡ Well }
     ensures bytes { WritesText (W.written target.old) (W.written target.new) result (contents_text bytes.now) }
     ensures health { LeavesTarget result (W.health target.new) }
@@ -53,7 +53,7 @@ pub(crate) fn write_contents<W: Target>(bytes: &[u8], target: &mut W) -> Result<
     }
     write_str("bytes ", target)?;
     if let Err(fault) = write_digits(bytes, target) {
-        return Err(WriteStop::Write(fault));
+        return Err(ProductFault::Write(fault));
     }
     write_str("\n", target)
 }

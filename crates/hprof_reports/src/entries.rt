@@ -8,7 +8,7 @@ ghost use Rattle.hprof_lines.specs.Line.{each_line, text_of_lines};
 ghost use Rattle.hprof_lines.specs.Stopping.{LeavesTarget, WritesText};
 
 use hprof_devices::Target;
-use hprof_engine::WriteStop;
+use hprof_engine::ProductFault;
 use hprof_heap::Heap;
 use hprof_lines::write_line;
 use hprof_values::{EntryIterator, Ids, ListEntry};
@@ -85,7 +85,7 @@ pub(crate) fn write_entries<L: Entries, W: Target>(
     len: usize,
     mut entries: L,
     target: &mut W,
-) -> Result<(), WriteStop>
+) -> Result<(), ProductFault>
     requires len { length (L.left entries) ≡ len }
     requires well { W.health target.old ≡ Well }
     ensures bytes { (naming : Naming) (all : List L.Item) → IsNaming (facts_of heap.now) naming → L.left entries ≡ all

@@ -14,12 +14,12 @@ ghost use Rattle.hprof_lines.specs.Passed.{EndsPassed};
 ghost use Rattle.hprof_lines.specs.Stopping.{LeavesTarget, WritesText};
 
 use hprof_devices::Target;
-use hprof_engine::WriteStop;
+use hprof_engine::ProductFault;
 use hprof_heap::{Heap, holds_of_heap};
 use hprof_histogram::{CountedKinds, Kind, Row, histogram_over};
 use hprof_lines::{stop_of_pass, write_line};
 use hprof_naming::{ClassNames, label_of, type_word};
-use hprof_passes::{InHeap, Objects, PassStop};
+use hprof_passes::{InHeap, Objects, PassFault};
 use hprof_values::Basic;
 use std::alloc::{AllocError, Global};
 
@@ -68,7 +68,7 @@ fn write_rows<W: Target>(
     names: &ClassNames,
     rows: &[Row],
     target: &mut W,
-) -> Result<(), WriteStop>
+) -> Result<(), ProductFault>
     requires named { AreClassNames (facts_of heap.now) names.now }
     requires well { W.health target.old ≡ Well }
     ensures bytes { (naming : Naming) → IsNaming (facts_of heap.now) naming
@@ -89,7 +89,7 @@ fn write_histogram_rows<W: Target>(
     heap: &Heap,
     rows: &[Row],
     target: &mut W,
-) -> Result<(), WriteStop>
+) -> Result<(), ProductFault>
     requires { W.health target.old ≡ Well }
     ensures bytes { (all : List FactValue) → IsWhole (size_of heap.now) (facts_of heap.now) all
         → IsHistogram (size_of heap.now) all rows.now → (text : List ℕ) × IsHistogramText (size_of heap.now) all text
@@ -113,7 +113,7 @@ pub fn write_histogram_over<O: Objects, W: Target>(
     objects: &O,
     known: Option<CountedKinds>,
     target: &mut W,
-) -> Result<(), PassStop<WriteStop, O::Fault>>
+) -> Result<(), PassFault<ProductFault, O::Fault>>
     requires well { W.health target.old ≡ Well }
     requires agree { IsSome known → O.agree objects.now (size_of heap.now) (facts_of heap.now) }
     ensures { EndsPassed (MadeUpWith (O.make_up objects.now (size_of heap.now) (facts_of heap.now)) (size_of heap.now) known)
@@ -126,7 +126,7 @@ pub fn write_histogram_over<O: Objects, W: Target>(
     };
     match write_histogram_rows(alloc, heap, &rows, target) {
         Ok(()) => Ok(()),
-        Err(stop) => Err(PassStop::Sink(stop)),
+        Err(stop) => Err(PassFault::Sink(stop)),
     }
 }
 
@@ -136,7 +136,7 @@ pub fn write_histogram<W: Target>(
     alloc: Global,
     heap: &Heap,
     target: &mut W,
-) -> Result<(), WriteStop>
+) -> Result<(), ProductFault>
     requires { W.health target.old ≡ Well }
     ensures bytes { (text : List ℕ) × IsHistogramText (size_of heap.now) (facts_of heap.now) text
         × WritesText (W.written target.old) (W.written target.new) result text }

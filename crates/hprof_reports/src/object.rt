@@ -17,7 +17,7 @@ use crate::contents::write_contents;
 use crate::entries::write_entries;
 use crate::object_lines::{elements_line, instance_line, values_line};
 use hprof_devices::Target;
-use hprof_engine::WriteStop;
+use hprof_engine::ProductFault;
 use hprof_heap::{ClassDump, Heap, ObjectDump, find_class, find_object, holds_of_heap, id_size};
 use hprof_layouts::{Fields, fields};
 use hprof_lines::{nothing_line, write_line};
@@ -29,7 +29,7 @@ fn write_class<W: Target>(
     heap: &Heap,
     dump: &ClassDump<'_>,
     target: &mut W,
-) -> Result<(), WriteStop>
+) -> Result<(), ProductFault>
     requires { W.health target.old ≡ Well }
     ensures bytes { (naming : Naming) → IsNaming (facts_of heap.now) naming
         → WritesText (W.written target.old) (W.written target.new) result
@@ -68,7 +68,7 @@ fn write_fields<W: Target>(
     heap: &Heap,
     object: u64,
     target: &mut W,
-) -> Result<(), WriteStop>
+) -> Result<(), ProductFault>
     requires { W.health target.old ≡ Well }
     ensures bytes { (naming : Naming) (shown : FieldsValue) → IsNaming (facts_of heap.now) naming
         → AreFields (size_of heap.now) (facts_of heap.now) object shown
@@ -93,7 +93,7 @@ fn write_object_dump<W: Target>(
     object: u64,
     dump: &ObjectDump<'_>,
     target: &mut W,
-) -> Result<(), WriteStop>
+) -> Result<(), ProductFault>
     requires { W.health target.old ≡ Well }
     ensures bytes { (naming : Naming) (shown : FieldsValue) → IsNaming (facts_of heap.now) naming
         → AreFields (size_of heap.now) (facts_of heap.now) object shown
@@ -140,7 +140,7 @@ fn write_found<W: Target>(
     class: Option<ClassDump<'_>>,
     object: Option<ObjectDump<'_>>,
     target: &mut W,
-) -> Result<(), WriteStop>
+) -> Result<(), ProductFault>
     requires { W.health target.old ≡ Well }
     ensures bytes { (naming : Naming) (shown : FieldsValue) → IsNaming (facts_of heap.now) naming
         → AreFields (size_of heap.now) (facts_of heap.now) id shown
@@ -166,7 +166,7 @@ pub fn write_object<W: Target>(
     heap: &Heap,
     id: u64,
     target: &mut W,
-) -> Result<(), WriteStop>
+) -> Result<(), ProductFault>
     requires { W.health target.old ≡ Well }
     ensures bytes { (text : List ℕ) × IsObjectText (size_of heap.now) (facts_of heap.now) id text
         × WritesText (W.written target.old) (W.written target.new) result text }

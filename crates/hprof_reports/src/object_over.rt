@@ -8,10 +8,10 @@ ghost use Rattle.hprof_reports.specs.ObjectText.{IsObjectText};
 
 use crate::object::write_object;
 use hprof_devices::Target;
-use hprof_engine::WriteStop;
+use hprof_engine::ProductFault;
 use hprof_heap::Heap;
 use hprof_lines::stop_of_pass;
-use hprof_passes::{Objects, PassStop};
+use hprof_passes::{Objects, PassFault};
 use hprof_small::small_heap;
 use std::alloc::Global;
 
@@ -28,7 +28,7 @@ pub fn write_object_over<O: Objects, W: Target>(
     objects: &O,
     id: u64,
     target: &mut W,
-) -> Result<(), PassStop<WriteStop, O::Fault>>
+) -> Result<(), PassFault<ProductFault, O::Fault>>
     requires { W.health target.old ≡ Well }
     ensures { EndsPassed (O.make_up objects.now (size_of heap.now) (facts_of heap.now))
         (O.agree objects.now (size_of heap.now) (facts_of heap.now)) (O.tells objects.now (size_of heap.now) (facts_of heap.now))
@@ -40,6 +40,6 @@ pub fn write_object_over<O: Objects, W: Target>(
     };
     match write_object(alloc, &small, id, target) {
         Ok(()) => Ok(()),
-        Err(stop) => Err(PassStop::Sink(stop)),
+        Err(stop) => Err(PassFault::Sink(stop)),
     }
 }

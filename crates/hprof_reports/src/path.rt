@@ -9,7 +9,7 @@ ghost use Rattle.hprof_reports.specs.PathText.{IsPathText, distance_line, node_l
 ghost use Rattle.hprof_lines.specs.Stopping.{LeavesTarget, WritesText};
 
 use hprof_devices::Target;
-use hprof_engine::WriteStop;
+use hprof_engine::ProductFault;
 use hprof_lines::{write_line, write_str};
 use hprof_reach::Reach;
 use std::alloc::{AllocError, Global};
@@ -29,7 +29,7 @@ fn node_line(alloc: Global, node: u64) -> Result<String, AllocError>
 }
 
 /// Writes a line for each node. If it stops, some of them were written, from the front.
-fn write_nodes<W: Target>(alloc: Global, nodes: &[u64], target: &mut W) -> Result<(), WriteStop>
+fn write_nodes<W: Target>(alloc: Global, nodes: &[u64], target: &mut W) -> Result<(), ProductFault>
     requires { W.health target.old ≡ Well }
     ensures bytes { WritesText (W.written target.old) (W.written target.new) result (nodes_text nodes.now) }
     ensures health { LeavesTarget result (W.health target.new) }
@@ -50,7 +50,7 @@ pub fn write_path<W: Target>(
     reach: &Reach,
     id: u64,
     target: &mut W,
-) -> Result<(), WriteStop>
+) -> Result<(), ProductFault>
     requires { W.health target.old ≡ Well }
     ensures bytes { (ids : IdSize) (facts : List FactValue) → IsReach ids facts reach.now
         → (text : List ℕ) × IsPathText ids facts id text × WritesText (W.written target.old) (W.written target.new) result text }

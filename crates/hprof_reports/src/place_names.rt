@@ -51,7 +51,7 @@ pub fn place_name(
     ensures skips { OnOk result (AreSkips (facts_of heap.now) names.old → AreSkips (facts_of heap.now) names.new) }
 {
     match edge.via {
-        Via::Fixed => Ok(static_name(heap, edge.from, edge.position)),
+        Via::Static => Ok(static_name(heap, edge.from, edge.position)),
         Via::Field => field_name(heap, edge.from, edge.position, names),
         _ => Ok(None),
     }

@@ -9,7 +9,7 @@ ghost use Rattle.hprof_lines.specs.Stopping.{LeavesTarget, WritesText};
 use crate::entries::{Entry, write_entries};
 use hprof_devices::Target;
 use hprof_edges::{Edge, Via};
-use hprof_engine::WriteStop;
+use hprof_engine::ProductFault;
 use hprof_heap::Heap;
 use std::alloc::{AllocError, Global};
 
@@ -24,7 +24,7 @@ pub fn via_word(via: Via) -> &'static str
         Via::Signers => "signers",
         Via::Domain => "domain",
         Via::Constant => "constant",
-        Via::Fixed => "static",
+        Via::Static => "static",
         Via::Field => "field",
         Via::Element => "element",
     }
@@ -52,7 +52,7 @@ pub fn write_refs<W: Target>(
     heap: &Heap,
     edges: &[Edge],
     target: &mut W,
-) -> Result<(), WriteStop>
+) -> Result<(), ProductFault>
     requires { W.health target.old ≡ Well }
     ensures bytes { WritesText (W.written target.old) (W.written target.new) result (text_of_lines (map edge_line edges.now)) }
     ensures health { LeavesTarget result (W.health target.new) }

@@ -9,10 +9,10 @@ ghost use Rattle.hprof_reports.specs.RefsText.{IsRefsText};
 use crate::refs::write_refs;
 use hprof_devices::Target;
 use hprof_edges::referrers_over;
-use hprof_engine::WriteStop;
+use hprof_engine::ProductFault;
 use hprof_heap::Heap;
 use hprof_lines::stop_of_pass;
-use hprof_passes::{Objects, PassStop};
+use hprof_passes::{Objects, PassFault};
 use std::alloc::Global;
 
 /// Writes the report `refs` on an identifier: a line for each reference to it. The heap has all facts but the objects, which are gone
@@ -28,7 +28,7 @@ pub fn write_refs_over<O: Objects, W: Target>(
     objects: &O,
     id: u64,
     target: &mut W,
-) -> Result<(), PassStop<WriteStop, O::Fault>>
+) -> Result<(), PassFault<ProductFault, O::Fault>>
     requires { W.health target.old ≡ Well }
     ensures { EndsPassed (O.make_up objects.now (size_of heap.now) (facts_of heap.now))
         (O.agree objects.now (size_of heap.now) (facts_of heap.now)) (O.tells objects.now (size_of heap.now) (facts_of heap.now))
@@ -40,6 +40,6 @@ pub fn write_refs_over<O: Objects, W: Target>(
     };
     match write_refs(alloc, heap, &edges, target) {
         Ok(()) => Ok(()),
-        Err(stop) => Err(PassStop::Sink(stop)),
+        Err(stop) => Err(PassFault::Sink(stop)),
     }
 }

@@ -10,7 +10,7 @@ ghost use Rattle.hprof_reports.specs.TextObjects.{IsHeapOfTwo, IsTextHeap, IsVal
 use hprof_heap::Heap;
 use hprof_layouts::{Fields, fields};
 use hprof_naming::{first_named, target_of_field};
-use hprof_passes::{Objects, PassStop};
+use hprof_passes::{Objects, PassFault};
 use hprof_small::small_heap;
 use std::alloc::{AllocError, Global};
 
@@ -33,7 +33,7 @@ fn heap_of_two<O: Objects>(
     objects: &O,
     one: u64,
     other: u64,
-) -> Result<Heap, PassStop<AllocError, O::Fault>>
+) -> Result<Heap, PassFault<AllocError, O::Fault>>
     requires { one ≢ other }
     ensures { Finds (O.make_up objects.now (size_of heap.now) (facts_of heap.now))
         (O.agree objects.now (size_of heap.now) (facts_of heap.now))
@@ -58,7 +58,7 @@ pub(crate) fn text_heap<O: Objects>(
     heap: &Heap,
     objects: &O,
     id: u64,
-) -> Result<Heap, PassStop<AllocError, O::Fault>>
+) -> Result<Heap, PassFault<AllocError, O::Fault>>
     ensures { Finds (O.make_up objects.now (size_of heap.now) (facts_of heap.now))
         (O.agree objects.now (size_of heap.now) (facts_of heap.now))
         (O.tells objects.now (size_of heap.now) (facts_of heap.now))
@@ -70,7 +70,7 @@ pub(crate) fn text_heap<O: Objects>(
     };
     let array = match value_array(alloc, &string, id) {
         Ok(array) => array,
-        Err(fault) => return Err(PassStop::Sink(fault)),
+        Err(fault) => return Err(PassFault::Sink(fault)),
     };
     if array == 0 || array == id {
         return Ok(string);

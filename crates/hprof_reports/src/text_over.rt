@@ -9,10 +9,10 @@ ghost use Rattle.hprof_reports.specs.TextReport.{IsTextLine};
 use crate::text_objects::text_heap;
 use crate::text_report::write_text;
 use hprof_devices::Target;
-use hprof_engine::WriteStop;
+use hprof_engine::ProductFault;
 use hprof_heap::Heap;
 use hprof_lines::stop_of_pass;
-use hprof_passes::{Objects, PassStop};
+use hprof_passes::{Objects, PassFault};
 use std::alloc::Global;
 
 /// Writes the report `text` on an identifier, as [`write_text`] does. The heap has all facts but the objects, of which one is picked, and
@@ -28,7 +28,7 @@ pub fn write_text_over<O: Objects, W: Target>(
     objects: &O,
     id: u64,
     target: &mut W,
-) -> Result<(), PassStop<WriteStop, O::Fault>>
+) -> Result<(), PassFault<ProductFault, O::Fault>>
     requires { W.health target.old ≡ Well }
     ensures { EndsPassed (O.make_up objects.now (size_of heap.now) (facts_of heap.now))
         (O.agree objects.now (size_of heap.now) (facts_of heap.now)) (O.tells objects.now (size_of heap.now) (facts_of heap.now))
@@ -40,6 +40,6 @@ pub fn write_text_over<O: Objects, W: Target>(
     };
     match write_text(alloc, &small, id, target) {
         Ok(()) => Ok(()),
-        Err(stop) => Err(PassStop::Sink(stop)),
+        Err(stop) => Err(PassFault::Sink(stop)),
     }
 }

@@ -10,7 +10,7 @@ ghost use Rattle.hprof_lines.specs.Stopping.{LeavesTarget, WritesText};
 ghost use Rattle.hprof_reports.specs.TextReport.{IsTextLine, no_text_line, text_line, text_start, units_line};
 
 use hprof_devices::Target;
-use hprof_engine::WriteStop;
+use hprof_engine::ProductFault;
 use hprof_heap::{Heap, holds_of_heap};
 use hprof_lines::{nothing_line, write_line, write_str, write_units};
 use hprof_naming::{Text, Units, text_of};
@@ -35,7 +35,7 @@ fn write_units_line<W: Target>(
     alloc: Global,
     units: Units<'_>,
     target: &mut W,
-) -> Result<(), WriteStop>
+) -> Result<(), ProductFault>
     requires { W.health target.old ≡ Well }
     ensures bytes { WritesText (W.written target.old) (W.written target.new) result
         (units_line (units_of units.entry.coding units.entry.bytes.now)) }
@@ -52,7 +52,7 @@ fn write_found<W: Target>(
     id: u64,
     text: Text<'_>,
     target: &mut W,
-) -> Result<(), WriteStop>
+) -> Result<(), ProductFault>
     requires { W.health target.old ≡ Well }
     ensures bytes { WritesText (W.written target.old) (W.written target.new) result (text_line id (text_value text.entry)) }
     ensures health { LeavesTarget result (W.health target.new) }
@@ -71,7 +71,7 @@ pub fn write_text<W: Target>(
     heap: &Heap,
     id: u64,
     target: &mut W,
-) -> Result<(), WriteStop>
+) -> Result<(), ProductFault>
     requires { W.health target.old ≡ Well }
     ensures bytes { (line : List ℕ) × IsTextLine (size_of heap.now) (facts_of heap.now) id line
         × WritesText (W.written target.old) (W.written target.new) result line }

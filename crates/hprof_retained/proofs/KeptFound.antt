@@ -8,29 +8,29 @@ use Rattle.hprof_edges.specs.declared.field_place.FieldPlace.{FieldPlace}
 use Rattle.hprof_edges.specs.Edges.{AnyEdge, IsEdge}
 use Rattle.hprof_edges.specs.LeftOut.{IsKept, IsLeftOut}
 use Rattle.hprof_edges.proofs.LeftOutEdges.{all_kept}
-use Rattle.hprof_passes.specs.declared.pass_stop.PassStop.{PassStop}
+use Rattle.hprof_passes.specs.declared.pass_fault.PassFault.{PassFault}
 use Rattle.hprof_passes.specs.Finding.{Finds}
 use Rattle.hprof_reach.specs.declared.reach.Reach.{Reach}
 use Rattle.hprof_reach.specs.Reaching.{IsReach, IsReachBy}
 use Rattle.hprof_reach.proofs.Choices.{same_reach}
 use Rattle.hprof_weak.specs.Weak.{IsWeak}
-use Rattle.hprof_retained.specs.declared.kept_references.KeptReferences.{KeptReferences}
+use Rattle.hprof_retained.specs.declared.cached_references.CachedReferences.{CachedReferences}
 use Rattle.hprof_retained.specs.declared.retained.Retained.{Retained}
-use Rattle.hprof_retained.specs.KeptReferences.{AreKeptReferences, IsFound, IsStrongReach, KeepsNothing, KeepsOr}
+use Rattle.hprof_retained.specs.CachedReferences.{AreCachedReferences, IsFound, IsStrongReach, KeepsNothing, KeepsOr}
 use Rattle.hprof_retained.specs.Tree.{IsTreeOf}
 
 module _ {E F : Type 0} (MakeUp : List FactValue → Type 0) (agree : Type 0) (tells : F → Type 0) (ids : IdSize) (fields : List FieldPlace)
   where
     -- without the weak fields
     pub strong_found : ((all : List FactValue) → MakeUp all → (edge : Edge) → IsEdge ids all edge
-        → IsLeftOut fields all edge ↔ IsWeak all edge) → (r : Result Reach (PassStop E F))
+        → IsLeftOut fields all edge ↔ IsWeak all edge) → (r : Result Reach (PassFault E F))
         → Finds MakeUp agree tells (λ all. IsReachBy (IsKept fields all) ids all) r → Finds MakeUp agree tells (IsStrongReach ids) r
     strong_found weak (Ok reach) found =
         (found.0, λ all make. record { fields = fields; weak = weak all make; is = found.1 all make })
     strong_found weak (Err stop) found = found
 
     -- without no fields
-    pub all_found : fields ≡ [] → (r : Result Reach (PassStop E F))
+    pub all_found : fields ≡ [] → (r : Result Reach (PassFault E F))
         → Finds MakeUp agree tells (λ all. IsReachBy (IsKept fields all) ids all) r → Finds MakeUp agree tells (IsReach ids) r
     all_found none (Ok reach) found = (
       found.0,
@@ -47,16 +47,16 @@ kept_or P old new value (inr same) is was = subst (λ (o : Option _). IfSome o P
 -- ---- what is kept
 
 module _ (MakeUp : List FactValue → Type 0) (agree : Type 0) (ids : IdSize) where
-  pub nothing_kept : (references : KeptReferences) → KeepsNothing references → AreKeptReferences MakeUp agree ids references
+  pub nothing_kept : (references : CachedReferences) → KeepsNothing references → AreCachedReferences MakeUp agree ids references
   nothing_kept references nothing = record {
     all = subst (λ (o : Option Reach). IfSome o (IsFound MakeUp agree (IsReach ids))) (sym nothing.all) tt;
     strong = subst (λ (o : Option Reach). IfSome o (IsFound MakeUp agree (IsStrongReach ids))) (sym nothing.strong) tt;
     retained = subst (λ (o : Option Retained). IfSome o (IsFound MakeUp agree (IsTreeOf ids))) (sym nothing.retained) tt;
   }
 
-  module _ (old new : KeptReferences) (are : AreKeptReferences MakeUp agree ids old) where
+  module _ (old new : CachedReferences) (are : AreCachedReferences MakeUp agree ids old) where
     pub all_kept_on : (reach : Reach) → IsFound MakeUp agree (IsReach ids) reach → KeepsOr old.all new.all reach
-        → (new.strong ≡ old.strong) × (new.retained ≡ old.retained) → AreKeptReferences MakeUp agree ids new
+        → (new.strong ≡ old.strong) × (new.retained ≡ old.retained) → AreCachedReferences MakeUp agree ids new
     all_kept_on reach is keeps others = record {
       all = kept_or (IsFound MakeUp agree (IsReach ids)) old.all new.all reach keeps is are.all;
       strong = subst (λ (o : Option Reach). IfSome o (IsFound MakeUp agree (IsStrongReach ids))) (sym others.0) are.strong;
@@ -64,7 +64,7 @@ module _ (MakeUp : List FactValue → Type 0) (agree : Type 0) (ids : IdSize) wh
     }
 
     pub strong_kept_on : (reach : Reach) → IsFound MakeUp agree (IsStrongReach ids) reach → KeepsOr old.strong new.strong reach
-        → (new.all ≡ old.all) × (new.retained ≡ old.retained) → AreKeptReferences MakeUp agree ids new
+        → (new.all ≡ old.all) × (new.retained ≡ old.retained) → AreCachedReferences MakeUp agree ids new
     strong_kept_on reach is keeps others = record {
       all = subst (λ (o : Option Reach). IfSome o (IsFound MakeUp agree (IsReach ids))) (sym others.0) are.all;
       strong = kept_or (IsFound MakeUp agree (IsStrongReach ids)) old.strong new.strong reach keeps is are.strong;
@@ -73,7 +73,7 @@ module _ (MakeUp : List FactValue → Type 0) (agree : Type 0) (ids : IdSize) wh
 
     pub retained_kept_on : (retained : Retained) → IsFound MakeUp agree (IsTreeOf ids) retained
         → KeepsOr old.retained new.retained retained → (new.all ≡ old.all) × (new.strong ≡ old.strong)
-        → AreKeptReferences MakeUp agree ids new
+        → AreCachedReferences MakeUp agree ids new
     retained_kept_on retained is keeps others = record {
       all = subst (λ (o : Option Reach). IfSome o (IsFound MakeUp agree (IsReach ids))) (sym others.0) are.all;
       strong = subst (λ (o : Option Reach). IfSome o (IsFound MakeUp agree (IsStrongReach ids))) (sym others.1) are.strong;

@@ -5,4 +5,4 @@ pub mod Border
 pub mod BorderTaken
 pub mod Sizing
 pub mod WeaklyTaken
-pub mod KeptReferences
+pub mod CachedReferences

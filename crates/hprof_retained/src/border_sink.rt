@@ -14,7 +14,7 @@ use crate::retained::Retained;
 use hprof_edges::LeftOut;
 use hprof_heap::{Heap, to_object_dump};
 use hprof_items::Fact;
-use hprof_passes::{ObjectSink, Objects, PassStop};
+use hprof_passes::{ObjectSink, Objects, PassFault};
 use hprof_reach::sort_once;
 use hprof_values::IdSize;
 use std::alloc::{AllocError, Global};
@@ -80,7 +80,7 @@ pub(crate) fn border_over<'w, O: Objects>(
     objects: &O,
     weak: &'w LeftOut,
     retained: &'w Retained,
-) -> Result<Border<'w>, PassStop<AllocError, O::Fault>>
+) -> Result<Border<'w>, PassFault<AllocError, O::Fault>>
     ensures ascend { IfOk result (λ border. IsStrictlyIncreasing border.others.items) }
     ensures around { Finds (O.make_up objects.now (size_of heap.now) (facts_of heap.now))
         (O.agree objects.now (size_of heap.now) (facts_of heap.now)) (O.tells objects.now (size_of heap.now) (facts_of heap.now))
@@ -88,7 +88,7 @@ pub(crate) fn border_over<'w, O: Objects>(
 {
     let mut sink = match begun(alloc, heap, weak, retained) {
         Ok(sink) => sink,
-        Err(fault) => return Err(PassStop::Sink(fault)),
+        Err(fault) => return Err(PassFault::Sink(fault)),
     };
     match objects.pass(alloc, heap, &mut sink) {
         Ok(()) => {}
@@ -97,6 +97,6 @@ pub(crate) fn border_over<'w, O: Objects>(
     let mut border = sink.border;
     match sort_once(&mut border.others) {
         Ok(()) => Ok(border),
-        Err(fault) => Err(PassStop::Sink(fault)),
+        Err(fault) => Err(PassFault::Sink(fault)),
     }
 }

@@ -7,7 +7,7 @@
 mod beyond;
 mod border;
 mod border_sink;
-mod kept_references;
+mod cached_references;
 pub mod laws;
 mod making;
 mod retained;
@@ -17,7 +17,7 @@ mod weakly;
 mod weakly_over;
 mod weakly_sink;
 
-pub use kept_references::KeptReferences;
+pub use cached_references::CachedReferences;
 pub use making::{retained_of, retained_over};
 pub use retained::Retained;
 pub use sizes::{bytes_of_dump, size_of_node};

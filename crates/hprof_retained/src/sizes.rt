@@ -6,7 +6,7 @@ ghost use Rattle.hprof_heap.specs.ObjectDump.{ElementsHave, fact_of_object};
 ghost use Rattle.hprof_histogram.specs.Histogram.{size_of_object};
 ghost use Rattle.hprof_retained.specs.Retained.{IsSizeOf};
 
-use hprof_heap::{Finger, Heap, ObjectDump, find_object_near, id_size};
+use hprof_heap::{Cursor, Heap, ObjectDump, find_object_near, id_size};
 use hprof_values::IdSize;
 
 /// Returns the bytes of the fields or the elements of an object with identifiers of that size.
@@ -24,7 +24,7 @@ pub fn bytes_of_dump(dump: &ObjectDump<'_>, ids: IdSize) -> u64
 
 /// Returns the bytes of the fields or the elements of an object, or 0 of what is no object. `near` is where the last object was found; it
 /// affects only speed.
-pub fn size_of_node(heap: &Heap, node: u64, near: &mut Finger) -> u64
+pub fn size_of_node(heap: &Heap, node: u64, near: &mut Cursor) -> u64
     ensures { IsSizeOf (size_of heap.now) (facts_of heap.now) node result }
 {
     match find_object_near(heap, node, near) {

@@ -19,7 +19,7 @@ use crate::weakly::WeaklyHeld;
 use crate::weakly_sink::WeaklySink;
 use hprof_edges::LeftOut;
 use hprof_heap::{Heap, holds_of_heap};
-use hprof_passes::{InHeap, Objects, PassStop};
+use hprof_passes::{InHeap, Objects, PassFault};
 use hprof_reach::edges_over;
 use std::alloc::{AllocError, Global};
 
@@ -35,7 +35,7 @@ fn weak_nodes_over<O: Objects>(
     objects: &O,
     weak: &LeftOut,
     retained: &Retained,
-) -> Result<Vec<u64>, PassStop<AllocError, O::Fault>>
+) -> Result<Vec<u64>, PassFault<AllocError, O::Fault>>
     requires weak { (all : List FactValue) → O.make_up objects.now (size_of heap.now) (facts_of heap.now) all → (edge : Edge)
         → IsEdge (size_of heap.now) all edge → IsLeftOut (fields_in weak.now) all edge ↔ IsWeak all edge }
     requires tree { (all : List FactValue) → O.make_up objects.now (size_of heap.now) (facts_of heap.now) all
@@ -51,7 +51,7 @@ fn weak_nodes_over<O: Objects>(
     };
     let numbered = match numbered_around(alloc, &border) {
         Ok(numbered) => numbered,
-        Err(fault) => return Err(PassStop::Sink(fault)),
+        Err(fault) => return Err(PassFault::Sink(fault)),
     };
     let none = LeftOut::none(alloc);
     let (nodes, edges) = match edges_over(alloc, heap, objects, &none, numbered) {
@@ -60,7 +60,7 @@ fn weak_nodes_over<O: Objects>(
     };
     match reached_outside(alloc, &border, nodes, edges) {
         Ok(reached) => Ok(reached),
-        Err(fault) => Err(PassStop::Sink(fault)),
+        Err(fault) => Err(PassFault::Sink(fault)),
     }
 }
 
@@ -80,7 +80,7 @@ pub fn weakly_held_over<O: Objects>(
     objects: &O,
     weak: &LeftOut,
     retained: &Retained,
-) -> Result<WeaklyHeld, PassStop<AllocError, O::Fault>>
+) -> Result<WeaklyHeld, PassFault<AllocError, O::Fault>>
     requires weak { (all : List FactValue) → O.make_up objects.now (size_of heap.now) (facts_of heap.now) all → (edge : Edge)
         → IsEdge (size_of heap.now) all edge → IsLeftOut (fields_in weak.now) all edge ↔ IsWeak all edge }
     requires tree { (all : List FactValue) → O.make_up objects.now (size_of heap.now) (facts_of heap.now) all

@@ -31,7 +31,7 @@ use Rattle.hprof_tables.specs.declared.relation.Stated.{Stated}
 use Rattle.hprof_rows.specs.Key.{has_key}
 use Rattle.hprof_tables.specs.SortedRows.{row_at}
 use Rattle.hprof_rows.proofs.Keys.{place_of_key, stands_at, has_key_at, same_place}
-use Rattle.hprof_rows.specs.Content.{content_of, load_fact, unload_fact, frame_fact, trace_fact, start_fact, end_fact, spelled_fact}
+use Rattle.hprof_rows.specs.Content.{content_of, load_fact, unload_fact, frame_fact, trace_fact, start_fact, end_fact, decode_class}
 use Rattle.hprof_rows.specs.Content.{object_fact}
 use Rattle.hprof_rows.specs.Content.{line_with, read_fact, facts_of_rows, IsRight, AreRight}
 use Rattle.hprof_byte_tables.specs.Spans.{the_bytes}
@@ -107,7 +107,7 @@ heap_tables rows are =
     let starts = all_of_rows ids 5 start_fact start_numbers rows.starts (starts_right ids rows.starts) in
     let ends = all_of_rows ids 6 end_fact no_content rows.ends (ends_right ids rows.ends) in
     let roots = all_of_roots rows.roots in
-    let classes = all_of_rows ids 8 (spelled_fact ids) the_bytes rows.classes are.classes in
+    let classes = all_of_rows ids 8 (decode_class ids) the_bytes rows.classes are.classes in
     let objects = all_of_rows ids 9 (object_fact ids) the_bytes rows.objects are.objects in
     (names, (loads, (unloads, (frames, (traces, (starts, (ends, (roots, (classes, (objects, tt))))))))))
 
@@ -264,16 +264,16 @@ sub_spells ids fact e fits =
     record { fits = sub.0; spelled = refl; short = sub.1 }
 
 -- and read back from it
-pub spelled_read : (ids : IdSize) (key : ℕ) (fact : FactValue) (bytes : List ℕ) → Spells ids fact bytes → spelled_fact ids key bytes ≡ fact
+pub spelled_read : (ids : IdSize) (key : ℕ) (fact : FactValue) (bytes : List ℕ) → Spells ids fact bytes → decode_class ids key bytes ≡ fact
 spelled_read ids key fact bytes spells =
     let len : length (dump_bytes ids fact) ≤ length bytes = omega (arith, ap length spells.spelled) in
     ap read_fact (sub_again ids (exactly bytes) fact [] bytes spells.fits (spells.spelled ∙ sym (append-nil (dump_bytes ids fact)))
     (record { room = len; longest = len; there = len }))
 
 pub class_again : (ids : IdSize) (key : ℕ) (fact : FactValue) → order_of fact ≡ 8 ∷ key ∷ [] → Fits ids fact
-    → spelled_fact ids key (content_of ids fact) ≡ fact
+    → decode_class ids key (content_of ids fact) ≡ fact
 class_again ids key fact at fits =
-    ap (spelled_fact ids key) (class_content ids key fact at)
+    ap (decode_class ids key) (class_content ids key fact at)
     ∙ spelled_read ids key fact (dump_bytes ids fact) (sub_spells ids fact (sub_at_place fact 8 key at (omega arith)) fits)
 
 -- what was stated of the spelling was stated of the content
@@ -326,10 +326,10 @@ pub found_fits : (rows : HeapRows) (p : FactValue → Bool) (fact : FactValue) �
 found_fits rows p fact are e = are.heap.fit fact (find-Some p (joined (tables_of rows)) fact e).0
 
 -- the row of a class spells its fact
-pub row_spells : (ids : IdSize) (key : ℕ) (bytes : List ℕ) → IsRight ids 8 (spelled_fact ids) key bytes
-    → Fits ids (spelled_fact ids key bytes) → Spells ids (spelled_fact ids key bytes) bytes
+pub row_spells : (ids : IdSize) (key : ℕ) (bytes : List ℕ) → IsRight ids 8 (decode_class ids) key bytes
+    → Fits ids (decode_class ids key bytes) → Spells ids (decode_class ids key bytes) bytes
 row_spells ids key bytes right fits =
-    let fact : FactValue = spelled_fact ids key bytes in
+    let fact : FactValue = decode_class ids key bytes in
     let spells = sub_spells ids fact (sub_at_place fact 8 key right.0 (omega arith)) fits in
     let same : bytes ≡ dump_bytes ids fact = sym right.1 ∙ class_content ids key fact right.0 in
     record { fits = spells.fits; spelled = same; short = subst (λ (b : List ℕ). length b ≤ longest_body) (sym same) spells.short }

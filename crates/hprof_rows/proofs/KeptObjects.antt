@@ -26,7 +26,7 @@ use Rattle.hprof_values.proofs.EntryLists.{code_again}
 use Rattle.hprof_tables.specs.Relation.{States}
 use Rattle.hprof_byte_tables.specs.Spans.{the_bytes}
 use Rattle.hprof_tables.specs.declared.relation.Stated.{Stated}
-use Rattle.hprof_rows.specs.Content.{content_of, object_fact, spelled_fact, IsRight}
+use Rattle.hprof_rows.specs.Content.{content_of, object_fact, decode_class, IsRight}
 use Rattle.hprof_rows.specs.Kept.{without_id, with_id, KeepsObject, instance_kept, obj_array_kept, prim_array_kept}
 use Rattle.hprof_rows.specs.Order.{order_of}
 use Rattle.hprof_rows.specs.Spelled.{Spells}
@@ -131,7 +131,7 @@ module _ (ids : IdSize) where
   pub object_again : (id : ℕ) (fact : FactValue) → order_of fact ≡ 9 ∷ id ∷ [] → Fits ids fact
       → object_fact ids id (content_of ids fact) ≡ fact
   object_again id fact at fits =
-      ap (object_fact ids id) (object_content id fact at) ∙ ap (spelled_fact ids id) (with_again id fact at)
+      ap (object_fact ids id) (object_content id fact at) ∙ ap (decode_class ids id) (with_again id fact at)
       ∙ spelled_read ids id fact (dump_bytes ids fact) (sub_spells ids fact (sub_at_place fact 9 id at (omega arith)) fits)
 
   -- the bytes of an object's row are what is kept of its fact

@@ -4,7 +4,7 @@ use Rattle.std.specs.List.{AllByRecursion, filter}
 use Rattle.hprof_values.specs.declared.ids.IdSize.{IdSize}
 use Rattle.hprof_items.specs.FactValue.{FactValue}
 use Rattle.hprof_items.specs.Spelling.{Fits}
-use Rattle.hprof_rows.specs.Content.{facts_of_rows, load_fact, unload_fact, trace_fact, start_fact, end_fact, spelled_fact, object_fact}
+use Rattle.hprof_rows.specs.Content.{facts_of_rows, load_fact, unload_fact, trace_fact, start_fact, end_fact, decode_class, object_fact}
 use Rattle.hprof_rows.specs.Content.{IsRight, AreRight}
 use Rattle.hprof_byte_tables.specs.Spans.{the_bytes}
 use Rattle.hprof_rows.specs.Facts.{Has, AllFit}
@@ -67,7 +67,7 @@ end_serials rows are =
     (table_fits rows are 6)
 
 pub classes_spelled : (rows : HeapRows) → AreHeap rows → AreSpelled rows.ids rows.classes
-classes_spelled rows are = each_row rows.ids 8 (spelled_fact rows.ids) the_bytes (IsSpelled rows.ids)
+classes_spelled rows are = each_row rows.ids 8 (decode_class rows.ids) the_bytes (IsSpelled rows.ids)
     (λ row right fits. row_spells rows.ids row.0 (the_bytes row.1) right fits) rows.classes are.classes
     (table_fits rows are 8)
 

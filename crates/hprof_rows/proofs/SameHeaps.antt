@@ -32,7 +32,7 @@ module _ (ids : IdSize) (table : ℕ) (fact : ℕ → List ℕ → FactValue) wh
       let key : slice_index (order_of (fact row.0 row.1)) 1 ≡ row.0 = ap (λ (place : List ℕ). slice_index place 1) right.0.0 in
       rw (key, right.0.1) (ap (λ (rest : List (ℕ × List ℕ)). row ∷ rest) (to_contents rows right.1))
 
-same_roots : (roots others : List Root) → root_facts roots ≡ root_facts others → roots ≡ others
+pub same_roots : (roots others : List Root) → root_facts roots ≡ root_facts others → roots ≡ others
 same_roots [] [] e = refl
 same_roots [] (other ∷ others) e = absurd cc
 same_roots (root ∷ roots) [] e = absurd cc

@@ -70,7 +70,7 @@ rooted (first ∷ set) fact (inr has) =
     record { root = rest.root; states = rest.states; is_in = or_right (is_eq (root_cmp rest.root first)) (IsIn set rest.root) rest.is_in }
 
 -- roots in order state facts in order
-roots_ordered : (set : List Root) → IsStrictlySortedBy root_cmp set → IsCanonicalOrder (root_facts set)
+pub roots_ordered : (set : List Root) → IsStrictlySortedBy root_cmp set → IsCanonicalOrder (root_facts set)
 roots_ordered [] up = tt
 roots_ordered (first ∷ set) up = (before set (sorted_head root_cmp first set up), roots_ordered set (sorted_tail root_cmp first set up))
   where

@@ -4,7 +4,7 @@ use Rattle.std.specs.Prelude.{if◌then◌else◌}
 use Rattle.std.specs.List.{AllByRecursion}
 use Rattle.byteorder.specs.Endian.{big_bytes, big_number}
 use Rattle.hprof_values.specs.declared.ids.IdSize.{IdSize}
-use Rattle.hprof_values.specs.declared.stop.Stop.{Stop}
+use Rattle.hprof_values.specs.declared.parse_stop.ParseStop.{ParseStop}
 use Rattle.hprof_values.specs.FieldGroups.{exactly, field_bytes}
 use Rattle.hprof_values.specs.Lists.{id_widths, ids_in}
 use Rattle.hprof_items.specs.FactValue.{FactValue, Name, Load, Unload, Frame, Trace, Start, End, Instance, ObjArray, PrimArray}
@@ -55,17 +55,17 @@ abbrev pub end_fact : ℕ → List ℕ → FactValue
 end_fact key content = End key
 
 -- the fact that was read, where one was
-abbrev pub read_fact : Result (FactValue × ℕ) Stop → FactValue
+abbrev pub read_fact : Result (FactValue × ℕ) ParseStop → FactValue
 read_fact (Ok read) = read.0
 read_fact (Err stop) = Unload 0
 
 -- the fact of a class: what is read in its spelling
-abbrev pub spelled_fact : IdSize → ℕ → List ℕ → FactValue
-spelled_fact ids key content = read_fact (sub_at ids (exactly content) content)
+abbrev pub decode_class : IdSize → ℕ → List ℕ → FactValue
+decode_class ids key content = read_fact (sub_at ids (exactly content) content)
 
 -- that of an instance or an array: what is read with its identifier in front
 abbrev pub object_fact : IdSize → ℕ → List ℕ → FactValue
-object_fact ids key content = spelled_fact ids key (with_id ids key content)
+object_fact ids key content = decode_class ids key (with_id ids key content)
 
 -- ---- rows
 

@@ -17,7 +17,7 @@ use Rattle.hprof_rows.specs.declared.key.Key.{Key}
 use Rattle.hprof_rows.specs.declared.key.Key.TheVariants as keys
 use Rattle.hprof_rows.specs.declared.table.Table.{Table}
 use Rattle.hprof_rows.specs.declared.table.Table.TheVariants as tables
-use Rattle.hprof_rows.specs.Content.{content_of, load_fact, unload_fact, frame_fact, trace_fact, start_fact, end_fact, spelled_fact}
+use Rattle.hprof_rows.specs.Content.{content_of, load_fact, unload_fact, frame_fact, trace_fact, start_fact, end_fact, decode_class}
 use Rattle.hprof_rows.specs.Content.{object_fact}
 use Rattle.hprof_rows.specs.HeapRows.{HeapRows, no_content}
 use Rattle.hprof_rows.specs.NumberRows.{load_numbers, frame_numbers, start_numbers}
@@ -41,7 +41,7 @@ fact_at ids tables.Traces = trace_fact ids
 fact_at ids tables.Starts = start_fact
 fact_at ids tables.Ends = end_fact
 fact_at ids tables.Roots = unload_fact
-fact_at ids tables.Classes = spelled_fact ids
+fact_at ids tables.Classes = decode_class ids
 fact_at ids tables.Objects = object_fact ids
 
 -- the keys and contents of the rows

@@ -9,7 +9,7 @@ use Rattle.hprof_rows.specs.declared.number_rows.LoadRow.{LoadRow}
 use Rattle.hprof_rows.specs.declared.number_rows.FrameRow.{FrameRow}
 use Rattle.hprof_rows.specs.declared.number_rows.StartRow.{StartRow}
 use Rattle.hprof_rows.specs.declared.number_rows.KeyRow.{KeyRow}
-use Rattle.hprof_rows.specs.Content.{load_fact, unload_fact, frame_fact, trace_fact, start_fact, end_fact, spelled_fact, object_fact}
+use Rattle.hprof_rows.specs.Content.{load_fact, unload_fact, frame_fact, trace_fact, start_fact, end_fact, decode_class, object_fact}
 use Rattle.hprof_rows.specs.Content.{facts_of_rows}
 use Rattle.hprof_rows.specs.Content.{IsRight, AreRight}
 use Rattle.hprof_byte_tables.specs.Spans.{the_bytes}
@@ -49,7 +49,7 @@ abbrev pub root_facts : List Root → List FactValue
 root_facts roots = map Rooted roots
 
 abbrev pub spelled_facts : IdSize → List (ℕ × List ℕ) → List FactValue
-spelled_facts ids rows = facts_of_rows (spelled_fact ids) the_bytes rows
+spelled_facts ids rows = facts_of_rows (decode_class ids) the_bytes rows
 
 abbrev pub object_facts : IdSize → List (ℕ × List ℕ) → List FactValue
 object_facts ids rows = facts_of_rows (object_fact ids) the_bytes rows
@@ -85,7 +85,7 @@ heap_of_rows rows = record { ids = rows.ids; millis = rows.millis; facts = joine
 pub record AreHeap (rows : HeapRows) : Type 0 where
   pub heap : IsHeap (heap_of_rows rows)
   pub traces : AreRight rows.ids 4 (trace_fact rows.ids) the_bytes rows.traces
-  pub classes : AreRight rows.ids 8 (spelled_fact rows.ids) the_bytes rows.classes
+  pub classes : AreRight rows.ids 8 (decode_class rows.ids) the_bytes rows.classes
   pub objects : AreRight rows.ids 9 (object_fact rows.ids) the_bytes rows.objects
 
 -- ---- two heaps

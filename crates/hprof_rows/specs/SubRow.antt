@@ -9,7 +9,7 @@ use Rattle.hprof_items.specs.FactValue.{FactValue, Rooted}
 use Rattle.hprof_items.specs.Spelling.{Fits}
 use Rattle.hprof_rows.specs.declared.sub_row.SubRow.{SubRow}
 use Rattle.hprof_rows.specs.declared.sub_row.SubRow.TheVariants as rows
-use Rattle.hprof_rows.specs.Content.{spelled_fact, object_fact}
+use Rattle.hprof_rows.specs.Content.{decode_class, object_fact}
 use Rattle.hprof_byte_tables.specs.Spans.{the_bytes}
 use Rattle.hprof_rows.specs.Fitting.{Fits-prop}
 use Rattle.hprof_rows.specs.HeapRows.{root_facts, spelled_facts, object_facts}
@@ -20,7 +20,7 @@ use Rattle.hprof_rows.specs.TableRows.{IsSpelled, AreSpelled, AreSpelled-prop, I
 -- the fact that it states
 abbrev pub sub_fact : IdSize → SubRow → FactValue
 sub_fact ids (rows.Root root) = Rooted root
-sub_fact ids (rows.Class row) = spelled_fact ids 0 (the_bytes row.now)
+sub_fact ids (rows.Class row) = decode_class ids 0 (the_bytes row.now)
 sub_fact ids (rows.Object id kept) = object_fact ids id (the_bytes kept.now)
 
 -- the root has a spelling, or the bytes are one, or what is kept of one

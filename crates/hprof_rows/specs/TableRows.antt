@@ -7,7 +7,7 @@ use Rattle.hprof_values.specs.declared.ids.IdSize.{IdSize}
 use Rattle.hprof_items.specs.FactValue.{FactValue}
 use Rattle.hprof_rows.specs.declared.table_rows.TableRows.{TableRows}
 use Rattle.hprof_rows.specs.declared.table_rows.TableRows.TheVariants as tables
-use Rattle.hprof_rows.specs.Content.{spelled_fact, object_fact}
+use Rattle.hprof_rows.specs.Content.{decode_class, object_fact}
 use Rattle.hprof_byte_tables.specs.Spans.{the_bytes}
 use Rattle.hprof_rows.specs.Fitting.{DumpFits-prop}
 use Rattle.hprof_rows.specs.HeapRows.{name_facts, load_facts, unload_facts, frame_facts, trace_facts, start_facts, end_facts, root_facts}
@@ -30,7 +30,7 @@ IsWhole ids row = HasSerial row × IsTrace ids (the_bytes row.1)
 
 -- the bytes spell the fact of the row
 abbrev pub IsSpelled : IdSize → ℕ × List ℕ → Type 0
-IsSpelled ids row = Spells ids (spelled_fact ids row.0 (the_bytes row.1)) (the_bytes row.1)
+IsSpelled ids row = Spells ids (decode_class ids row.0 (the_bytes row.1)) (the_bytes row.1)
 
 -- the bytes are what is kept of the fact of the row
 abbrev pub IsObject : IdSize → ℕ × List ℕ → Type 0

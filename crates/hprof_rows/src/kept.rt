@@ -75,7 +75,7 @@ fn kept_prim_array<'a>(id: u64, bytes: &'a [u8], ids: IdSize, fact: &mut Fact<'a
 
 /// Stores the instance or the array with this identifier in `fact`. The bytes are its sub-record without the identifier.
 #[inline(always)]
-pub(crate) fn kept_fact_into<'a>(id: u64, kept: &'a [u8], ids: IdSize, fact: &mut Fact<'a>)
+pub(crate) fn decode_object_into<'a>(id: u64, kept: &'a [u8], ids: IdSize, fact: &mut Fact<'a>)
     requires { (value : FactValue) × KeepsObject ids id value kept.now }
     ensures fact { (value : FactValue) → KeepsObject ids id value kept.now → value_of fact.new ≡ value }
     ensures lists { ListsHave ids fact.new }
@@ -93,12 +93,12 @@ pub(crate) fn kept_fact_into<'a>(id: u64, kept: &'a [u8], ids: IdSize, fact: &mu
 
 /// Returns the instance or the array with this identifier. The bytes are its sub-record without the identifier.
 #[inline(always)]
-pub fn kept_fact(id: u64, kept: &[u8], ids: IdSize) -> Fact<'_>
+pub fn decode_object(id: u64, kept: &[u8], ids: IdSize) -> Fact<'_>
     requires { (value : FactValue) × KeepsObject ids id value kept.now }
     ensures fact { (value : FactValue) → KeepsObject ids id value kept.now → value_of result ≡ value }
     ensures lists { ListsHave ids result }
 {
     let mut fact = Fact::End { thread: 0 };
-    kept_fact_into(id, kept, ids, &mut fact);
+    decode_object_into(id, kept, ids, &mut fact);
     fact
 }

@@ -16,13 +16,13 @@ mod table_rows;
 mod trace;
 
 pub use facts::Facts;
-pub use kept::kept_fact;
+pub use kept::decode_object;
 pub use key::Key;
 pub use number_rows::{FrameRow, KeyRow, LoadRow, StartRow};
 pub use root_set::RootSet;
-pub use spelled::spelled_fact;
+pub use spelled::decode_class;
 pub use sub_row::SubRow;
 pub use sub_rows::SubRows;
 pub use table::Table;
 pub use table_rows::TableRows;
-pub use trace::{kept_trace, thread_bytes};
+pub use trace::{decode_trace, thread_bytes};

@@ -9,7 +9,7 @@ use hprof_values::IdSize;
 
 /// Returns the fact of a sub-record.
 #[inline(always)]
-pub fn spelled_fact(bytes: &[u8], ids: IdSize) -> Fact<'_>
+pub fn decode_class(bytes: &[u8], ids: IdSize) -> Fact<'_>
     requires { (value : FactValue) × Spells ids value bytes.now }
     ensures fact { (value : FactValue) → Spells ids value bytes.now → value_of result ≡ value }
     ensures lists { ListsHave ids result }

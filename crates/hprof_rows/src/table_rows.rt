@@ -10,10 +10,10 @@ ghost use Rattle.hprof_tables.specs.Rows.{rows_left};
 ghost use Rattle.hprof_byte_tables.specs.BytesTable.{byte_rows_left};
 ghost use Rattle.hprof_rows.specs.TableRows.{AreSerials, AreWhole, AreSpelled, AreObjects, AreReadable, facts_in_rows};
 
-use crate::kept::{kept_fact, kept_fact_into};
+use crate::kept::{decode_object, decode_object_into};
 use crate::number_rows::{FrameRow, KeyRow, LoadRow, StartRow};
-use crate::spelled::spelled_fact;
-use crate::trace::kept_trace;
+use crate::spelled::decode_class;
+use crate::trace::decode_trace;
 use hprof_byte_tables::BytesRows;
 use hprof_items::Fact;
 use hprof_tables::Rows;
@@ -150,7 +150,7 @@ fn next_trace<'a>(rows: &mut BytesRows<'a>, ids: IdSize) -> Option<Fact<'a>>
     ensures kept { AreWhole ids (byte_rows_left rows.new) }
 {
     let (serial, kept) = rows.next()?;
-    Some(kept_trace(serial as u32, kept, ids))
+    Some(decode_trace(serial as u32, kept, ids))
 }
 
 /// Takes the next row, and returns its started thread.
@@ -200,7 +200,7 @@ fn next_object_into<'a>(rows: &mut BytesRows<'a>, ids: IdSize, fact: &mut Fact<'
     let Some((id, kept)) = rows.next() else {
         return false;
     };
-    kept_fact_into(id, kept, ids, fact);
+    decode_object_into(id, kept, ids, fact);
     true
 }
 
@@ -213,7 +213,7 @@ fn next_spelled<'a>(rows: &mut BytesRows<'a>, ids: IdSize) -> Option<Fact<'a>>
     ensures kept { AreSpelled ids (byte_rows_left rows.new) }
 {
     let (_id, bytes) = rows.next()?;
-    Some(spelled_fact(bytes, ids))
+    Some(decode_class(bytes, ids))
 }
 
 /// Takes the next row, and returns its instance or array.
@@ -225,5 +225,5 @@ fn next_object<'a>(rows: &mut BytesRows<'a>, ids: IdSize) -> Option<Fact<'a>>
     ensures kept { AreObjects ids (byte_rows_left rows.new) }
 {
     let (id, kept) = rows.next()?;
-    Some(kept_fact(id, kept, ids))
+    Some(decode_object(id, kept, ids))
 }

@@ -21,7 +21,7 @@ pub fn thread_bytes(thread: u32) -> [u8; 4]
 }
 
 /// Returns the stack trace with this serial number, from its stored bytes.
-pub fn kept_trace(serial: u32, kept: &[u8], ids: IdSize) -> Fact<'_>
+pub fn decode_trace(serial: u32, kept: &[u8], ids: IdSize) -> Fact<'_>
     requires { IsTrace ids kept.now }
     ensures value { value_of result ≡ trace_fact ids serial kept.now }
     ensures lists { ListsHave ids result }

@@ -1,7 +1,7 @@
 -- A merge into a sink, seen as what a part of the sink does.
 use Rattle.std.proofs.Common.{ℕ, ◌+◌, inl, inr, List, [], ◌∷◌, Option, ap}
-use Rattle.hprof_merge.specs.declared.merge_stop.MergeStop.{MergeStop}
-use Rattle.hprof_merge.specs.declared.merge_stop.MergeStop.TheVariants.{OutOfMemory, TwoContents, Cursor, Sink}
+use Rattle.hprof_merge.specs.declared.merge_fault.MergeFault.{MergeFault}
+use Rattle.hprof_merge.specs.declared.merge_fault.MergeFault.TheVariants.{OutOfMemory, TwoContents, Cursor, Sink}
 use Rattle.hprof_merge.specs.Rows.{ByteRow}
 use Rattle.hprof_merge.specs.Run.{Runs}
 use Rattle.hprof_merge.specs.Merging.{TakesAll, TakesBelow}
@@ -43,7 +43,7 @@ module _ {T U : Type 0} (view : T → U) (steps : T → ℕ → List ℕ → T �
   module _ {G : Type 0} (refuses : T → ℕ → List ℕ → G → T → Type 0) (refused : U → ℕ → List ℕ → G → U → Type 0)
       (each_too : (old : T) (key : ℕ) (bytes : List ℕ) (fault : G) (new : T) → refuses old key bytes fault new
       → refused (view old) key bytes fault (view new)) where
-    because_viewed : {F : Type 0} (came now : List (List ByteRow)) (stop : MergeStop F G) (old new : T)
+    because_viewed : {F : Type 0} (came now : List (List ByteRow)) (stop : MergeFault F G) (old new : T)
         → StopsBecause steps refuses came now stop old new → StopsBecause others refused came now stop (view old) (view new)
     because_viewed came now OutOfMemory old new because = (because.0, ap view because.1)
     because_viewed came now (TwoContents key) old new because =
@@ -66,7 +66,7 @@ module _ {T U : Type 0} (view : T → U) (steps : T → ℕ → List ℕ → T �
 
     -- a merge that stopped
     pub stop_viewed : {C F : Type 0} (shown : C → Option ByteRow) (goes : C → C → Type 0) (fails : C → F → C → Type 0) (old new : List C)
-        (stop : MergeStop F G) (sink after : T) → StopsMerging shown goes steps fails refuses old new stop sink after
+        (stop : MergeFault F G) (sink after : T) → StopsMerging shown goes steps fails refuses old new stop sink after
         → StopsMerging shown goes others fails refused old new stop (view sink) (view after)
     stop_viewed shown goes fails old new stop sink after stops = record {
       came = stops.came;

@@ -7,9 +7,9 @@ use Rattle.hprof_items.specs.FactValue.{FactValue}
 use Rattle.hprof_rows.specs.Conflict.{IsConsistent}
 use Rattle.hprof_heap.specs.declared.class_dump.ClassDump.{ClassDump}
 use Rattle.hprof_heap.specs.declared.object_dump.ObjectDump.{ObjectDump}
-use Rattle.hprof_heap.specs.ClassDump.{IsFoundClass, class_value}
+use Rattle.hprof_heap.specs.ClassDump.{AnswersClass, class_value}
 use Rattle.hprof_heap.specs.Classes.{ClassValue}
-use Rattle.hprof_heap.specs.ObjectDump.{IsFoundObject, fact_of_object}
+use Rattle.hprof_heap.specs.ObjectDump.{AnswersObject, fact_of_object}
 use Rattle.hprof_histogram.specs.Chosen.{is_among}
 use Rattle.hprof_layouts.specs.Fields.{AreFields, FieldsValue}
 use Rattle.hprof_naming.proofs.Lookups.{class_is_found, class_once, object_is_found, object_once}
@@ -21,7 +21,7 @@ use Rattle.hprof_show.specs.Shown.{shown_ids}
 use Rattle.hprof_show.specs.ShownObjects.{HasShown, HasShownIds}
 
 pub shown_found : (ids : IdSize) (facts : List FactValue) (id : ℕ) → IsConsistent facts → (class : Option ClassDump)
-    (object : Option ObjectDump) → IsFoundClass ids facts id class → IsFoundObject ids facts id object → (list : List ℕ)
+    (object : Option ObjectDump) → AnswersClass ids facts id class → AnswersObject ids facts id object → (list : List ℕ)
     → ((fields : FieldsValue) → AreFields ids facts id fields → (shown : ℕ)
     → Contains (shown_ids id fields (option_map class_value class) (option_map fact_of_object object)) shown → Contains list shown)
     → HasShownIds ids facts id list

@@ -13,7 +13,7 @@ ghost use Rattle.hprof_show.specs.ClassLines.{class_text, named_line, referred_t
 use crate::entries::write_entries;
 use hprof_describe::{node_text, reference_text};
 use hprof_devices::Target;
-use hprof_engine::WriteStop;
+use hprof_engine::ProductFault;
 use hprof_heap::{ClassDump, Heap};
 use hprof_lines::write_line;
 use hprof_naming::ClassNames;
@@ -60,7 +60,7 @@ fn write_referred<W: Target>(
     classes: &ClassNames,
     dump: &ClassDump<'_>,
     target: &mut W,
-) -> Result<(), WriteStop>
+) -> Result<(), ProductFault>
     requires classes { AreClassNames (facts_of heap.now) classes.now }
     requires well { W.health target.old ≡ Well }
     ensures bytes { (found : Findings) → AreFindings (size_of heap.now) (facts_of heap.now) found
@@ -92,7 +92,7 @@ pub(crate) fn write_class<W: Target>(
     classes: &ClassNames,
     dump: &ClassDump<'_>,
     target: &mut W,
-) -> Result<(), WriteStop>
+) -> Result<(), ProductFault>
     requires classes { AreClassNames (facts_of heap.now) classes.now }
     requires well { W.health target.old ≡ Well }
     ensures bytes { (found : Findings) → AreFindings (size_of heap.now) (facts_of heap.now) found

@@ -11,7 +11,7 @@ ghost use Rattle.hprof_show.specs.ElementLines.{element_line, elements_text, mor
 
 use hprof_describe::reference_text;
 use hprof_devices::Target;
-use hprof_engine::WriteStop;
+use hprof_engine::ProductFault;
 use hprof_heap::Heap;
 use hprof_lines::write_line;
 use hprof_naming::ClassNames;
@@ -67,7 +67,7 @@ fn write_element<W: Target>(
     place: u64,
     id: u64,
     target: &mut W,
-) -> Result<(), WriteStop>
+) -> Result<(), ProductFault>
     requires classes { AreClassNames (facts_of heap.now) classes.now }
     requires well { W.health target.old ≡ Well }
     ensures bytes { (found : Findings) → AreFindings (size_of heap.now) (facts_of heap.now) found
@@ -88,7 +88,7 @@ fn write_present<W: Target>(
     classes: &ClassNames,
     elements: &IdList<'_>,
     target: &mut W,
-) -> Result<usize, WriteStop>
+) -> Result<usize, ProductFault>
     requires classes { AreClassNames (facts_of heap.now) classes.now }
     requires well { W.health target.old ≡ Well }
     ensures bytes { (found : Findings) → AreFindings (size_of heap.now) (facts_of heap.now) found
@@ -115,7 +115,7 @@ pub(crate) fn write_elements<W: Target>(
     classes: &ClassNames,
     elements: &IdList<'_>,
     target: &mut W,
-) -> Result<(), WriteStop>
+) -> Result<(), ProductFault>
     requires classes { AreClassNames (facts_of heap.now) classes.now }
     requires well { W.health target.old ≡ Well }
     ensures bytes { (found : Findings) → AreFindings (size_of heap.now) (facts_of heap.now) found

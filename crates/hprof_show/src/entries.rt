@@ -12,7 +12,7 @@ ghost use Rattle.hprof_show.specs.ClassLines.{constant_line, own_line, static_li
 
 use hprof_describe::value_text;
 use hprof_devices::Target;
-use hprof_engine::WriteStop;
+use hprof_engine::ProductFault;
 use hprof_heap::Heap;
 use hprof_lines::write_line;
 use hprof_naming::{ClassNames, name_text, type_word};
@@ -91,7 +91,7 @@ pub(crate) fn write_entries<E: ListEntry + Part, W: Target>(
     classes: &ClassNames,
     entries: &EntryList<'_, E>,
     target: &mut W,
-) -> Result<(), WriteStop>
+) -> Result<(), ProductFault>
     requires classes { AreClassNames (facts_of heap.now) classes.now }
     requires well { W.health target.old ≡ Well }
     ensures bytes { (found : Findings) → AreFindings (size_of heap.now) (facts_of heap.now) found

@@ -9,7 +9,7 @@ ghost use Rattle.hprof_show.specs.ShownObjects.{HasShownIds, IsShownHeap};
 
 use crate::shown::shown_ids;
 use hprof_heap::Heap;
-use hprof_passes::{Objects, PassStop};
+use hprof_passes::{Objects, PassFault};
 use hprof_words::{Few, few_more, few_of, words_of_few};
 use std::alloc::{AllocError, Global};
 
@@ -28,7 +28,7 @@ fn few_shown<O: Objects>(
     heap: &Heap,
     objects: &O,
     id: u64,
-) -> Result<Few, PassStop<AllocError, O::Fault>>
+) -> Result<Few, PassFault<AllocError, O::Fault>>
     ensures { Finds (O.make_up objects.now (size_of heap.now) (facts_of heap.now))
         (O.agree objects.now (size_of heap.now) (facts_of heap.now)) (O.tells objects.now (size_of heap.now) (facts_of heap.now))
         (λ all few. IsFew (heap_of heap.now).millis (size_of heap.now) all few
@@ -36,12 +36,12 @@ fn few_shown<O: Objects>(
 {
     let wanted = match only(alloc, id) {
         Ok(wanted) => wanted,
-        Err(fault) => return Err(PassStop::Sink(fault)),
+        Err(fault) => return Err(PassFault::Sink(fault)),
     };
     let few = few_of(alloc, heap, objects, wanted)?;
     match shown_ids(alloc, &few.heap, id) {
         Ok(shown) => few_more(alloc, heap, objects, few, shown),
-        Err(fault) => Err(PassStop::Sink(fault)),
+        Err(fault) => Err(PassFault::Sink(fault)),
     }
 }
 
@@ -56,7 +56,7 @@ pub(crate) fn show_heap<O: Objects>(
     heap: &Heap,
     objects: &O,
     id: u64,
-) -> Result<Heap, PassStop<AllocError, O::Fault>>
+) -> Result<Heap, PassFault<AllocError, O::Fault>>
     ensures { Finds (O.make_up objects.now (size_of heap.now) (facts_of heap.now))
         (O.agree objects.now (size_of heap.now) (facts_of heap.now)) (O.tells objects.now (size_of heap.now) (facts_of heap.now))
         (λ all. IsShownHeap (size_of heap.now) id all) result }

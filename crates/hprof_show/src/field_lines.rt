@@ -11,7 +11,7 @@ ghost use Rattle.hprof_show.specs.FieldLines.{field_line, fields_from, fields_te
 
 use hprof_describe::value_text;
 use hprof_devices::Target;
-use hprof_engine::WriteStop;
+use hprof_engine::ProductFault;
 use hprof_heap::{Heap, holds_of_heap};
 use hprof_layouts::{FieldValue, Fields, fields};
 use hprof_lines::{write_line, write_str};
@@ -63,7 +63,7 @@ fn write_values<W: Target>(
     class: u64,
     values: &[FieldValue],
     target: &mut W,
-) -> Result<(), WriteStop>
+) -> Result<(), ProductFault>
     requires classes { AreClassNames (facts_of heap.now) classes.now }
     requires well { W.health target.old ≡ Well }
     ensures bytes { (found : Findings) → AreFindings (size_of heap.now) (facts_of heap.now) found
@@ -87,7 +87,7 @@ pub(crate) fn write_fields<W: Target>(
     object: u64,
     class: u64,
     target: &mut W,
-) -> Result<(), WriteStop>
+) -> Result<(), ProductFault>
     requires classes { AreClassNames (facts_of heap.now) classes.now }
     requires well { W.health target.old ≡ Well }
     ensures bytes { (found : Findings) (shown : FieldsValue) → AreFindings (size_of heap.now) (facts_of heap.now) found

@@ -13,7 +13,7 @@ ghost use Rattle.hprof_show.specs.NumberLines.{number_text, numbers_text, quoted
 use crate::element_lines::more_line;
 use hprof_describe::{quoted, value_text};
 use hprof_devices::Target;
-use hprof_engine::WriteStop;
+use hprof_engine::ProductFault;
 use hprof_heap::{Heap, id_size};
 use hprof_lines::write_line;
 use hprof_naming::{ClassNames, Coding, Units};
@@ -81,7 +81,7 @@ fn write_rows<W: Target>(
     bytes: &[u8],
     count: usize,
     target: &mut W,
-) -> Result<(), WriteStop>
+) -> Result<(), ProductFault>
     requires classes { AreClassNames (facts_of heap.now) classes.now }
     requires within { count ≤ length bytes.now / width_of_basic (size_of heap.now) elem }
     requires few { count ≤ 256 }
@@ -105,7 +105,7 @@ fn write_numbers<W: Target>(
     elem: Basic,
     bytes: &[u8],
     target: &mut W,
-) -> Result<(), WriteStop>
+) -> Result<(), ProductFault>
     requires classes { AreClassNames (facts_of heap.now) classes.now }
     requires well { W.health target.old ≡ Well }
     ensures bytes { (found : Findings) → AreFindings (size_of heap.now) (facts_of heap.now) found
@@ -137,7 +137,7 @@ pub(crate) fn write_array_values<W: Target>(
     elem: Basic,
     bytes: &[u8],
     target: &mut W,
-) -> Result<(), WriteStop>
+) -> Result<(), ProductFault>
     requires classes { AreClassNames (facts_of heap.now) classes.now }
     requires well { W.health target.old ≡ Well }
     ensures bytes { (found : Findings) → AreFindings (size_of heap.now) (facts_of heap.now) found

@@ -18,7 +18,7 @@ use crate::field_lines::write_fields;
 use crate::number_lines::write_array_values;
 use hprof_describe::object_words;
 use hprof_devices::Target;
-use hprof_engine::WriteStop;
+use hprof_engine::ProductFault;
 use hprof_heap::{ClassDump, Heap, ObjectDump, find_class, find_object, holds_of_heap};
 use hprof_lines::{nothing_line, write_line};
 use hprof_naming::ClassNames;
@@ -48,7 +48,7 @@ fn write_contents<W: Target>(
     id: u64,
     dump: &ObjectDump<'_>,
     target: &mut W,
-) -> Result<(), WriteStop>
+) -> Result<(), ProductFault>
     requires classes { AreClassNames (facts_of heap.now) classes.now }
     requires well { W.health target.old ≡ Well }
     ensures bytes { (found : Findings) (shown : FieldsValue) → AreFindings (size_of heap.now) (facts_of heap.now) found
@@ -77,7 +77,7 @@ fn write_object<W: Target>(
     id: u64,
     dump: &ObjectDump<'_>,
     target: &mut W,
-) -> Result<(), WriteStop>
+) -> Result<(), ProductFault>
     requires classes { AreClassNames (facts_of heap.now) classes.now }
     requires well { W.health target.old ≡ Well }
     ensures bytes { (found : Findings) (shown : FieldsValue) → AreFindings (size_of heap.now) (facts_of heap.now) found
@@ -98,7 +98,7 @@ fn write_found<W: Target>(
     class: Option<ClassDump<'_>>,
     object: Option<ObjectDump<'_>>,
     target: &mut W,
-) -> Result<(), WriteStop>
+) -> Result<(), ProductFault>
     requires classes { AreClassNames (facts_of heap.now) classes.now }
     requires well { W.health target.old ≡ Well }
     ensures bytes { (found : Findings) (shown : FieldsValue) → AreFindings (size_of heap.now) (facts_of heap.now) found
@@ -133,7 +133,7 @@ pub fn write_show<W: Target>(
     classes: &ClassNames,
     id: u64,
     target: &mut W,
-) -> Result<(), WriteStop>
+) -> Result<(), ProductFault>
     requires classes { AreClassNames (facts_of heap.now) classes.now }
     requires well { W.health target.old ≡ Well }
     ensures bytes { (text : List ℕ) × IsShowText (size_of heap.now) (facts_of heap.now) id text

@@ -9,11 +9,11 @@ ghost use Rattle.hprof_show.specs.ShowText.{IsShowText};
 use crate::few::show_heap;
 use crate::show::write_show;
 use hprof_devices::Target;
-use hprof_engine::WriteStop;
+use hprof_engine::ProductFault;
 use hprof_heap::Heap;
 use hprof_lines::stop_of_pass;
 use hprof_naming::ClassNames;
-use hprof_passes::{Objects, PassStop};
+use hprof_passes::{Objects, PassFault};
 use std::alloc::Global;
 
 /// Writes the report `show` on an identifier, as [`write_show`] does. The heap has all facts but the objects, of which some are picked, one
@@ -35,7 +35,7 @@ pub fn write_show_over<O: Objects, W: Target>(
     objects: &O,
     id: u64,
     target: &mut W,
-) -> Result<(), PassStop<WriteStop, O::Fault>>
+) -> Result<(), PassFault<ProductFault, O::Fault>>
     requires { W.health target.old ≡ Well }
     ensures { EndsPassed (O.make_up objects.now (size_of heap.now) (facts_of heap.now))
         (O.agree objects.now (size_of heap.now) (facts_of heap.now)) (O.tells objects.now (size_of heap.now) (facts_of heap.now))
@@ -46,10 +46,10 @@ pub fn write_show_over<O: Objects, W: Target>(
         Err(stop) => return Err(stop_of_pass(stop)),
     };
     let Ok(classes) = ClassNames::of(alloc, &small) else {
-        return Err(PassStop::Sink(WriteStop::OutOfMemory));
+        return Err(PassFault::Sink(ProductFault::OutOfMemory));
     };
     match write_show(alloc, &small, &classes, id, target) {
         Ok(()) => Ok(()),
-        Err(stop) => Err(PassStop::Sink(stop)),
+        Err(stop) => Err(PassFault::Sink(stop)),
     }
 }

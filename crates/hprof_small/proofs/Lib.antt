@@ -1,6 +1,5 @@
-mod Going
 mod OtherFacts
-mod Finished
 mod SmallFacts
+mod Taking
 mod SmallHeaps
 pub mod SmallHas

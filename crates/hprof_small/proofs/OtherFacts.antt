@@ -1,30 +1,18 @@
 -- The facts of some tables.
-use Rattle.std.proofs.Common.{◌≡◌, ◌==◌, ℕ, Bool, true, false, ◌||◌, List, [], ◌∷◌, ◌++◌, inl, inr, refl, sym, ap, subst, ◌∙◌}
+use Rattle.std.proofs.Common.{◌≡◌, ◌==◌, ℕ, Bool, true, false, ◌||◌, List, [], ◌∷◌, inl, inr, refl, sym, ap, ◌∙◌}
 use Rattle.std.specs.Prelude.{◌≢◌, slice_index}
 use Rattle.std.specs.List.{list_any}
 use Rattle.std.proofs.lemmas.Bool.{eqb-true}
 use Rattle.std.proofs.Math.Bool.{or-true}
-use Rattle.hprof_values.specs.declared.ids.IdSize.{IdSize}
 use Rattle.hprof_items.specs.FactValue.{FactValue}
-use Rattle.hprof_items.specs.Spelling.{Fits}
 use Rattle.hprof_rows.specs.declared.table.Table.{Table}
 use Rattle.hprof_rows.specs.declared.table.Table.TheVariants as tables
-use Rattle.hprof_rows.specs.Facts.{AllFit, Has}
+use Rattle.hprof_rows.specs.Facts.{Has}
 use Rattle.hprof_rows.specs.Order.{order_of}
 use Rattle.hprof_rows.specs.Tables.{facts_of_table, number_of_table, stands_in}
 use Rattle.hprof_rows.proofs.FactSets.{Has-back, Has-front, Has-parts}
 use Rattle.hprof_rows.proofs.Picking.{picked, picked_is}
-use Rattle.hprof_small.specs.Small.{other_facts, other_tables, tables_facts}
-
--- the next fact of a table fits
-pub next_fits : (table : Table) (ids : IdSize) (facts front left rest : List FactValue) (fact : FactValue) → AllFit ids facts
-    → facts_of_table table facts ≡ front ++ left → left ≡ fact ∷ rest → Fits ids fact
-next_fits table ids facts front left rest fact fit are next =
-    fit fact (picked_is (stands_in (number_of_table table)) facts fact
-    (subst (λ (l : List FactValue). Has l fact) (sym are)
-    (Has-back front left fact (subst (λ (l : List FactValue). Has l fact) (sym next) (inl refl))))).has
-
--- ---- which facts the tables have
+use Rattle.hprof_heap.specs.OtherFacts.{other_facts, other_tables, tables_facts}
 
 -- whether the fact stands in one of the tables
 abbrev pub stands_among : List Table → FactValue → Bool

@@ -12,10 +12,11 @@ use Rattle.hprof_rows.proofs.FactSets.{Has-back, Has-front, Has-parts}
 use Rattle.hprof_rows.proofs.Order.{one_order}
 use Rattle.hprof_rows.proofs.Picking.{IsPicked, picked, picked_is}
 use Rattle.hprof_rows.proofs.ReadBack.{passed_ordered}
+use Rattle.hprof_heap.specs.OtherFacts.{other_facts, other_tables}
 use Rattle.hprof_passes.specs.Passing.{IsWhole, objects_among}
 use Rattle.hprof_passes.specs.Picked.{is_wanted}
 use Rattle.hprof_passes.proofs.Tables.{has_same}
-use Rattle.hprof_small.specs.Small.{IsSmall, other_facts, other_tables, wanted_objects}
+use Rattle.hprof_small.specs.Small.{IsSmall, wanted_objects}
 use Rattle.hprof_small.proofs.OtherFacts.{is_other_fact, no_object, of_tables}
 
 -- whether a fact is an object

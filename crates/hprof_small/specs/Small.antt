@@ -1,10 +1,7 @@
 -- Facts with a few of their objects.
-use Rattle.std.specs.Prelude.{◌≡◌, ℕ, List, [], ◌∷◌, map}
+use Rattle.std.specs.Prelude.{◌≡◌, ℕ, List}
 use Rattle.hprof_values.specs.declared.ids.IdSize.{IdSize}
 use Rattle.hprof_items.specs.FactValue.{FactValue}
-use Rattle.hprof_rows.specs.declared.table.Table.{Table}
-use Rattle.hprof_rows.specs.declared.table.Table.TheVariants as tables
-use Rattle.hprof_rows.specs.Tables.{facts_of_table, joined}
 use Rattle.hprof_heap.specs.declared.heap.Heap.{Heap}
 use Rattle.hprof_heap.specs.Heap.{heap_of}
 use Rattle.hprof_heap.specs.HeapFacts.{facts_of, size_of}
@@ -25,18 +22,3 @@ pub record IsSmallHeap (millis : ℕ) (ids : IdSize) (wanted : List ℕ) (all : 
   pub time : (heap_of small).millis ≡ millis
   pub size : size_of small ≡ ids
   pub facts : IsSmall ids wanted all (facts_of small)
-
--- ---- all facts but objects
-
--- all tables but that of objects, in order
-abbrev pub other_tables : List Table
-other_tables =
-    tables.Names ∷ tables.Loads ∷ tables.Unloads ∷ tables.Frames ∷ tables.Traces ∷ tables.Starts ∷ tables.Ends ∷ tables.Roots
-    ∷ tables.Classes ∷ []
-
--- the facts of these tables, one table behind the other
-abbrev pub tables_facts : List Table → List FactValue → List FactValue
-tables_facts list facts = joined (map (λ table. facts_of_table table facts) list)
-
-abbrev pub other_facts : List FactValue → List FactValue
-other_facts facts = tables_facts other_tables facts

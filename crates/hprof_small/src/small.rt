@@ -9,7 +9,7 @@ ghost use Rattle.hprof_small.specs.Small.{IsSmallHeap};
 
 use crate::few_objects::FewObjects;
 use hprof_heap::Heap;
-use hprof_passes::{Objects, PassStop};
+use hprof_passes::{Objects, PassFault};
 use std::alloc::{AllocError, Global};
 
 /// Returns the heap of a few objects: of those with these identifiers, which ascend strictly. It has the size, the time and all other
@@ -24,7 +24,7 @@ pub fn small_heap<O: Objects>(
     heap: &Heap,
     objects: &O,
     wanted: &[u64],
-) -> Result<Heap, PassStop<AllocError, O::Fault>>
+) -> Result<Heap, PassFault<AllocError, O::Fault>>
     requires { IsStrictlyIncreasing wanted.now }
     ensures { Finds (O.make_up objects.now (size_of heap.now) (facts_of heap.now))
         (O.agree objects.now (size_of heap.now) (facts_of heap.now))
@@ -33,14 +33,11 @@ pub fn small_heap<O: Objects>(
 {
     let mut few = match FewObjects::of(alloc, heap) {
         Ok(few) => few,
-        Err(fault) => return Err(PassStop::Sink(fault)),
+        Err(fault) => return Err(PassFault::Sink(fault)),
     };
     match objects.pick(alloc, heap, wanted, &mut few) {
         Ok(()) => {}
         Err(stop) => return Err(stop),
     }
-    match few.finish() {
-        Ok(small) => Ok(small),
-        Err(fault) => Err(PassStop::Sink(fault)),
-    }
+    Ok(few.finish())
 }

@@ -10,14 +10,14 @@ use Rattle.hprof_heap.specs.Heap.{heap_of}
 use Rattle.hprof_merge.specs.Rows.{ByteRow}
 use Rattle.hprof_merge.specs.Union.{IsUnion}
 use Rattle.hprof_segments.specs.declared.segment_fault.SegmentFault.{SegmentFault}
-use Rattle.hprof_objects.specs.declared.object_stop.ObjectStop.{ObjectStop}
+use Rattle.hprof_objects.specs.declared.object_fault.ObjectFault.{ObjectFault}
 use Rattle.hprof_objects.specs.declared.stored_objects.StoredObjects.{StoredObjects}
 use Rattle.hprof_objects.specs.Log.{HoldsParts}
 use Rattle.hprof_objects.specs.MergedObjects.{TellsChange}
 use Rattle.hprof_objects.specs.PartsRead.{PartRead}
 use Rattle.hprof_objects.specs.StoredObjects.{AreToldAgain, HoldsObjects, objects_of}
-use Rattle.hprof_engine.specs.declared.product.WriteStop.TheVariants as writes
-use Rattle.hprof_engine.specs.declared.product_refusal.ProductRefusal.{ProductRefusal}
+use Rattle.hprof_engine.specs.declared.product.ProductFault.TheVariants as writes
+use Rattle.hprof_engine.specs.declared.heap_fault.HeapFault.{HeapFault}
 use Rattle.hprof_engine.specs.declared.tool_fault.ToolFault.{ToolFault}
 use Rattle.hprof_engine.specs.declared.tool_fault.ToolFault.TheVariants as tool
 use Rattle.hprof_engine.specs.Joining.{Agree, AreReadOut, Tell}
@@ -38,7 +38,7 @@ use Rattle.hprof_stored.proofs.ToldAgain.{agree_told, as_read, loss_told, same_t
 -- left: what a reader has left to tell;  told: the bytes of the parts that are opened again;  scratch: those of the scratch at first
 module _ {R W S K : Type 0} {Keeps : K → List PartSummary → Type 0} {kept : K} (left : R → Option (List ℕ)) (health : R → Health)
     (pulls : R → ℕ) (limits : Limits) (old new : List R) (written : W → Option (List ℕ)) (well : W → Health)
-    (IsText : List PartSummary → HeapValue → List ℕ → Type 0) (Refuses : ProductRefusal → HeapValue → Type 0) (before after : W)
+    (IsText : List PartSummary → HeapValue → List ℕ → Type 0) (Refuses : HeapFault → HeapValue → Type 0) (before after : W)
     (stores : S → Option (List ℕ)) (scratch_health : S → Health) (told : List (Option (List ℕ))) (scratch : Option (List ℕ))
     (stored : StoredHeap S) (objects : StoredObjects S) (some : old ≡ [] → ⊥) (can : CanBeReadAgain left old told scratch)
     (holds : HoldsHeap stores scratch_health limits (map left old) scratch stored)
@@ -56,7 +56,7 @@ module _ {R W S K : Type 0} {Keeps : K → List PartSummary → Type 0} {kept : 
   out = subst (AreReadOut left health pulls limits old new) first.so_many first.read_out
 
   -- the objects cannot be gone through for the first time, and nothing was written
-  pub loss_makes : (stop : ObjectStop SegmentFault) (fault : ToolFault) → fault ≡ fault_of_pass (pass_fault stop) → well before ≡ Well
+  pub loss_makes : (stop : ObjectFault SegmentFault) (fault : ToolFault) → fault ≡ fault_of_pass (pass_fault stop) → well before ≡ Well
       → after ≡ before → ComeLast → ((again : List PartRead) → AreSame again → FindsLeast (objects_of again) stop)
       → TellsChange stores scratch_health limits told objects stop → MakesSo (Some fault)
   loss_makes stop fault is was_well same last least change =
@@ -92,7 +92,7 @@ module _ {R W S K : Type 0} {Keeps : K → List PartSummary → Type 0} {kept : 
         }
 
     -- the heap is refused, and nothing was written
-    pub refused_makes : (refusal : ProductRefusal) → after ≡ before
+    pub refused_makes : (refusal : HeapFault) → after ≡ before
         → ((parts : List (List ℕ)) (rows : List ByteRow) → AgreeWith parts (heap_of stored.heap) rows → Known rows
         → (all : HeapValue) × Refuses refusal all × Agree parts all.ids all.millis all.facts) → MakesSo (Some (tool.Refused refusal))
     refused_makes refusal same refuses =
@@ -118,7 +118,7 @@ module _ {R W S K : Type 0} {Keeps : K → List PartSummary → Type 0} {kept : 
           ))
 
       -- writing stopped
-      pub stopped_makes : (stop : ObjectStop SegmentFault) (fault : ToolFault) → fault ≡ fault_of_stop stop
+      pub stopped_makes : (stop : ObjectFault SegmentFault) (fault : ToolFault) → fault ≡ fault_of_stop stop
           → LeavesTarget {A = Unit {0}} (Err stop) (well after)
           → ((again : List PartRead) (rows : List ByteRow) → AreSame again → IsUnion (objects_of again) rows → Known rows
           → WritesSome (written before) (written after) (text rows))

@@ -9,8 +9,8 @@ use Rattle.hprof_merge.specs.Merging.{RefusesRow, TakesAll}
 use Rattle.hprof_merge.specs.Run.{Runs}
 use Rattle.hprof_merge.specs.Union.{IsUnion}
 use Rattle.hprof_merge.proofs.Unions.{union_front, union_unique}
-use Rattle.hprof_objects.specs.declared.object_stop.ObjectStop.{ObjectStop}
-use Rattle.hprof_objects.specs.declared.object_stop.ObjectStop.TheVariants as stops
+use Rattle.hprof_objects.specs.declared.object_fault.ObjectFault.{ObjectFault}
+use Rattle.hprof_objects.specs.declared.object_fault.ObjectFault.TheVariants as stops
 use Rattle.hprof_objects.specs.MergedObjects.{IfScratchFails, StopsWithin, TellsChange}
 use Rattle.hprof_objects.specs.PartsRead.{PartRead}
 use Rattle.hprof_objects.specs.StoredObjects.{HoldsObjects, IsOneStretch, objects_of, scratch_under}
@@ -89,7 +89,7 @@ module _ {S P : Type 0} (written : S → Option (List ℕ)) (health : S → Heal
   -- ---- a merge that stopped
 
   -- what its stop tells
-  pub tells_count : (unreadable : S → Type 0) (old new : RowCounter) → old.count ≡ 0 → (stop : ObjectStop CountFull)
+  pub tells_count : (unreadable : S → Type 0) (old new : RowCounter) → old.count ≡ 0 → (stop : ObjectFault CountFull)
       → ((reads : List PartRead) → AreAsRead written health bytes it reads
       → StopsWithin (λ old key bytes new. Counts old new) (λ old key bytes fault new. IsFull old) (objects_of reads) stop old new)
       → TellsChange written health (limits_under it) (bytes (parts_under it)) (objects_under it) stop

@@ -6,15 +6,15 @@ use Rattle.hprof_stream.specs.declared.limits.Limits.{Limits}
 use Rattle.hprof_stream.specs.declared.summary.PartSummary.{PartSummary}
 use Rattle.hprof_rows.specs.HeapValue.{HeapValue}
 use Rattle.hprof_runs.specs.declared.run_fault.RunFault.TheVariants as runs
-use Rattle.hprof_objects.specs.declared.object_stop.ObjectStop.{ObjectStop}
-use Rattle.hprof_objects.specs.declared.object_stop.ObjectStop.TheVariants as objects
+use Rattle.hprof_objects.specs.declared.object_fault.ObjectFault.{ObjectFault}
+use Rattle.hprof_objects.specs.declared.object_fault.ObjectFault.TheVariants as objects
 use Rattle.hprof_objects.specs.declared.stretch_fault.StretchFault.TheVariants as stretches
 use Rattle.hprof_segments.specs.declared.segment_fault.SegmentFault.{SegmentFault}
 use Rattle.hprof_segments.specs.declared.segment_fault.SegmentFault.TheVariants as segments
 use Rattle.hprof_engine.specs.declared.loss.Loss.{Loss}
 use Rattle.hprof_engine.specs.declared.loss.Loss.TheVariants as losses
-use Rattle.hprof_engine.specs.declared.product_refusal.ProductRefusal.{ProductRefusal}
-use Rattle.hprof_engine.specs.declared.product.WriteStop.TheVariants as writes
+use Rattle.hprof_engine.specs.declared.heap_fault.HeapFault.{HeapFault}
+use Rattle.hprof_engine.specs.declared.product.ProductFault.TheVariants as writes
 use Rattle.hprof_engine.specs.declared.tool_fault.ToolFault.{ToolFault}
 use Rattle.hprof_engine.specs.declared.tool_fault.ToolFault.TheVariants as tool
 use Rattle.hprof_engine.specs.Joining.{AreReadOut, Tell}
@@ -30,7 +30,7 @@ use Rattle.hprof_stored.proofs.StoredReads.{all_read_so}
 
 module _ {R W : Type 0} (left : R → Option (List ℕ)) (health : R → Health) (pulls : R → ℕ) (limits : Limits) (old new : List R)
     (written : W → Option (List ℕ)) (well : W → Health) (IsText : List PartSummary → HeapValue → List ℕ → Type 0)
-    (Refuses : ProductRefusal → HeapValue → Type 0) (before after : W) (some : old ≡ [] → ⊥) where
+    (Refuses : HeapFault → HeapValue → Type 0) (before after : W) (some : old ≡ [] → ⊥) where
   abbrev pub MakesDump : Option ToolFault → Type 0
   MakesDump ended = MakesStored left health pulls limits old new written well IsText Refuses before after ended
 
@@ -48,7 +48,7 @@ module _ {R W : Type 0} (left : R → Option (List ℕ)) (health : R → Health)
     wants_so is_well =
         wants_behind left health pulls limits old new written well IsText Refuses before after some stored out is_well (inr front)
 
-    pub stop_makes : (stop : ObjectStop SegmentFault) → LeavesTarget {A = Unit {0}} (Err stop) (well after)
+    pub stop_makes : (stop : ObjectFault SegmentFault) → LeavesTarget {A = Unit {0}} (Err stop) (well after)
         → ((parts : List (List ℕ)) → Tell left old parts → IsOfDevices stop × IsSameStop stop) → MakesDump (Some (fault_of_stop stop))
     stop_makes objects.OutOfMemory leaves tells = wants_so leaves
     stop_makes (objects.TwoContents id) leaves tells = lost_so losses.Objects (λ parts told change. (tells parts told).0)

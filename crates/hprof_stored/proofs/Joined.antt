@@ -16,8 +16,8 @@ use Rattle.hprof_merge.specs.TwoContents.{IsLeastWithTwoContents}
 use Rattle.hprof_merge.specs.Union.{IsUnion}
 use Rattle.hprof_parts.specs.Parts.{bytes_at}
 use Rattle.hprof_segments.specs.declared.segment_fault.SegmentFault.{SegmentFault}
-use Rattle.hprof_objects.specs.declared.object_stop.ObjectStop.{ObjectStop}
-use Rattle.hprof_objects.specs.declared.object_stop.ObjectStop.TheVariants as stops
+use Rattle.hprof_objects.specs.declared.object_fault.ObjectFault.{ObjectFault}
+use Rattle.hprof_objects.specs.declared.object_fault.ObjectFault.TheVariants as stops
 use Rattle.hprof_objects.specs.declared.stored_objects.StoredObjects.{StoredObjects}
 use Rattle.hprof_objects.specs.declared.stretch_fault.StretchFault.TheVariants as stretches
 use Rattle.hprof_objects.specs.MergedObjects.{TellsChange}
@@ -74,7 +74,7 @@ module _ (limits : Limits) where
 
 -- want of memory and a fault of the target tell of no change
 pub no_change : {S : Type 0} (written : S → Option (List ℕ)) (health : S → Health) (limits : Limits) (told : List (Option (List ℕ)))
-    (objects : StoredObjects S) (stop : ObjectStop SegmentFault) → IsOfTarget stop → TellsChange written health limits told objects stop
+    (objects : StoredObjects S) (stop : ObjectFault SegmentFault) → IsOfTarget stop → TellsChange written health limits told objects stop
 no_change written health limits told objects stops.OutOfMemory is = tt
 no_change written health limits told objects (stops.TwoContents key) is = absurd is
 no_change written health limits told objects (stops.Scratch fault) is = absurd is
@@ -82,7 +82,7 @@ no_change written health limits told objects (stops.Part part fault) is = absurd
 no_change written health limits told objects (stops.Sink fault) is = tt
 
 -- no part has changed, and no scratch is damaged
-abbrev pub IsSameStop : ObjectStop SegmentFault → Type 0
+abbrev pub IsSameStop : ObjectFault SegmentFault → Type 0
 IsSameStop stops.OutOfMemory = ⊤
 IsSameStop (stops.TwoContents id) = ⊤
 IsSameStop (stops.Scratch fault) = IfDamaged fault ⊥
@@ -92,7 +92,7 @@ IsSameStop (stops.Sink fault) = ⊤
 -- where the parts are told again, none has changed, and no scratch is damaged
 pub same_stop : {S : Type 0} (written : S → Option (List ℕ)) (health : S → Health) (limits : Limits) (told : List (Option (List ℕ)))
     (reads : List PartRead) (objects : StoredObjects S) → AreToldAgain written health limits told reads objects
-    → (stop : ObjectStop SegmentFault) → TellsChange written health limits told objects stop → IsSameStop stop
+    → (stop : ObjectFault SegmentFault) → TellsChange written health limits told objects stop → IsSameStop stop
 same_stop written health limits told reads objects again stops.OutOfMemory tells = tt
 same_stop written health limits told reads objects again (stops.TwoContents key) tells = tt
 same_stop written health limits told reads objects again (stops.Scratch runs.OutOfMemory) tells = tt
@@ -159,7 +159,7 @@ module _ {R : Type 0} (left : R → Option (List ℕ)) (limits : Limits) (old : 
       }
 
   -- why objects cannot be gone through for the first time
-  pub is_of_loss : ComeLast → (stop : ObjectStop SegmentFault) → FindsLeast (objects_of (all_read stored)) stop → IsSameStop stop
+  pub is_of_loss : ComeLast → (stop : ObjectFault SegmentFault) → FindsLeast (objects_of (all_read stored)) stop → IsSameStop stop
       → IsOfLoss parts (pass_fault stop)
   is_of_loss last stops.OutOfMemory finds same = tt
   is_of_loss last (stops.TwoContents key) finds same =

@@ -35,8 +35,8 @@ use Rattle.hprof_engine.proofs.PartByPart.{say_together}
 use Rattle.hprof_engine.proofs.Stated.{given_state}
 use Rattle.hprof_engine.proofs.Together.{together_once}
 use Rattle.hprof_stored.specs.declared.in_parts.InParts.{InParts}
-use Rattle.hprof_stored.specs.declared.pass_fault.PassFault.{PassFault}
-use Rattle.hprof_stored.specs.declared.pass_fault.PassFault.TheVariants as faults
+use Rattle.hprof_stored.specs.declared.in_parts_fault.InPartsFault.{InPartsFault}
+use Rattle.hprof_stored.specs.declared.in_parts_fault.InPartsFault.TheVariants as faults
 use Rattle.hprof_stored.specs.declared.stored_heap.StoredHeap.{StoredHeap}
 use Rattle.hprof_stored.specs.InParts.{AreAsRead, AreStoredOf, HaveUnion, IsOfSame, MakeUp, TellsPass}
 use Rattle.hprof_stored.specs.InParts.{limits_under, objects_under, parts_under}
@@ -153,7 +153,7 @@ module _ {R S P : Type 0} (left : R → Option (List ℕ)) (written : S → Opti
   not_changed part stretches.Read changed = tt
   not_changed part stretches.Changed changed = changed (all_read parts) as_read.holds (as_read.same part)
 
-  pub faults_of_same : (unreadable : S → Type 0) (fault : PassFault)
+  pub faults_of_same : (unreadable : S → Type 0) (fault : InPartsFault)
       → TellsPass written health bytes unreadable it heap.ids heap.facts fault → IsOfSame fault
   faults_of_same unreadable faults.OutOfMemory tells = tt
   faults_of_same unreadable (faults.TwoContents id) tells = tt

@@ -11,8 +11,8 @@ use Rattle.hprof_merge.specs.Run.{Runs}
 use Rattle.hprof_merge.specs.Union.{AnyHas, IsUnion}
 use Rattle.hprof_merge.proofs.Lists.{append-last}
 use Rattle.hprof_merge.proofs.Unions.{union_front, union_unique}
-use Rattle.hprof_objects.specs.declared.object_stop.ObjectStop.{ObjectStop}
-use Rattle.hprof_objects.specs.declared.object_stop.ObjectStop.TheVariants as stops
+use Rattle.hprof_objects.specs.declared.object_fault.ObjectFault.{ObjectFault}
+use Rattle.hprof_objects.specs.declared.object_fault.ObjectFault.TheVariants as stops
 use Rattle.hprof_objects.specs.MergedObjects.{IfScratchFails, TellsChange}
 use Rattle.hprof_objects.specs.ObjectRows.{object_row}
 use Rattle.hprof_objects.specs.PartsRead.{PartRead}
@@ -20,11 +20,11 @@ use Rattle.hprof_objects.specs.Picks.{Picks, PicksAll, PicksBelow, RefusesWanted
 use Rattle.hprof_objects.specs.StoredObjects.{objects_of, scratch_under}
 use Rattle.hprof_objects.specs.Wanted.{is_among, wanted_rows}
 use Rattle.hprof_objects.specs.Whole.{AreObjects}
-use Rattle.hprof_passes.specs.declared.pass_stop.PassStop.{PassStop}
+use Rattle.hprof_passes.specs.declared.pass_fault.PassFault.{PassFault}
 use Rattle.hprof_passes.specs.Passing.{IfLost, Passes, RefusesObject, TakesFront, TakesObjects, objects_among}
 use Rattle.hprof_passes.specs.Picked.{is_one_of, is_wanted, object_of, picked}
 use Rattle.hprof_stored.specs.declared.in_parts.InParts.{InParts}
-use Rattle.hprof_stored.specs.declared.pass_fault.PassFault.{PassFault}
+use Rattle.hprof_stored.specs.declared.in_parts_fault.InPartsFault.{InPartsFault}
 use Rattle.hprof_stored.specs.declared.row_decoder.RowDecoder.{RowDecoder}
 use Rattle.hprof_stored.specs.declared.row_decoder.RowRefusal.{RowRefusal}
 use Rattle.hprof_stored.specs.declared.row_decoder.RowRefusal.TheVariants as refusals
@@ -90,7 +90,7 @@ module _ (ids : IdSize) (wanted : List ℕ) where
 module _ {T E : Type 0} (takes : T → IdSize → FactValue → T → Type 0) (refuses : T → IdSize → FactValue → E → T → Type 0)
     (wanted : List ℕ) where
   -- it stays the same sink
-  pub same_picked : (lists : List (List ByteRow)) (r : Result (Unit {0}) (ObjectStop (RowRefusal E))) (old new : RowDecoder T)
+  pub same_picked : (lists : List (List ByteRow)) (r : Result (Unit {0}) (ObjectFault (RowRefusal E))) (old new : RowDecoder T)
       → Picks (GivesObject takes) (GivesNone refuses) wanted lists r old new → AreOverSame old new
   same_picked lists r old new =
       unchanged.same_picked (GivesObject takes) (GivesNone refuses) AreOverSame (λ it. (refl, refl)) (same_then takes refuses)
@@ -171,7 +171,7 @@ module _ {T E : Type 0} (takes : T → IdSize → FactValue → T → Type 0) (r
           }
 
       -- picking that stopped
-      pub stopped : (stop : ObjectStop (RowRefusal E)) → StopsPicking (GivesObject takes) (GivesNone refuses) wanted lists stop old new
+      pub stopped : (stop : ObjectFault (RowRefusal E)) → StopsPicking (GivesObject takes) (GivesNone refuses) wanted lists stop old new
           → Passes takes refuses ids {A = Unit {0}} (picked wanted objects) (Err (pass_stop stop)) (sink_under old) (sink_under new)
       stopped stops.OutOfMemory front = below front.0 front.1
       stopped (stops.TwoContents id) front = below id front.1
@@ -185,7 +185,7 @@ module _ {T E : Type 0} (takes : T → IdSize → FactValue → T → Type 0) (r
 module _ {S P T E : Type 0} (written : S → Option (List ℕ)) (health : S → Health) (bytes : P → List (Option (List ℕ)))
     (unreadable : S → Type 0) (takes : T → IdSize → FactValue → T → Type 0) (refuses : T → IdSize → FactValue → E → T → Type 0)
     (it : InParts S P) (wanted : List ℕ) (old new : RowDecoder T) where
-  pub told_by : (ids : IdSize) (facts : List FactValue) (size : old.ids ≡ ids) (stop : ObjectStop (RowRefusal E))
+  pub told_by : (ids : IdSize) (facts : List FactValue) (size : old.ids ≡ ids) (stop : ObjectFault (RowRefusal E))
       → ((reads : List PartRead) → AreAsRead written health bytes it reads
       → StopsPicking (GivesObject takes) (GivesNone refuses) wanted (objects_of reads) stop old new)
       → TellsChange written health (limits_under it) (bytes (parts_under it)) (objects_under it) stop
@@ -211,14 +211,15 @@ module _ {S P T E : Type 0} (written : S → Option (List ℕ)) (health : S → 
         (subst (λ (t : T). TakesObjects takes ids t (picked wanted make.objects) (sink_under new)) begins
         (merged takes refuses wanted ids (objects_of make.reads) old new size make.rows make.objects make.union make.are taken)))
 
-    pub some_given : (stop : ObjectStop (RowRefusal E)) (why : PassStop E PassFault) → why ≡ pass_stop stop
+    pub some_given : (stop : ObjectFault (RowRefusal E)) (why : PassFault E InPartsFault) → why ≡ pass_stop stop
         → StopsPicking (GivesObject takes) (GivesNone refuses) wanted (objects_of make.reads) stop old new
         → Passes takes refuses ids {A = Unit {0}} (picked wanted (objects_among all)) (Err why) was now
     some_given stop why is within =
         let passes : T → List FactValue → T → Type 0 =
         λ (from : T) (objects : List FactValue) (to : T). Passes takes refuses ids {A = Unit {0}} (picked wanted objects)
         (Err (pass_stop stop)) from to in
-        subst (λ (w : PassStop E PassFault). Passes takes refuses ids {A = Unit {0}} (picked wanted (objects_among all)) (Err w) was now)
+        subst (λ (w : PassFault E InPartsFault). Passes takes refuses ids {A = Unit {0}} (picked wanted (objects_among all))
+        (Err w) was now)
         (sym is)
         (subst (λ (l : List FactValue). passes was l now) (sym make.among)
         (subst (λ (t : T). passes was make.objects t) (sym ends)

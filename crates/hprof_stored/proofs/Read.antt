@@ -115,10 +115,10 @@ module _ {S : Type 0} (written : S → Option (List ℕ)) (well : S → Health) 
         refused_for handed.header before handed.facts handed.refused sinks.Failed mid new (bare_item sinks.Failed reads) held refused
 
     -- memory was wanted
-    pub is_want : (reads : ListsPart left health pulls limits was came is (Err (faults.Sink sinks.OutOfMemory)) handed)
+    pub is_fault_of_part : (reads : ListsPart left health pulls limits was came is (Err (faults.Sink sinks.OutOfMemory)) handed)
         → RefusesStored mid handed.refused sinks.OutOfMemory new
         → IsPartFault left health pulls HaveObject limits earlier.given was came is (faults.Sink sinks.OutOfMemory)
-    is_want reads refused =
+    is_fault_of_part reads refused =
         let up = handed_up_to left health pulls limits was is came sinks.OutOfMemory handed reads in
         let bare = bare_item sinks.OutOfMemory reads in
         let why = refused_for handed.header before handed.facts handed.refused sinks.OutOfMemory mid new bare held refused in
@@ -190,7 +190,8 @@ module _ {S : Type 0} (written : S → Option (List ℕ)) (well : S → Health) 
         → ListsPart left health pulls limits was came is (Err fault) handed → Comes fault
         → IsPartFault left health pulls HaveObject limits (given_of parts) was came is fault
     watched_fault (faults.Sink sinks.OutOfMemory) other reads comes =
-        is_want written well limits (parts_before scratch parts) left health pulls was is came comes.1.before handed (storing comes.0.sink)
+        is_fault_of_part written well limits (parts_before scratch parts) left health pulls was is came comes.1.before handed
+        (storing comes.0.sink)
         (storing new.sink) comes.1.held.stored reads comes.2.0
     watched_fault (faults.Sink sinks.Failed) other reads comes = absurd (other refl)
     watched_fault fault other reads comes = reads.0

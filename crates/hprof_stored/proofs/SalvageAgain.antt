@@ -15,8 +15,8 @@ use Rattle.hprof_merge.specs.Union.{IsUnion}
 use Rattle.hprof_runs.specs.declared.run_fault.RunFault.TheVariants as runs
 use Rattle.hprof_segments.specs.declared.segment_fault.SegmentFault.{SegmentFault}
 use Rattle.hprof_segments.specs.declared.segment_fault.SegmentFault.TheVariants as segments
-use Rattle.hprof_objects.specs.declared.object_stop.ObjectStop.{ObjectStop}
-use Rattle.hprof_objects.specs.declared.object_stop.ObjectStop.TheVariants as objects
+use Rattle.hprof_objects.specs.declared.object_fault.ObjectFault.{ObjectFault}
+use Rattle.hprof_objects.specs.declared.object_fault.ObjectFault.TheVariants as objects
 use Rattle.hprof_objects.specs.declared.stored_objects.StoredObjects.{StoredObjects}
 use Rattle.hprof_objects.specs.declared.stretch_fault.StretchFault.TheVariants as stretches
 use Rattle.hprof_objects.specs.Log.{HoldsParts}
@@ -30,8 +30,8 @@ use Rattle.hprof_engine.specs.declared.tool_fault.ToolFault.TheVariants as tool
 use Rattle.hprof_engine.specs.Joining.{Tell}
 use Rattle.hprof_engine.specs.Salvaging.{ReadsThrough}
 use Rattle.hprof_stored.specs.declared.in_parts.InParts.{InParts}
-use Rattle.hprof_stored.specs.declared.pass_fault.PassFault.{PassFault}
-use Rattle.hprof_stored.specs.declared.pass_fault.PassFault.TheVariants as passes
+use Rattle.hprof_stored.specs.declared.in_parts_fault.InPartsFault.{InPartsFault}
+use Rattle.hprof_stored.specs.declared.in_parts_fault.InPartsFault.TheVariants as passes
 use Rattle.hprof_stored.specs.declared.saving.SavedHeap.{SavedHeap}
 use Rattle.hprof_stored.specs.Dumping.{AreSubRecords, IsOfDevices, LeavesTarget, WritesSome, dump_with}
 use Rattle.hprof_stored.specs.InParts.{AreAsRead, HaveUnion, MakeUp, TellsPass, limits_under, objects_under, parts_under}
@@ -85,7 +85,7 @@ module _ {R W S P : Type 0} (left : R → Option (List ℕ)) (health : R → Hea
     unfolding all_read
     wants_memory = inr (all_read, ap well unwritten ∙ was_well, inl unwritten)
 
-    pub not_counted : (unreadable : S → Type 0) → ComeLast → (fault : PassFault)
+    pub not_counted : (unreadable : S → Type 0) → ComeLast → (fault : InPartsFault)
         → TellsPass stores scratch_health bytes unreadable it heap.ids heap.facts fault → Answers (Err (fault_of_pass fault))
     not_counted unreadable last passes.OutOfMemory tells = wants_memory
     not_counted unreadable last (passes.TwoContents id) tells = (
@@ -185,7 +185,7 @@ module _ {R W S P : Type 0} (left : R → Option (List ℕ)) (health : R → Hea
     }
 
     -- writing stopped
-    module _ (stop : ObjectStop SegmentFault)
+    module _ (stop : ObjectFault SegmentFault)
         (wrote : (again : List PartRead) (rows : List ByteRow) → AreSame again → IsUnion (objects_of again) rows
         → WritesSome (written before) (written after) (dump_with heap rows)) where
       front : IfTold left health pulls limits old new
@@ -202,7 +202,7 @@ module _ {R W S P : Type 0} (left : R → Option (List ℕ)) (health : R → Hea
           }
 
       stopped : (devices : (told : List (List ℕ)) → Tell left old told → IsOfDevices stop × IsSameStop stop)
-          → (is : ObjectStop SegmentFault) → is ≡ stop → LeavesTarget {A = Unit {0}} (Err is) (well after)
+          → (is : ObjectFault SegmentFault) → is ≡ stop → LeavesTarget {A = Unit {0}} (Err is) (well after)
           → Answers (Err (fault_of_stop is))
       unfolding all_read
       stopped devices objects.OutOfMemory e leaves = inr (all_read, leaves, inr front)

@@ -25,7 +25,7 @@ use Rattle.hprof_stream.specs.declared.sink.SinkFault.TheVariants as sinks
 use Rattle.hprof_placed.specs.Reading.{HoldsHanded, ListsPart}
 use Rattle.hprof_devices.specs.declared.target.Target.{Ghosts}
 use Rattle.hprof_stored.specs.declared.stored_sink.StoredSink.{StoredSink}
-use Rattle.hprof_stored.proofs.Read.{is_want}
+use Rattle.hprof_stored.proofs.Read.{is_fault_of_part}
 
 -- ---- what reading one part comes to
 
@@ -191,7 +191,8 @@ module _ {R S : Type 0} {g : Ghosts S} (left : R → Option (List ℕ)) (health 
       → IsPartFault left health pulls HaveObject limits earlier.given was came is fault
   came_wanting faults.OutOfMemory memory reads comes = reads.0
   came_wanting (faults.Sink sinks.OutOfMemory) memory reads comes =
-      is_want written well limits earlier left health pulls was is came comes.1.before handed (storing comes.0) (storing new) comes.1.held
+      is_fault_of_part written well limits earlier left health pulls was is came comes.1.before handed (storing comes.0)
+      (storing new) comes.1.held
       reads comes.2.0
   came_wanting (faults.Sink sinks.Failed) memory reads comes = absurd cc
   came_wanting (faults.Malformed at reason) memory reads comes = absurd cc

@@ -15,7 +15,7 @@ use Rattle.hprof_rows.specs.HeapValue.{HeapValue}
 use Rattle.hprof_heap.specs.State.{IsState}
 use Rattle.hprof_engine.specs.declared.loss.Loss.{Loss}
 use Rattle.hprof_engine.specs.declared.loss.Loss.TheVariants as losses
-use Rattle.hprof_engine.specs.declared.product_refusal.ProductRefusal.{ProductRefusal}
+use Rattle.hprof_engine.specs.declared.heap_fault.HeapFault.{HeapFault}
 use Rattle.hprof_engine.specs.declared.tool_fault.ToolFault.{ToolFault}
 use Rattle.hprof_engine.specs.declared.tool_fault.ToolFault.TheVariants as tool
 use Rattle.hprof_engine.specs.Joining.{Agree, AreReadOut, IsHindered, IsOfReading, IsOkOrConflict, Tell}
@@ -23,8 +23,8 @@ use Rattle.hprof_engine.specs.Makes.{IsChange, IsMadeOf, Makes, Reads, WritesAll
 use Rattle.hprof_runs.specs.declared.run_fault.RunFault.TheVariants as runs
 use Rattle.hprof_runs.specs.declared.scratch_fault.ScratchFault.TheVariants as scratches
 use Rattle.hprof_objects.specs.declared.stretch_fault.StretchFault.TheVariants as stretches
-use Rattle.hprof_stored.specs.declared.pass_fault.PassFault.{PassFault}
-use Rattle.hprof_stored.specs.declared.pass_fault.PassFault.TheVariants as passes
+use Rattle.hprof_stored.specs.declared.in_parts_fault.InPartsFault.{InPartsFault}
+use Rattle.hprof_stored.specs.declared.in_parts_fault.InPartsFault.TheVariants as passes
 use Rattle.hprof_stored.specs.declared.stored_fault.StoredFault.{StoredFault}
 use Rattle.hprof_stored.specs.declared.stored_fault.StoredFault.TheVariants as stops
 use Rattle.hprof_stored.specs.Reading.{AreSoMany, IsHinderedStored, IsOkOrConflictStored, ReadsStored}
@@ -59,7 +59,7 @@ reading_other (stops.Scratch (scratches.Write fault)) other = absurd other
 
 module _ {R W : Type 0} (left : R → Option (List ℕ)) (health : R → Health) (pulls : R → ℕ) (limits : Limits) (old new : List R)
     (written : W → Option (List ℕ)) (well : W → Health) (IsText : List PartSummary → HeapValue → List ℕ → Type 0)
-    (Refuses : ProductRefusal → HeapValue → Type 0) (before after : W) where
+    (Refuses : HeapFault → HeapValue → Type 0) (before after : W) where
   abbrev pub MakesStored : Option ToolFault → Type 0
   MakesStored ended = Makes left health pulls written well limits (stored_making IsText Refuses) old new before after ended
 
@@ -122,7 +122,7 @@ module _ {R W : Type 0} (left : R → Option (List ℕ)) (health : R → Health)
   }
 
   -- the heap is refused
-  pub heap_refused : (refusal : ProductRefusal) → ReadsStoredTo (Some (tool.Refused refusal)) → after ≡ before
+  pub heap_refused : (refusal : HeapFault) → ReadsStoredTo (Some (tool.Refused refusal)) → after ≡ before
       → IfTold (λ parts. (heap : HeapValue) × Refuses refusal heap × Agree parts heap.ids heap.millis heap.facts)
       → MakesStored (Some (tool.Refused refusal))
   heap_refused refusal reads same refuses = record {
@@ -132,7 +132,7 @@ module _ {R W : Type 0} (left : R → Option (List ℕ)) (health : R → Health)
     refused = λ other e.
         let one : refusal ≡ other = cc in (
           inl tt,
-          λ parts told. subst (λ (r : ProductRefusal). (heap : HeapValue) × Refuses r heap
+          λ parts told. subst (λ (r : HeapFault). (heap : HeapValue) × Refuses r heap
               × Agree parts heap.ids heap.millis heap.facts) one
               (refuses parts told),
         );
@@ -240,7 +240,7 @@ module _ {R W : Type 0} (left : R → Option (List ℕ)) (health : R → Health)
         unwritten_wants : MakesStored (Some tool.OutOfMemory)
         unwritten_wants = wants_behind (subst (λ (w : W). well w ≡ healths.Well) (sym same) was_well) (inl same)
 
-        pub pass_makes : (fault : PassFault) → IfTold (λ parts. IsOfLoss parts fault) → MakesStored (Some (fault_of_pass fault))
+        pub pass_makes : (fault : InPartsFault) → IfTold (λ parts. IsOfLoss parts fault) → MakesStored (Some (fault_of_pass fault))
         pass_makes passes.OutOfMemory tells = unwritten_wants
         pass_makes passes.TooMany tells = unwritten_wants
         pass_makes (passes.TwoContents id) tells =

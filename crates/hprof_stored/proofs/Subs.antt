@@ -24,8 +24,8 @@ use Rattle.hprof_segments.specs.Writer.{held_bytes}
 use Rattle.hprof_segments.proofs.Takes.{taken_front}
 use Rattle.hprof_segments.proofs.RowRuns.{rows_taken}
 use Rattle.hprof_segments.proofs.Viewed.{run_viewed}
-use Rattle.hprof_objects.specs.declared.object_stop.ObjectStop.{ObjectStop}
-use Rattle.hprof_objects.specs.declared.object_stop.ObjectStop.TheVariants as stops
+use Rattle.hprof_objects.specs.declared.object_fault.ObjectFault.{ObjectFault}
+use Rattle.hprof_objects.specs.declared.object_fault.ObjectFault.TheVariants as stops
 use Rattle.hprof_objects.specs.MergedObjects.{MergesLists, UnlessRefused}
 use Rattle.std.specs.Prelude.{IfErr, IsErrAnd}
 use Rattle.std.specs.List.{AllByRecursion}
@@ -76,7 +76,7 @@ module _ {W : Type 0} (written : W → Option (List ℕ)) (health : W → Health
   same_then old mid new first second = (second.0 ∙ first.0, second.1 ∙ first.1)
 
   -- the sink stays one into the same writer and target
-  pub same_lists : (lists : List (List ByteRow)) (r : Result (Unit {0}) (ObjectStop SegmentFault)) (old new : SegmentSink W)
+  pub same_lists : (lists : List (List ByteRow)) (r : Result (Unit {0}) (ObjectFault SegmentFault)) (old new : SegmentSink W)
       → MergesLists (TakesIntoSink written) (SinkRefuses written health) lists r old new → IsOverSame old new
   same_lists =
       unchanged.same_lists (TakesIntoSink written) (SinkRefuses written health) IsOverSame (λ it. (refl, refl)) same_then
@@ -114,7 +114,7 @@ module _ {W : Type 0} (written : W → Option (List ℕ)) (health : W → Health
         (front_of start (written new.target.now) (held_bytes new.writer.now) (subs ++ bytes_of taken.front) (bytes_of cut.0 ++ more)
         (taken_run start subs old new taken.front taken.run has))
 
-    pub lists_taken : (r : Result (Unit {0}) (ObjectStop SegmentFault)) (old new : SegmentSink W)
+    pub lists_taken : (r : Result (Unit {0}) (ObjectFault SegmentFault)) (old new : SegmentSink W)
         → MergesLists (TakesIntoSink written) (SinkRefuses written health) lists r old new
         → HasTakenRows written (sink_state old) start subs
         → TakesSubs start (written new.target.now) (held_bytes new.writer.now) (subs ++ bytes_of rows) r
@@ -146,7 +146,7 @@ module _ {W : Type 0} (written : W → Option (List ℕ)) (health : W → Health
         (taken_run start subs old it.mid it.front it.run has))
 
   -- how the target is doing
-  pub target_left : (lists : List (List ByteRow)) (r : Result (Unit {0}) (ObjectStop SegmentFault)) (old new : SegmentSink W)
+  pub target_left : (lists : List (List ByteRow)) (r : Result (Unit {0}) (ObjectFault SegmentFault)) (old new : SegmentSink W)
       → MergesLists (TakesIntoSink written) (SinkRefuses written health) lists r old new
       → UnlessRefused (health new.target.now ≡ Well) r → LeavesTarget r (health new.target.now)
   target_left lists (Ok done) old new merged well = well
@@ -160,14 +160,14 @@ module _ {W : Type 0} (written : W → Option (List ℕ)) (health : W → Health
   -- what becomes of the writer and the target
   module _ (new : SegmentSink W) (writer : SegmentWriter) (target : W) (becomes : writer ≡ new.writer.now)
       (becomes_too : target ≡ new.target.now) where
-    pub taken_into : (r : Result (Unit {0}) (ObjectStop SegmentFault)) (start : Option (List ℕ)) (subs : List (List ℕ))
+    pub taken_into : (r : Result (Unit {0}) (ObjectFault SegmentFault)) (start : Option (List ℕ)) (subs : List (List ℕ))
         → TakesSubs start (written new.target.now) (held_bytes new.writer.now) subs r
         → TakesSubs start (written target) (held_bytes writer) subs r
     taken_into r start subs taken =
         subst (λ (t : W). TakesSubs start (written t) (held_bytes writer) subs r) (sym becomes_too)
         (subst (λ (w : SegmentWriter). TakesSubs start (written new.target.now) (held_bytes w) subs r) (sym becomes) taken)
 
-    pub left_in : (r : Result (Unit {0}) (ObjectStop SegmentFault)) → LeavesTarget r (health new.target.now)
+    pub left_in : (r : Result (Unit {0}) (ObjectFault SegmentFault)) → LeavesTarget r (health new.target.now)
         → LeavesTarget r (health target)
     left_in r left = subst (λ (t : W). LeavesTarget r (health t)) (sym becomes_too) left
 
@@ -201,7 +201,7 @@ middle P (first ∷ front) row rest all = middle P front row rest all.1
 
 module _ {W : Type 0} (written : W → Option (List ℕ)) (health : W → Health) where
   of_devices : (lists : List (List ByteRow)) (rows : List ByteRow) → IsUnion lists rows → AreSubRecords rows
-      → (stop : ObjectStop SegmentFault) (old new : SegmentSink W)
+      → (stop : ObjectFault SegmentFault) (old new : SegmentSink W)
       → MergesLists (TakesIntoSink written) {A = Unit {0}} (SinkRefuses written health) lists (Err stop) old new → IsOfDevices stop
   of_devices lists rows union all stops.OutOfMemory old new merged = tt
   of_devices lists rows union all (stops.TwoContents key) old new merged = union_apart lists rows key union merged.0.contents
@@ -215,7 +215,7 @@ module _ {W : Type 0} (written : W → Option (List ℕ)) (health : W → Health
       (subst (λ (l : List ByteRow). AllByRecursion (λ (r : ByteRow). IsSub r.1) l) cut.1 all))
   of_devices lists rows union all (stops.Sink (segments.Write fault)) old new merged = tt
 
-  pub stops_of_devices : (Told : List PartRead → Type 0) (r : Result (Unit {0}) (ObjectStop SegmentFault)) (old new : SegmentSink W)
+  pub stops_of_devices : (Told : List PartRead → Type 0) (r : Result (Unit {0}) (ObjectFault SegmentFault)) (old new : SegmentSink W)
       → ((reads : List PartRead) → Told reads
       → MergesLists (TakesIntoSink written) (SinkRefuses written health) (objects_of reads) r old new)
       → IfErr r (λ stop. (reads : List PartRead) (rows : List ByteRow) → Told reads → IsUnion (objects_of reads) rows

@@ -7,7 +7,7 @@ use Rattle.hprof_heap.specs.Heap.{heap_of}
 use Rattle.hprof_merge.specs.Rows.{ByteRow}
 use Rattle.hprof_merge.specs.Union.{IsUnion}
 use Rattle.hprof_segments.specs.declared.segment_fault.SegmentFault.{SegmentFault}
-use Rattle.hprof_objects.specs.declared.object_stop.ObjectStop.{ObjectStop}
+use Rattle.hprof_objects.specs.declared.object_fault.ObjectFault.{ObjectFault}
 use Rattle.hprof_objects.specs.declared.stored_objects.StoredObjects.{StoredObjects}
 use Rattle.hprof_objects.specs.Log.{HoldsParts}
 use Rattle.hprof_objects.specs.MergedObjects.{TellsChange}
@@ -46,11 +46,11 @@ module _ {R S : Type 0} (left : R → Option (List ℕ)) (written : S → Option
   agree_told = agreed left limits readers holds.parts holds.stored holds.given heap holds.tells parts told
 
   -- why the objects cannot be gone through
-  pub same_told : (stop : ObjectStop SegmentFault) → TellsChange written health limits again objects stop → IsSameStop stop
+  pub same_told : (stop : ObjectFault SegmentFault) → TellsChange written health limits again objects stop → IsSameStop stop
   same_told = same_stop written health limits again (all_read holds.parts) objects as_read
 
   -- the same of the first time
-  pub loss_told : ComeLast → (stop : ObjectStop SegmentFault)
+  pub loss_told : ComeLast → (stop : ObjectFault SegmentFault)
       → ((reads : List PartRead) → AreToldAgain written health limits again reads objects → FindsLeast (objects_of reads) stop)
       → TellsChange written health limits again objects stop → IsOfLoss parts (pass_fault stop)
   loss_told last stop least change =

@@ -19,8 +19,8 @@ use Rattle.hprof_segments.specs.declared.segment_fault.SegmentFault.{SegmentFaul
 use Rattle.hprof_segments.specs.declared.segment_fault.SegmentFault.TheVariants as segments
 use Rattle.hprof_segments.specs.ByteSegments.{IsSub, segment_records}
 use Rattle.hprof_segments.specs.Taking.{HasTaken}
-use Rattle.hprof_objects.specs.declared.object_stop.ObjectStop.{ObjectStop}
-use Rattle.hprof_objects.specs.declared.object_stop.ObjectStop.TheVariants as stops
+use Rattle.hprof_objects.specs.declared.object_fault.ObjectFault.{ObjectFault}
+use Rattle.hprof_objects.specs.declared.object_fault.ObjectFault.TheVariants as stops
 
 -- the sub-records of the facts of a heap
 abbrev pub subs_of : HeapValue → List (List ℕ)
@@ -57,7 +57,7 @@ TakesSubs start now held subs (Ok done) = HasTaken start now held subs
 TakesSubs start now held subs (Err stop) = (more : List (List ℕ)) → WritesSome start now (segment_records (subs ++ more))
 
 -- the health in which writing a dump leaves its target
-abbrev pub LeavesTarget : {A : Type 0} → Result A (ObjectStop SegmentFault) → Health → Type 0
+abbrev pub LeavesTarget : {A : Type 0} → Result A (ObjectFault SegmentFault) → Health → Type 0
 LeavesTarget (Ok done) health = health ≡ Well
 LeavesTarget (Err stops.OutOfMemory) health = health ≡ Well
 LeavesTarget (Err (stops.TwoContents key)) health = health ≡ Well
@@ -67,7 +67,7 @@ LeavesTarget (Err (stops.Sink segments.NoSubRecord)) health = ⊤
 LeavesTarget (Err (stops.Sink (segments.Write fault))) health = health ≡ health_after fault
 
 -- a merge that stops at two contents has found the least key that has them
-abbrev pub FindsLeast : List (List ByteRow) → ObjectStop SegmentFault → Type 0
+abbrev pub FindsLeast : List (List ByteRow) → ObjectFault SegmentFault → Type 0
 FindsLeast lists stops.OutOfMemory = ⊤
 FindsLeast lists (stops.TwoContents key) = IsLeastWithTwoContents lists key
 FindsLeast lists (stops.Scratch fault) = ⊤
@@ -79,7 +79,7 @@ abbrev pub AreSubRecords : List ByteRow → Type 0
 AreSubRecords rows = AllByRecursion (λ row. IsSub row.1) rows
 
 -- memory, the scratch, a part or the target is the reason, and not the objects
-abbrev pub IsOfDevices : ObjectStop SegmentFault → Type 0
+abbrev pub IsOfDevices : ObjectFault SegmentFault → Type 0
 IsOfDevices stops.OutOfMemory = ⊤
 IsOfDevices (stops.TwoContents key) = ⊥
 IsOfDevices (stops.Scratch fault) = ⊤
@@ -88,7 +88,7 @@ IsOfDevices (stops.Sink segments.NoSubRecord) = ⊥
 IsOfDevices (stops.Sink (segments.Write fault)) = ⊤
 
 -- memory or the target is the reason
-abbrev pub IsOfTarget : ObjectStop SegmentFault → Type 0
+abbrev pub IsOfTarget : ObjectFault SegmentFault → Type 0
 IsOfTarget stops.OutOfMemory = ⊤
 IsOfTarget (stops.TwoContents key) = ⊥
 IsOfTarget (stops.Scratch fault) = ⊥

@@ -8,8 +8,8 @@ use Rattle.hprof_merge.specs.Rows.{ByteRow}
 use Rattle.hprof_merge.specs.TwoContents.{IsLeastWithTwoContents}
 use Rattle.hprof_merge.specs.Union.{AnyHas, IsUnion}
 use Rattle.hprof_runs.specs.RunFault.{IfDamaged, IfReadFailed}
-use Rattle.hprof_objects.specs.declared.object_stop.ObjectStop.{ObjectStop}
-use Rattle.hprof_objects.specs.declared.object_stop.ObjectStop.TheVariants as stops
+use Rattle.hprof_objects.specs.declared.object_fault.ObjectFault.{ObjectFault}
+use Rattle.hprof_objects.specs.declared.object_fault.ObjectFault.TheVariants as stops
 use Rattle.hprof_objects.specs.declared.stored_objects.StoredObjects.{StoredObjects}
 use Rattle.hprof_objects.specs.Log.{HoldsParts}
 use Rattle.hprof_objects.specs.PartsRead.{PartRead}
@@ -18,12 +18,12 @@ use Rattle.hprof_objects.specs.StoredObjects.{AreToldAgain, HoldsObjects, object
 use Rattle.hprof_objects.specs.StretchFault.{ByFault}
 use Rattle.hprof_objects.specs.Whole.{AreObjects}
 use Rattle.hprof_engine.specs.Joining.{Tell}
-use Rattle.hprof_passes.specs.declared.pass_stop.PassStop.{PassStop}
-use Rattle.hprof_passes.specs.declared.pass_stop.PassStop.TheVariants as passes
+use Rattle.hprof_passes.specs.declared.pass_fault.PassFault.{PassFault}
+use Rattle.hprof_passes.specs.declared.pass_fault.PassFault.TheVariants as passes
 use Rattle.hprof_passes.specs.Passing.{IsWhole, objects_among}
 use Rattle.hprof_stored.specs.declared.in_parts.InParts.{InParts}
-use Rattle.hprof_stored.specs.declared.pass_fault.PassFault.{PassFault}
-use Rattle.hprof_stored.specs.declared.pass_fault.PassFault.TheVariants as faults
+use Rattle.hprof_stored.specs.declared.in_parts_fault.InPartsFault.{InPartsFault}
+use Rattle.hprof_stored.specs.declared.in_parts_fault.InPartsFault.TheVariants as faults
 use Rattle.hprof_stored.specs.declared.row_decoder.RowRefusal.{RowRefusal}
 use Rattle.hprof_stored.specs.declared.row_decoder.RowRefusal.TheVariants as rows
 use Rattle.hprof_stored.specs.declared.stored_heap.StoredHeap.{StoredHeap}
@@ -41,7 +41,7 @@ abbrev pub limits_under : {S P : Type 0} → InParts S P → Limits
 limits_under it = it.limits
 
 -- why a pass stops, where a merge into a sink of rows stopped
-abbrev pub pass_stop : {E : Type 0} → ObjectStop (RowRefusal E) → PassStop E PassFault
+abbrev pub pass_stop : {E : Type 0} → ObjectFault (RowRefusal E) → PassFault E InPartsFault
 pass_stop stops.OutOfMemory = passes.Lost faults.OutOfMemory
 pass_stop (stops.TwoContents id) = passes.Lost (faults.TwoContents id)
 pass_stop (stops.Scratch fault) = passes.Lost (faults.Scratch fault)
@@ -50,7 +50,7 @@ pass_stop (stops.Sink rows.NoObject) = passes.Lost faults.NoObject
 pass_stop (stops.Sink (rows.Sink fault)) = passes.Sink fault
 
 -- why the objects cannot be counted, where a merge into a counter stopped
-abbrev pub count_stop : {E : Type 0} → ObjectStop E → PassFault
+abbrev pub count_stop : {E : Type 0} → ObjectFault E → InPartsFault
 count_stop stops.OutOfMemory = faults.OutOfMemory
 count_stop (stops.TwoContents id) = faults.TwoContents id
 count_stop (stops.Scratch fault) = faults.Scratch fault
@@ -85,7 +85,7 @@ module _ {S P : Type 0} (written : S → Option (List ℕ)) (health : S → Heal
 
   -- what a fault tells of the parts: the least identifier with two contents; the scratch cannot be read, or does not hold what was written;
   -- the part is not as it was read; not every row of the parts spells an object; there are too many objects
-  abbrev pub TellsPass : (S → Type 0) → InParts S P → IdSize → List FactValue → PassFault → Type 0
+  abbrev pub TellsPass : (S → Type 0) → InParts S P → IdSize → List FactValue → InPartsFault → Type 0
   TellsPass unreadable it ids facts faults.OutOfMemory = ⊤
   TellsPass unreadable it ids facts (faults.TwoContents id) =
       (reads : List PartRead) → AreAsRead it reads → IsLeastWithTwoContents (objects_of reads) id
@@ -101,7 +101,7 @@ module _ {S P : Type 0} (written : S → Option (List ℕ)) (health : S → Heal
   TellsPass unreadable it ids facts faults.TooMany = (all : List FactValue) → MakeUp it ids facts all → 2 ^ 64 ≤ length (objects_among all)
 
 -- with which faults a pass ends, where the parts are as they were read and the scratch tells its bytes
-abbrev pub IsOfSame : PassFault → Type 0
+abbrev pub IsOfSame : InPartsFault → Type 0
 IsOfSame faults.OutOfMemory = ⊤
 IsOfSame (faults.TwoContents id) = ⊤
 IsOfSame (faults.Scratch fault) = IfDamaged fault ⊥

@@ -21,7 +21,7 @@ use Rattle.hprof_heap.specs.State.{HaveTwoSizes}
 use Rattle.hprof_runs.specs.declared.scratch_fault.ScratchFault.{ScratchFault}
 use Rattle.hprof_runs.specs.declared.scratch_fault.ScratchFault.TheVariants as scratches
 use Rattle.hprof_objects.specs.Log.{HoldsParts, scratch_of_log}
-use Rattle.hprof_engine.specs.Joining.{AreGiven, AreReadOut, Disagree, IsAccepted, RefusesAt, RefusesPart, Tell, is_want}
+use Rattle.hprof_engine.specs.Joining.{AreGiven, AreReadOut, Disagree, IsAccepted, RefusesAt, RefusesPart, Tell, is_resource_fault}
 use Rattle.hprof_engine.specs.Summaries.{HoldsFirst}
 use Rattle.hprof_stored.specs.declared.stored_fault.StoredFault.{StoredFault}
 use Rattle.hprof_stored.specs.declared.stored_fault.StoredFault.TheVariants as stops
@@ -162,7 +162,7 @@ pub record ReadsStored {R : Type 0} (left : R → Option (List ℕ)) (health : R
 
 -- memory was wanted, a limit was met, or the scratch took no more
 abbrev pub IsHinderedStored : Option StoredFault → Type 0
-IsHinderedStored (Some (stops.Part index fault)) = is_want fault ≡ true
+IsHinderedStored (Some (stops.Part index fault)) = is_resource_fault fault ≡ true
 IsHinderedStored (Some (stops.Scratch why)) = ⊤
 IsHinderedStored other = ⊥
 

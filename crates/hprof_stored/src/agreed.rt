@@ -5,12 +5,12 @@ ghost use Rattle.hprof_stored.specs.Agreed.{HaveOneContent};
 ghost use Rattle.hprof_stored.specs.InParts.{AreSoMany, objects_under};
 
 use crate::in_parts::InParts;
-use crate::pass_fault::PassFault;
+use crate::in_parts_fault::InPartsFault;
 use hprof_devices::Target;
 use hprof_heap::Heap;
 use hprof_objects::CutLists;
 use hprof_parts::Parts;
-use hprof_passes::{ObjectSink, Objects, PassStop};
+use hprof_passes::{ObjectSink, Objects, PassFault};
 use hprof_runs::Scratch;
 use std::alloc::Global;
 
@@ -43,7 +43,7 @@ impl<'a, S: Scratch + Drop, P: Parts> Agreed<'a, S, P> {
     /// - `TwoContents`: the least identifier of which objects have two contents.
     /// - `Scratch`, `Part`: objects cannot be read again, or a part is not there.
     /// - `TooMany`: there are 2^64 or more.
-    pub fn new(alloc: Global, objects: InParts<'a, S, P>) -> Result<Self, PassFault>
+    pub fn new(alloc: Global, objects: InParts<'a, S, P>) -> Result<Self, InPartsFault>
         ensures objects { IfOk result (λ agreed. agreed_under agreed ≡ objects.entry) }
         ensures agree { OnOk result (HaveUnion S.written S.health P.bytes objects.entry) }
         ensures tells { IfErr result (λ fault. (ids : IdSize) (facts : List FactValue)
@@ -59,7 +59,7 @@ impl<'a, S: Scratch + Drop, P: Parts> Agreed<'a, S, P> {
                 lists,
                 count,
             }),
-            Err(_) => Err(PassFault::OutOfMemory),
+            Err(_) => Err(InPartsFault::OutOfMemory),
         }
     }
 }
@@ -74,14 +74,14 @@ impl<S: Scratch + Drop, P: Parts> Objects for Agreed<'_, S, P> {
 
     ghost tells = { λ it ids facts fault. TellsPass S.written S.health P.bytes S.unreadable (agreed_under it) ids facts fault };
 
-    type Fault = PassFault;
+    type Fault = InPartsFault;
 
     fn pass<T: ObjectSink>(
         &self,
         alloc: Global,
         heap: &Heap,
         sink: &mut T,
-    ) -> Result<(), PassStop<T::Fault, PassFault>> {
+    ) -> Result<(), PassFault<T::Fault, InPartsFault>> {
         self.objects.pass(alloc, heap, sink)
     }
 
@@ -91,12 +91,12 @@ impl<S: Scratch + Drop, P: Parts> Objects for Agreed<'_, S, P> {
         heap: &Heap,
         wanted: &[u64],
         sink: &mut T,
-    ) -> Result<(), PassStop<T::Fault, PassFault>> {
+    ) -> Result<(), PassFault<T::Fault, InPartsFault>> {
         self.objects
             .pick_agreed(alloc, heap, &self.lists, wanted, sink)
     }
 
-    fn count(&self, _alloc: Global, _heap: &Heap) -> Result<u64, PassFault> {
+    fn count(&self, _alloc: Global, _heap: &Heap) -> Result<u64, InPartsFault> {
         Ok(self.count)
     }
 

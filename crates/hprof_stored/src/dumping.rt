@@ -23,7 +23,7 @@ use hprof_devices::{Source, Target, WriteFault};
 use hprof_dump::write_records;
 use hprof_heap::Heap;
 use hprof_items::{Header, Version, tag};
-use hprof_objects::{ObjectStop, StoredObjects};
+use hprof_objects::{ObjectFault, StoredObjects};
 use hprof_parts::Parts;
 use hprof_rows::SubRow;
 use hprof_runs::Scratch;
@@ -40,7 +40,7 @@ fn take_sub<W: Target>(
     buffer: &mut SubBuffer,
     writer: &mut SegmentWriter,
     target: &mut W,
-) -> Result<(), ObjectStop<SegmentFault>>
+) -> Result<(), ObjectFault<SegmentFault>>
     requires buffer { buffer.old.health ≡ Well }
     requires target { W.health target.old ≡ Well }
     requires writable { IsWritable ids row }
@@ -53,14 +53,14 @@ fn take_sub<W: Target>(
 {
     let len = row.len(ids);
     if buffer.begin(len as usize).is_err() {
-        return Err(ObjectStop::OutOfMemory);
+        return Err(ObjectFault::OutOfMemory);
     }
     if row.write(ids, buffer).is_err() {
-        return Err(ObjectStop::OutOfMemory);
+        return Err(ObjectFault::OutOfMemory);
     }
     match writer.take(&buffer.bytes, target) {
         Ok(()) => Ok(()),
-        Err(fault) => Err(ObjectStop::Sink(SegmentFault::Write(fault))),
+        Err(fault) => Err(ObjectFault::Sink(SegmentFault::Write(fault))),
     }
 }
 
@@ -70,7 +70,7 @@ fn take_subs<W: Target>(
     heap: &Heap,
     writer: &mut SegmentWriter,
     target: &mut W,
-) -> Result<(), ObjectStop<SegmentFault>>
+) -> Result<(), ObjectFault<SegmentFault>>
     requires target { W.health target.old ≡ Well }
     requires empty { held_bytes writer.old ≡ [] }
     ensures taken { TakesSubs (W.written target.old) (W.written target.new) (held_bytes writer.new) (subs_of (heap_of heap.now)) result }
@@ -95,7 +95,7 @@ fn take_objects<S: Scratch + Drop, R: Source + Drop, P: Parts<Reader = R>, W: Ta
     limits: Limits,
     writer: &mut SegmentWriter,
     target: &mut W,
-) -> Result<(), ObjectStop<SegmentFault>>
+) -> Result<(), ObjectFault<SegmentFault>>
     requires { W.health target.old ≡ Well }
     ensures taken { (reads : List PartRead) (rows : List ByteRow)
         → AreToldAgain S.written S.health limits (P.bytes parts.now) reads objects.now
@@ -162,7 +162,7 @@ pub fn write_stored_dump<S: Scratch + Drop, R: Source + Drop, P: Parts<Reader = 
     limits: Limits,
     writer: &mut SegmentWriter,
     target: &mut W,
-) -> Result<(), ObjectStop<SegmentFault>>
+) -> Result<(), ObjectFault<SegmentFault>>
     requires target { W.health target.old ≡ Well }
     requires empty { held_bytes writer.old ≡ [] }
     ensures dump { (reads : List PartRead) (rows : List ByteRow)
@@ -176,12 +176,12 @@ pub fn write_stored_dump<S: Scratch + Drop, R: Source + Drop, P: Parts<Reader = 
     ensures health { LeavesTarget result (W.health target.new) }
 {
     if let Err(fault) = write_front(Version::V102, heap, target) {
-        return Err(ObjectStop::Sink(SegmentFault::Write(fault)));
+        return Err(ObjectFault::Sink(SegmentFault::Write(fault)));
     }
     take_subs(alloc, heap, writer, target)?;
     take_objects(alloc, objects, parts, limits, writer, target)?;
     match write_end(writer, target) {
         Ok(()) => Ok(()),
-        Err(fault) => Err(ObjectStop::Sink(SegmentFault::Write(fault))),
+        Err(fault) => Err(ObjectFault::Sink(SegmentFault::Write(fault))),
     }
 }

@@ -10,7 +10,7 @@ ghost use Rattle.hprof_stored.specs.Dumping.{FindsLeast};
 
 use hprof_devices::Source;
 use hprof_merge::RowSink;
-use hprof_objects::{ObjectStop, StoredObjects};
+use hprof_objects::{ObjectFault, StoredObjects};
 use hprof_parts::Parts;
 use hprof_runs::Scratch;
 use hprof_segments::SegmentFault;
@@ -46,7 +46,7 @@ pub fn find_conflict<S: Scratch + Drop, R: Source + Drop, P: Parts<Reader = R>>(
     objects: &StoredObjects<S>,
     parts: &P,
     limits: Limits,
-) -> Result<(), ObjectStop<SegmentFault>>
+) -> Result<(), ObjectFault<SegmentFault>>
     ensures none { OnOk result ((reads : List PartRead) → AreToldAgain S.written S.health limits (P.bytes parts.now) reads objects.now
         → ((rows : List ByteRow) × IsUnion (objects_of reads) rows)) }
     ensures least { IfErr result (λ stop. (reads : List PartRead)

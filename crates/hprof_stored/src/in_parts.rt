@@ -3,13 +3,13 @@
 ghost use Rattle.std.specs.Prelude.{◌≡◌};
 ghost use Rattle.hprof_stored.specs.InParts.{count_stop, pass_stop};
 
-use crate::pass_fault::PassFault;
+use crate::in_parts_fault::InPartsFault;
 use crate::row_counter::{CountFull, RowCounter};
 use crate::row_decoder::{RowDecoder, RowRefusal};
 use hprof_heap::{Heap, id_size};
-use hprof_objects::{CutLists, ObjectStop, StoredObjects};
+use hprof_objects::{CutLists, ObjectFault, StoredObjects};
 use hprof_parts::Parts;
-use hprof_passes::{ObjectSink, Objects, PassStop};
+use hprof_passes::{ObjectSink, Objects, PassFault};
 use hprof_runs::Scratch;
 use hprof_stream::Limits;
 use std::alloc::{AllocError, Global};
@@ -41,16 +41,16 @@ impl<'a, S, P> InParts<'a, S, P> {
 }
 
 /// Returns why a pass stops, where a merge into a sink of rows stopped.
-fn pass_stop<E>(stop: ObjectStop<RowRefusal<E>>) -> PassStop<E, PassFault>
+fn pass_stop<E>(stop: ObjectFault<RowRefusal<E>>) -> PassFault<E, InPartsFault>
     ensures { result ≡ pass_stop stop }
 {
     match stop {
-        ObjectStop::OutOfMemory => PassStop::Lost(PassFault::OutOfMemory),
-        ObjectStop::TwoContents(id) => PassStop::Lost(PassFault::TwoContents(id)),
-        ObjectStop::Scratch(fault) => PassStop::Lost(PassFault::Scratch(fault)),
-        ObjectStop::Part { part, fault } => PassStop::Lost(PassFault::Part { part, fault }),
-        ObjectStop::Sink(RowRefusal::NoObject) => PassStop::Lost(PassFault::NoObject),
-        ObjectStop::Sink(RowRefusal::Sink(fault)) => PassStop::Sink(fault),
+        ObjectFault::OutOfMemory => PassFault::Lost(InPartsFault::OutOfMemory),
+        ObjectFault::TwoContents(id) => PassFault::Lost(InPartsFault::TwoContents(id)),
+        ObjectFault::Scratch(fault) => PassFault::Lost(InPartsFault::Scratch(fault)),
+        ObjectFault::Part { part, fault } => PassFault::Lost(InPartsFault::Part { part, fault }),
+        ObjectFault::Sink(RowRefusal::NoObject) => PassFault::Lost(InPartsFault::NoObject),
+        ObjectFault::Sink(RowRefusal::Sink(fault)) => PassFault::Sink(fault),
     }
 }
 
@@ -80,7 +80,7 @@ impl<S: Scratch + Drop, P: Parts> InParts<'_, S, P> {
         lists: &CutLists,
         wanted: &[u64],
         sink: &mut T,
-    ) -> Result<(), PassStop<T::Fault, PassFault>>
+    ) -> Result<(), PassFault<T::Fault, InPartsFault>>
         requires lists { AreListsOf (objects_under self.now) lists.now }
         requires agree { HaveUnion S.written S.health P.bytes self.now }
         requires ascend { IsStrictlyIncreasing wanted.now }
@@ -99,15 +99,15 @@ impl<S: Scratch + Drop, P: Parts> InParts<'_, S, P> {
 }
 
 /// Returns why the objects cannot be counted, where a merge into a counter stopped.
-fn count_stop(stop: ObjectStop<CountFull>) -> PassFault
+fn count_stop(stop: ObjectFault<CountFull>) -> InPartsFault
     ensures { result ≡ count_stop stop }
 {
     match stop {
-        ObjectStop::OutOfMemory => PassFault::OutOfMemory,
-        ObjectStop::TwoContents(id) => PassFault::TwoContents(id),
-        ObjectStop::Scratch(fault) => PassFault::Scratch(fault),
-        ObjectStop::Part { part, fault } => PassFault::Part { part, fault },
-        ObjectStop::Sink(CountFull) => PassFault::TooMany,
+        ObjectFault::OutOfMemory => InPartsFault::OutOfMemory,
+        ObjectFault::TwoContents(id) => InPartsFault::TwoContents(id),
+        ObjectFault::Scratch(fault) => InPartsFault::Scratch(fault),
+        ObjectFault::Part { part, fault } => InPartsFault::Part { part, fault },
+        ObjectFault::Sink(CountFull) => InPartsFault::TooMany,
     }
 }
 
@@ -125,7 +125,7 @@ impl<S: Scratch + Drop, P: Parts> InParts<'_, S, P> {
     /// - `TwoContents`: the least identifier of which objects have two contents.
     /// - `Scratch`, `Part`: objects cannot be read again, or a part is not there.
     /// - `TooMany`: there are 2^64 or more.
-    pub(crate) fn count_all(&self, alloc: Global) -> Result<u64, PassFault>
+    pub(crate) fn count_all(&self, alloc: Global) -> Result<u64, InPartsFault>
         ensures count { IfOk result (AreSoMany S.written S.health P.bytes self.now) }
         ensures agree { OnOk result (HaveUnion S.written S.health P.bytes self.now) }
         ensures tells { IfErr result (λ fault. (ids : IdSize) (facts : List FactValue)
@@ -154,14 +154,14 @@ impl<S: Scratch + Drop, P: Parts> Objects for InParts<'_, S, P> {
 
     ghost tells = { TellsPass S.written S.health P.bytes S.unreadable };
 
-    type Fault = PassFault;
+    type Fault = InPartsFault;
 
     fn pass<T: ObjectSink>(
         &self,
         alloc: Global,
         heap: &Heap,
         sink: &mut T,
-    ) -> Result<(), PassStop<T::Fault, PassFault>> {
+    ) -> Result<(), PassFault<T::Fault, InPartsFault>> {
         let mut rows = RowDecoder::new(id_size(heap), sink);
         match self
             .objects
@@ -178,7 +178,7 @@ impl<S: Scratch + Drop, P: Parts> Objects for InParts<'_, S, P> {
         heap: &Heap,
         wanted: &[u64],
         sink: &mut T,
-    ) -> Result<(), PassStop<T::Fault, PassFault>> {
+    ) -> Result<(), PassFault<T::Fault, InPartsFault>> {
         let mut rows = RowDecoder::new(id_size(heap), sink);
         match self
             .objects
@@ -189,7 +189,7 @@ impl<S: Scratch + Drop, P: Parts> Objects for InParts<'_, S, P> {
         }
     }
 
-    fn count(&self, alloc: Global, _heap: &Heap) -> Result<u64, PassFault> {
+    fn count(&self, alloc: Global, _heap: &Heap) -> Result<u64, InPartsFault> {
         self.count_all(alloc)
     }
 

@@ -17,8 +17,8 @@ ghost use Rattle.hprof_stored.specs.Dumping.{dump_with};
 ghost use Rattle.hprof_stored.specs.InParts.{AreStoredOf, HaveUnion, IsOfSame, MakeUp, TellsPass, objects_under};
 ghost use Rattle.hprof_stored.specs.Watching.{Watched};
 ghost use Rattle.hprof_stored.specs.declared.in_parts.InParts.{InParts};
-ghost use Rattle.hprof_stored.specs.declared.pass_fault.PassFault.{PassFault};
-ghost use Rattle.hprof_stored.specs.declared.pass_fault.PassFault.TheVariants.{TwoContents};
+ghost use Rattle.hprof_stored.specs.declared.in_parts_fault.InPartsFault.{InPartsFault};
+ghost use Rattle.hprof_stored.specs.declared.in_parts_fault.InPartsFault.TheVariants.{TwoContents};
 ghost use Rattle.hprof_stored.specs.declared.stored_heap.StoredHeap.{StoredHeap};
 
 use hprof_devices::Source;
@@ -53,7 +53,7 @@ pub fn stored_objects_are_those_of_the_parts<R: Source, S: Scratch, P: Parts>()
         → TellsPass S.written S.health P.bytes S.unreadable it (size_of stored.heap) (facts_of stored.heap) (TwoContents id)
         → Disagree told (Object id) }
     ensures faults { (readers : List R) (scratch : Option (List ℕ)) (stored : StoredHeap S) (it : InParts S P) (told : List (List ℕ))
-        (fault : PassFault) → AreStoredOf R.left S.written S.health P.bytes readers scratch stored it told
+        (fault : InPartsFault) → AreStoredOf R.left S.written S.health P.bytes readers scratch stored it told
         → TellsPass S.written S.health P.bytes S.unreadable it (size_of stored.heap) (facts_of stored.heap) fault → IsOfSame fault }
 {
     parts_come_to_one_thing();

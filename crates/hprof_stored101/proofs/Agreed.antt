@@ -4,7 +4,7 @@ use Rattle.hprof_items.specs.Spelling.{longest_body}
 use Rattle.hprof_rows.specs.HeapValue.{HeapValue}
 use Rattle.hprof_merge.specs.Rows.{ByteRow}
 use Rattle.hprof_objects.specs.Whole.{with_objects}
-use Rattle.hprof_engine.specs.declared.product_refusal.ProductRefusal.TheVariants as products
+use Rattle.hprof_engine.specs.declared.heap_fault.HeapFault.TheVariants as products
 use Rattle.hprof_engine.specs.Joining.{Agree}
 use Rattle.hprof_engine.specs.Joining101.{IsDump101Text, Refuses101}
 use Rattle.hprof_engine.specs.Makes.{IsMadeOf}

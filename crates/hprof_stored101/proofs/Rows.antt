@@ -14,8 +14,8 @@ use Rattle.hprof_merge.specs.Union.{IsUnion}
 use Rattle.hprof_merge.proofs.Unions.{union_apart, union_front, union_unique}
 use Rattle.hprof_segments.specs.declared.segment_fault.SegmentFault.{SegmentFault}
 use Rattle.hprof_segments.specs.declared.segment_fault.SegmentFault.TheVariants as segments
-use Rattle.hprof_objects.specs.declared.object_stop.ObjectStop.{ObjectStop}
-use Rattle.hprof_objects.specs.declared.object_stop.ObjectStop.TheVariants as stops
+use Rattle.hprof_objects.specs.declared.object_fault.ObjectFault.{ObjectFault}
+use Rattle.hprof_objects.specs.declared.object_fault.ObjectFault.TheVariants as stops
 use Rattle.hprof_objects.specs.MergedObjects.{MergesLists, UnlessRefused}
 use Rattle.hprof_objects.specs.PartsRead.{PartRead}
 use Rattle.hprof_objects.specs.StoredObjects.{objects_of}
@@ -43,7 +43,7 @@ module _ {W : Type 0} (written : W → Option (List ℕ)) (health : W → Health
   same_refused old key bytes (segments.Write fault) new refuses = refuses.0
 
   -- the sink stays one over the same target
-  pub same_lists : (lists : List (List ByteRow)) (r : Result (Unit {0}) (ObjectStop SegmentFault)) (old new : RowWriter W)
+  pub same_lists : (lists : List (List ByteRow)) (r : Result (Unit {0}) (ObjectFault SegmentFault)) (old new : RowWriter W)
       → MergesLists (WritesRow written) (StopsAtRow written health) lists r old new → IsOverSame old new
   same_lists =
       unchanged.same_lists (WritesRow written) (StopsAtRow written health) IsOverSame (λ it. refl) same_then
@@ -67,7 +67,7 @@ module _ {W : Type 0} (written : W → Option (List ℕ)) (health : W → Health
         (run_written old taken.front new taken.run) (bytes_apart taken.front cut.0 rows cut.1)
 
     -- all rows were written, or some of them
-    pub rows_written : (r : Result (Unit {0}) (ObjectStop SegmentFault)) (old new : RowWriter W)
+    pub rows_written : (r : Result (Unit {0}) (ObjectFault SegmentFault)) (old new : RowWriter W)
         → MergesLists (WritesRow written) (StopsAtRow written health) lists r old new
         → WritesOrStops (written old.target.now) (written new.target.now) r (rows_bytes rows)
     rows_written (Ok done) old new taken =
@@ -89,7 +89,7 @@ module _ {W : Type 0} (written : W → Option (List ℕ)) (health : W → Health
         (WritesFront-more (written it.mid.target.now) (written new.target.now) row.1 (rows_bytes cut.0) it.refused.2))
 
   -- how the target is doing
-  pub target_left : (lists : List (List ByteRow)) (r : Result (Unit {0}) (ObjectStop SegmentFault)) (old new : RowWriter W)
+  pub target_left : (lists : List (List ByteRow)) (r : Result (Unit {0}) (ObjectFault SegmentFault)) (old new : RowWriter W)
       → MergesLists (WritesRow written) (StopsAtRow written health) lists r old new
       → UnlessRefused (health new.target.now ≡ Well) r → LeavesTarget r (health new.target.now)
   target_left lists (Ok done) old new merged well = well
@@ -101,7 +101,7 @@ module _ {W : Type 0} (written : W → Option (List ℕ)) (health : W → Health
   target_left lists (Err (stops.Sink (segments.Write fault))) old new merged well = merged.1.refused.1
 
   -- why a merge stops
-  of_devices : (lists : List (List ByteRow)) (rows : List ByteRow) → IsUnion lists rows → (stop : ObjectStop SegmentFault)
+  of_devices : (lists : List (List ByteRow)) (rows : List ByteRow) → IsUnion lists rows → (stop : ObjectFault SegmentFault)
       (old new : RowWriter W) → MergesLists (WritesRow written) {A = Unit {0}} (StopsAtRow written health) lists (Err stop) old new
       → IsOfDevices stop
   of_devices lists rows union stops.OutOfMemory old new merged = tt
@@ -111,7 +111,7 @@ module _ {W : Type 0} (written : W → Option (List ℕ)) (health : W → Health
   of_devices lists rows union (stops.Sink segments.NoSubRecord) old new merged = merged.1.refused
   of_devices lists rows union (stops.Sink (segments.Write fault)) old new merged = tt
 
-  pub stops_of_devices : (Told : List PartRead → Type 0) (r : Result (Unit {0}) (ObjectStop SegmentFault)) (old new : RowWriter W)
+  pub stops_of_devices : (Told : List PartRead → Type 0) (r : Result (Unit {0}) (ObjectFault SegmentFault)) (old new : RowWriter W)
       → ((reads : List PartRead) → Told reads → MergesLists (WritesRow written) (StopsAtRow written health) (objects_of reads) r old new)
       → IfErr r (λ stop. (reads : List PartRead) (rows : List ByteRow) → Told reads → IsUnion (objects_of reads) rows → IsOfDevices stop)
   stops_of_devices Told (Ok done) old new merged = tt
@@ -120,10 +120,10 @@ module _ {W : Type 0} (written : W → Option (List ℕ)) (health : W → Health
 
   -- what becomes of the target
   module _ (new : RowWriter W) (target : W) (becomes : target ≡ new.target.now) where
-    pub written_into : (r : Result (Unit {0}) (ObjectStop SegmentFault)) (start : Option (List ℕ)) (bytes : List ℕ)
+    pub written_into : (r : Result (Unit {0}) (ObjectFault SegmentFault)) (start : Option (List ℕ)) (bytes : List ℕ)
         → WritesOrStops start (written new.target.now) r bytes → WritesOrStops start (written target) r bytes
     written_into r start bytes writes = subst (λ (t : W). WritesOrStops start (written t) r bytes) (sym becomes) writes
 
-    pub left_in : (r : Result (Unit {0}) (ObjectStop SegmentFault)) → LeavesTarget r (health new.target.now)
+    pub left_in : (r : Result (Unit {0}) (ObjectFault SegmentFault)) → LeavesTarget r (health new.target.now)
         → LeavesTarget r (health target)
     left_in r left = subst (λ (t : W). LeavesTarget r (health t)) (sym becomes) left

@@ -14,7 +14,7 @@ ghost use Rattle.hprof_stored101.specs.Dumping101.{body_with, own_bytes};
 use crate::byte_counter::ByteCounter;
 use hprof_devices::Source;
 use hprof_heap::Heap;
-use hprof_objects::{ObjectStop, StoredObjects};
+use hprof_objects::{ObjectFault, StoredObjects};
 use hprof_parts::Parts;
 use hprof_runs::Scratch;
 use hprof_segments::SegmentFault;
@@ -46,7 +46,7 @@ pub(crate) fn body_len<S: Scratch + Drop, R: Source + Drop, P: Parts<Reader = R>
     objects: &StoredObjects<S>,
     parts: &P,
     limits: Limits,
-) -> Result<u64, ObjectStop<SegmentFault>>
+) -> Result<u64, ObjectFault<SegmentFault>>
     ensures len { IfOk result (λ len. (reads : List PartRead)
         → AreToldAgain S.written S.health limits (P.bytes parts.now) reads objects.now
         → (rows : List ByteRow) × IsUnion (objects_of reads) rows × (len ≡ capped (length (body_with (heap_of heap.now) rows)))) }

@@ -16,7 +16,7 @@ use crate::row_writer::RowWriter;
 use hprof_devices::{Source, Target, WriteFault};
 use hprof_heap::Heap;
 use hprof_items::{Version, tag};
-use hprof_objects::{ObjectStop, StoredObjects};
+use hprof_objects::{ObjectFault, StoredObjects};
 use hprof_parts::Parts;
 use hprof_runs::Scratch;
 use hprof_segments::SegmentFault;
@@ -70,7 +70,7 @@ fn write_objects<S: Scratch + Drop, R: Source + Drop, P: Parts<Reader = R>, W: T
     parts: &P,
     limits: Limits,
     target: &mut W,
-) -> Result<(), ObjectStop<SegmentFault>>
+) -> Result<(), ObjectFault<SegmentFault>>
     requires { W.health target.old ≡ Well }
     ensures bytes { (reads : List PartRead) (rows : List ByteRow)
         → AreToldAgain S.written S.health limits (P.bytes parts.now) reads objects.now → IsUnion (objects_of reads) rows
@@ -103,7 +103,7 @@ pub(crate) fn write_stored101<S: Scratch + Drop, R: Source + Drop, P: Parts<Read
     limits: Limits,
     len: u32,
     target: &mut W,
-) -> Result<(), ObjectStop<SegmentFault>>
+) -> Result<(), ObjectFault<SegmentFault>>
     requires { W.health target.old ≡ Well }
     ensures dump { (reads : List PartRead) (rows : List ByteRow)
         → AreToldAgain S.written S.health limits (P.bytes parts.now) reads objects.now → IsUnion (objects_of reads) rows
@@ -116,7 +116,7 @@ pub(crate) fn write_stored101<S: Scratch + Drop, R: Source + Drop, P: Parts<Read
     ensures health { LeavesTarget result (W.health target.new) }
 {
     if let Err(fault) = write_front101(heap, len, target) {
-        return Err(ObjectStop::Sink(SegmentFault::Write(fault)));
+        return Err(ObjectFault::Sink(SegmentFault::Write(fault)));
     }
     write_objects(alloc, objects, parts, limits, target)
 }

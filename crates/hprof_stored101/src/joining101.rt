@@ -11,7 +11,7 @@ ghost use Rattle.hprof_stored101.specs.StoredMaking101.{stored_dump101_making};
 use crate::body_len::body_len;
 use crate::dumping101::write_stored101;
 use hprof_devices::{Source, Target};
-use hprof_engine::{NoSummaries, ProductRefusal, ToolFault};
+use hprof_engine::{HeapFault, NoSummaries, ToolFault};
 use hprof_objects::Keeping;
 use hprof_objects::laws::{conflicts_of_objects_come_last, objects_stand_behind};
 use hprof_parts::Parts;
@@ -82,7 +82,7 @@ pub fn join101_stored<
     };
     let longest = u64::from(u32::MAX);
     if len > longest {
-        return Err(ToolFault::Refused(ProductRefusal::DumpTooLong));
+        return Err(ToolFault::Refused(HeapFault::DumpTooLong));
     }
     match write_stored101(alloc, &heap, &objects, parts, limits, len as u32, target) {
         Ok(()) => Ok(()),

@@ -6,8 +6,8 @@ use Rattle.std.proofs.lemmas.List.{nil_from_length}
 use Rattle.hprof_values.specs.declared.reason.Reason.{Reason}
 use Rattle.hprof_values.specs.declared.reason.Reason.TheVariants.{Truncated}
 use Rattle.hprof_items.specs.declared.header.Header.{Header}
-use Rattle.hprof_values.specs.declared.stop.Stop.{Stop}
-use Rattle.hprof_values.specs.declared.stop.Stop.TheVariants.{Short, TooLong, Fault}
+use Rattle.hprof_values.specs.declared.parse_stop.ParseStop.{ParseStop}
+use Rattle.hprof_values.specs.declared.parse_stop.ParseStop.TheVariants.{Short, TooLong, Fault}
 use Rattle.hprof_items.specs.FactValue.{FactValue}
 use Rattle.hprof_values.proofs.Numbers.{same_parts}
 use Rattle.hprof_items.proofs.Steps.{whole_parts}
@@ -111,7 +111,8 @@ Splits-then longest bytes piece items others place to held rest splits are parts
 -- ---- one fault
 
 -- where a step is at fault it is not whole
-fault_stops : (offset : ℕ) (step : Result (Found × ℕ) Stop) (fault : PartFault) → fault_at offset step ≡ Some fault → is_ok step ≡ false
+fault_stops : (offset : ℕ) (step : Result (Found × ℕ) ParseStop) (fault : PartFault) → fault_at offset step ≡ Some fault
+    → is_ok step ≡ false
 fault_stops offset (Ok (found, n)) fault e = absurd cc
 fault_stops offset (Err stop) fault e = refl
 
@@ -174,11 +175,11 @@ refused_undone longest place rest never =
     ]
 
 -- what is at fault does not only lack bytes
-fault_is_long : (reason : Reason) (step : Result (Found × ℕ) Stop) → step ≡ Err (Fault reason) → step ≡ Err Short → ⊥
+fault_is_long : (reason : Reason) (step : Result (Found × ℕ) ParseStop) → step ≡ Err (Fault reason) → step ≡ Err Short → ⊥
 fault_is_long reason step e short = cc
 
 -- what is too long does not only lack bytes
-too_long_is_long : (step : Result (Found × ℕ) Stop) → step ≡ Err TooLong → step ≡ Err Short → ⊥
+too_long_is_long : (step : Result (Found × ℕ) ParseStop) → step ≡ Err TooLong → step ≡ Err Short → ⊥
 too_long_is_long step e short = cc
 
 -- an item at fault is a first fault, and settled

@@ -6,8 +6,8 @@ use Rattle.std.proofs.lemmas.List.Folds.{list_any-append}
 use Rattle.std.specs.List.{list_any}
 use Rattle.hprof_items.specs.declared.header.Header.{Header}
 use Rattle.hprof_items.specs.declared.head.Head.{Head}
-use Rattle.hprof_values.specs.declared.stop.Stop.{Stop}
-use Rattle.hprof_values.specs.declared.stop.Stop.TheVariants.{Short, TooLong, Fault}
+use Rattle.hprof_values.specs.declared.parse_stop.ParseStop.{ParseStop}
+use Rattle.hprof_values.specs.declared.parse_stop.ParseStop.TheVariants.{Short, TooLong, Fault}
 use Rattle.hprof_items.specs.FactValue.{FactValue}
 use Rattle.hprof_items.specs.Head.{kind_of}
 use Rattle.hprof_items.specs.Reading.{head_at}
@@ -37,7 +37,7 @@ kept_if : (test : Bool) (left : ℕ) (bytes : List ℕ)
 kept_if true left bytes = omega arith
 kept_if false left bytes = omega arith
 
-kept_behind : (step : Result (Head × ℕ) Stop) (bytes : List ℕ)
+kept_behind : (step : Result (Head × ℕ) ParseStop) (bytes : List ℕ)
     → passed_len (passing_by step (length bytes)) + length (cond (is_skipped_head step) [] bytes) ≡ length bytes
 kept_behind (Ok (head, n)) bytes = kept_if (is_skipped_kind (kind_of head.tag)) (9 + head.length - length bytes) bytes
 kept_behind (Err stop) bytes = omega arith

@@ -6,8 +6,8 @@ use Rattle.std.proofs.Math.Seq.{take-append-add}
 use Rattle.hprof_values.specs.declared.ids.IdSize.{IdSize}
 use Rattle.hprof_values.specs.declared.record_tag.RecordTag.{RecordTag}
 use Rattle.hprof_values.specs.declared.reason.Reason.{Reason}
-use Rattle.hprof_values.specs.declared.stop.Stop.{Stop}
-use Rattle.hprof_values.specs.declared.stop.Stop.TheVariants as stops
+use Rattle.hprof_values.specs.declared.parse_stop.ParseStop.{ParseStop}
+use Rattle.hprof_values.specs.declared.parse_stop.ParseStop.TheVariants as stops
 use Rattle.hprof_values.specs.Ids.{IsBytes}
 use Rattle.hprof_values.specs.RecordTag.{code_of_record, record_of_code}
 use Rattle.hprof_values.proofs.Numbers.{IsBytes-drop, IsBytes-take}
@@ -40,14 +40,14 @@ use Rattle.hprof_stream.proofs.Lengths.{length-header}
 -- ---- answers
 
 -- a header that was found
-header_step : (step : Result (Header × ℕ) Stop) (found : Found) (n : ℕ) → found_header step ≡ Ok (found, n)
+header_step : (step : Result (Header × ℕ) ParseStop) (found : Found) (n : ℕ) → found_header step ≡ Ok (found, n)
     → (header : Header) × (step ≡ Ok (header, n)) × (record { next = Between header; facts = [] } ≡ found)
 header_step (Ok (header, m)) found n e =
     let parts = whole_parts _ found m n e in (header, ap (λ (end : ℕ). Ok (header, end)) parts.1, parts.0)
 header_step (Err stop) found n e = absurd cc
 
 -- a head that was found
-head_step : (header : Header) (step : Result (Head × ℕ) Stop) (bytes : List ℕ) (found : Found) (n : ℕ)
+head_step : (header : Header) (step : Result (Head × ℕ) ParseStop) (bytes : List ℕ) (found : Found) (n : ℕ)
     → found_behind header step bytes ≡ Ok (found, n)
     → (head : Head) × (m : ℕ) × (step ≡ Ok (head, m)) × (found_record header (kind_of head.tag) head bytes ≡ Ok (found, n))
 head_step header (Ok (head, m)) bytes found n e = (head, m, refl, e)
@@ -64,12 +64,12 @@ abbrev pub behind_sub : Header → ℕ → FactValue → ℕ → Found
 behind_sub header room fact n = record { next = place_in header (room - n); facts = fact ∷ [] }
 
 -- a sub-record that was found
-pub sub_step : (header : Header) (room : ℕ) (read : Result (FactValue × ℕ) Stop) (found : Found) (n : ℕ)
+pub sub_step : (header : Header) (room : ℕ) (read : Result (FactValue × ℕ) ParseStop) (found : Found) (n : ℕ)
     → found_sub header room read ≡ Ok (found, n)
     → (fact : FactValue) × (read ≡ Ok (fact, n)) × (behind_sub header room fact n ≡ found)
 sub_step header room (Ok read) found n e =
     let same = whole_parts (behind_sub header room read.0 read.1) found read.1 n e in
-    let same_read : Result (FactValue × ℕ) Stop = Ok read in
+    let same_read : Result (FactValue × ℕ) ParseStop = Ok read in
     subst (λ (m : ℕ). (fact : FactValue) × (same_read ≡ Ok (fact, m)) × (behind_sub header room fact m ≡ found)) same.1
     (read.0, refl, same.0)
 sub_step header room (Err stop) found n e = absurd cc

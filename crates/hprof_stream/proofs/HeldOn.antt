@@ -7,8 +7,8 @@ use Rattle.std.proofs.lemmas.List.{length-append, take-append-le, drop-append-le
 use Rattle.std.proofs.Math.Seq.{drop-append-add}
 use Rattle.hprof_values.specs.Ids.{IsBytes}
 use Rattle.hprof_items.specs.declared.header.Header.{Header}
-use Rattle.hprof_values.specs.declared.stop.Stop.{Stop}
-use Rattle.hprof_values.specs.declared.stop.Stop.TheVariants.{Short}
+use Rattle.hprof_values.specs.declared.parse_stop.ParseStop.{ParseStop}
+use Rattle.hprof_values.specs.declared.parse_stop.ParseStop.TheVariants.{Short}
 use Rattle.hprof_items.specs.declared.walk.Walk.{Walk}
 use Rattle.hprof_items.specs.declared.walk.Walk.TheVariants.{Front}
 use Rattle.hprof_items.specs.FactValue.{FactValue}
@@ -212,7 +212,7 @@ module _ {S : Type 0} (begins : S → Header → S → Type 0) (steps : S → Fa
       → PassesOver mid front bytes to left rest)
       × (kept.passing ≡ None → (to ≡ mid) × (rest ≡ kept) × (left ≡ bytes))
 
-  abbrev skipped_to : Place → ℕ → Result (Found × ℕ) Stop
+  abbrev skipped_to : Place → ℕ → Result (Found × ℕ) ParseStop
   skipped_to place n = Ok (record { next = place; facts = [] }, n)
 
   skipped_room : (header : Option Header) (room : ℕ) → Stands (place_behind header room) items.Skipped → room ≤ longest_body

@@ -7,8 +7,8 @@ use Rattle.std.proofs.lemmas.List.{length-append, nil_from_length}
 use Rattle.hprof_values.specs.Ids.{IsBytes}
 use Rattle.hprof_values.specs.FieldGroups.{Bounds, with_more}
 use Rattle.hprof_values.specs.declared.ids.IdSize.{IdSize}
-use Rattle.hprof_values.specs.declared.stop.Stop.{Stop}
-use Rattle.hprof_values.specs.declared.stop.Stop.TheVariants as stops
+use Rattle.hprof_values.specs.declared.parse_stop.ParseStop.{ParseStop}
+use Rattle.hprof_values.specs.declared.parse_stop.ParseStop.TheVariants as stops
 use Rattle.hprof_items.specs.declared.header.Header.{Header}
 use Rattle.hprof_items.specs.declared.head.Head.{Head}
 use Rattle.hprof_items.specs.declared.walk.Walk.{Walk}
@@ -52,7 +52,7 @@ IsWalkOf-front longest Start bytes = tt
 IsWalkOf-front longest (Between header) bytes = tt
 IsWalkOf-front longest (Within header room) bytes = record { placed = omega arith; same = λ more. refl }
 
-no_end : (read : Result (FactValue × ℕ) Stop) (stop : Stop) → end_of_read read ≡ Err stop → read ≡ Err stop
+no_end : (read : Result (FactValue × ℕ) ParseStop) (stop : ParseStop) → end_of_read read ≡ Err stop → read ≡ Err stop
 no_end (Ok one) stop e = absurd cc
 no_end (Err other) stop e = cc
 
@@ -118,7 +118,7 @@ not_passing : (test : Bool) (bytes : List ℕ) (passing : Passing) → 0 < lengt
 not_passing true bytes passing some = absurd (omega (arith, some))
 not_passing false bytes passing some = refl
 
-none_by : (step : Result (Head × ℕ) Stop) (bytes : List ℕ) → 0 < length (cond (is_skipped_head step) [] bytes)
+none_by : (step : Result (Head × ℕ) ParseStop) (bytes : List ℕ) → 0 < length (cond (is_skipped_head step) [] bytes)
     → passing_by step (length bytes) ≡ None
 none_by (Ok (head, n)) bytes some = not_passing (is_skipped_kind (kind_of head.tag)) bytes (record {
   seen = length bytes;
@@ -138,7 +138,7 @@ held_unless : (test : Bool) (bytes : List ℕ) (passing : Passing) → cond test
 held_unless true bytes passing e = absurd cc
 held_unless false bytes passing e = refl
 
-held_by : (step : Result (Head × ℕ) Stop) (bytes : List ℕ) → passing_by step (length bytes) ≡ None
+held_by : (step : Result (Head × ℕ) ParseStop) (bytes : List ℕ) → passing_by step (length bytes) ≡ None
     → cond (is_skipped_head step) [] bytes ≡ bytes
 held_by (Ok (head, n)) bytes e = held_unless (is_skipped_kind (kind_of head.tag)) bytes (record {
   seen = length bytes;

@@ -21,8 +21,8 @@ use Rattle.hprof_items.specs.Spelling.{longest_body}
 use Rattle.hprof_items.specs.SubRecord.{sub_at, tag_of_dump}
 use Rattle.hprof_items.specs.SubReading.{bounds_within}
 use Rattle.hprof_items.proofs.Dumps.{tag_first, sub_found}
-use Rattle.hprof_values.specs.declared.stop.Stop.{Stop}
-use Rattle.hprof_values.specs.declared.stop.Stop.TheVariants as stops
+use Rattle.hprof_values.specs.declared.parse_stop.ParseStop.{ParseStop}
+use Rattle.hprof_values.specs.declared.parse_stop.ParseStop.TheVariants as stops
 use Rattle.hprof_stream.specs.ItemValue.{ItemValue}
 use Rattle.hprof_stream.specs.ItemValue as items
 use Rattle.hprof_stream.specs.Item.{Between}
@@ -96,7 +96,7 @@ sub_no_end ids room longest bytes fact n are e =
     tag_no_end (tag_of_dump fact) ∙ ap (λ (b : ℕ). b == 0x2c) (sym first)
 
 -- a record with a fact stands between records
-pub fact_place : (header : Header) (bytes : List ℕ) (step : Result (ItemValue × ℕ) Stop) → IfRead step IsFact
+pub fact_place : (header : Header) (bytes : List ℕ) (step : Result (ItemValue × ℕ) ParseStop) → IfRead step IsFact
     → false ≡ (slice_index bytes 0 == 0x2c)
     → IfRead step (IsOfPlace (Between header) bytes)
 fact_place header bytes (Ok (items.Header h, n)) is e = absurd is
@@ -108,7 +108,8 @@ fact_place header bytes (Ok (items.Sub fact, n)) is e = absurd is
 fact_place header bytes (Err stop) is e = tt
 
 -- so does one that is passed over
-pub skipped_place : (header : Header) (bytes : List ℕ) (step : Result (ItemValue × ℕ) Stop) → IfRead step (λ item. item ≡ items.Skipped)
+pub skipped_place : (header : Header) (bytes : List ℕ) (step : Result (ItemValue × ℕ) ParseStop)
+    → IfRead step (λ item. item ≡ items.Skipped)
     → false ≡ (slice_index bytes 0 == 0x2c) → IfRead step (IsOfPlace (Between header) bytes)
 skipped_place header bytes (Ok (item, n)) is e = subst (IsOfPlace (Between header) bytes) (sym is) (tt, e)
 skipped_place header bytes (Err stop) is e = tt

@@ -14,8 +14,8 @@ use Rattle.hprof_items.specs.declared.header.Header.{Header}
 use Rattle.hprof_items.specs.declared.head.Head.{Head}
 use Rattle.hprof_items.specs.declared.head.HeadKind.{HeadKind}
 use Rattle.hprof_items.specs.declared.head.HeadKind.TheVariants.{FactRecord, HeapDump, DumpEnd, Skipped}
-use Rattle.hprof_values.specs.declared.stop.Stop.{Stop}
-use Rattle.hprof_values.specs.declared.stop.Stop.TheVariants.{Short}
+use Rattle.hprof_values.specs.declared.parse_stop.ParseStop.{ParseStop}
+use Rattle.hprof_values.specs.declared.parse_stop.ParseStop.TheVariants.{Short}
 use Rattle.hprof_items.specs.FactValue.{FactValue}
 use Rattle.hprof_items.specs.Header.{header_bytes, IsMillis}
 use Rattle.hprof_items.specs.Head.{kind_of, head_bytes, record_bytes, is_dump_tag}
@@ -81,7 +81,7 @@ head_item : (longest : ℕ) (header : Header) (kind : HeadKind) (head : Head) (r
 unfolding item_at
 head_item longest header kind head rest right is =
     let bytes : List ℕ = head_bytes head.tag head.time head.length ++ rest in
-    ap (λ (s : Result (Head × ℕ) Stop). found_behind header s bytes) (head_again header.ids longest head rest right)
+    ap (λ (s : Result (Head × ℕ) ParseStop). found_behind header s bytes) (head_again header.ids longest head rest right)
     ∙ ap (λ (k : HeadKind). found_record header k head bytes) is
 
 -- a record of a fact is found
@@ -104,7 +104,7 @@ fact_item_again longest header known time fact rest fits is_time small short =
     let head : Head = record { tag = tag; time = time; length = len } in
     let right : IsRightHead ids longest head =
     fact_head_right ids longest known time len is_time (omega (arith, small)) (body_legal ids known fact fits) short in
-    let found : Result FactValue Reason → Result (Found × ℕ) Stop = λ read. found_fact header read (9 + len) in
+    let found : Result FactValue Reason → Result (Found × ℕ) ParseStop = λ read. found_fact header read (9 + len) in
     ap (item_at longest (Between header)) (append_assoc front body rest)
     ∙ head_item longest header FactRecord head (body ++ rest) right (kind_of_fact known)
     ∙ cond-false (ltb (length all) (9 + len)) (Err Short) (found (body_at ids tag (take len (drop 9 all))))

@@ -5,8 +5,8 @@ use Rattle.std.proofs.Math.Seq.{take-append_seam}
 use Rattle.std.proofs.lemmas.Bool.{cases_lt}
 use Rattle.std.proofs.lemmas.List.{length-append, take-append-drop, take-append-le, nil_from_length}
 use Rattle.hprof_items.specs.declared.header.Header.{Header}
-use Rattle.hprof_values.specs.declared.stop.Stop.{Stop}
-use Rattle.hprof_values.specs.declared.stop.Stop.TheVariants.{Short}
+use Rattle.hprof_values.specs.declared.parse_stop.ParseStop.{ParseStop}
+use Rattle.hprof_values.specs.declared.parse_stop.ParseStop.TheVariants.{Short}
 use Rattle.hprof_items.specs.FactValue.{FactValue}
 use Rattle.hprof_stream.specs.declared.limits.Limits.{Limits}
 use Rattle.hprof_stream.specs.declared.part_reader.PartReader.{PartReader}
@@ -20,7 +20,7 @@ use Rattle.hprof_stream.proofs.Faults.{item_once}
 use Rattle.hprof_stream.proofs.PieceRoom.{taken_is}
 
 -- what is short is not whole
-never_whole : (step : Result (Found × ℕ) Stop) (found : Found) (n : ℕ) → step ≡ Ok (found, n) → step ≡ Err Short → ⊥
+never_whole : (step : Result (Found × ℕ) ParseStop) (found : Found) (n : ℕ) → step ≡ Ok (found, n) → step ≡ Err Short → ⊥
 never_whole step found n whole short = cc
 
 -- an item is longer than bytes at its front that are not whole yet

@@ -1,8 +1,8 @@
 -- A settled fault stays, whatever follows.
 use Rattle.std.proofs.Common.{◌≡◌, ℕ, true, List, ◌++◌, length, Some, refl, sym, ap, ◌∙◌, append_assoc, Result, Ok, Err}
 use Rattle.hprof_values.specs.declared.reason.Reason.TheVariants.{Truncated}
-use Rattle.hprof_values.specs.declared.stop.Stop.{Stop}
-use Rattle.hprof_values.specs.declared.stop.Stop.TheVariants.{Short, TooLong, Fault}
+use Rattle.hprof_values.specs.declared.parse_stop.ParseStop.{ParseStop}
+use Rattle.hprof_values.specs.declared.parse_stop.ParseStop.TheVariants.{Short, TooLong, Fault}
 use Rattle.hprof_stream.specs.declared.part_fault.PartFault.{PartFault}
 use Rattle.hprof_stream.specs.declared.part_fault.PartFault.TheVariants.{Malformed}
 use Rattle.hprof_stream.specs.Part.{Stated, all_bytes}
@@ -18,7 +18,7 @@ Splits-more longest bytes extra items place rest is =
     record { each = is.each; parts = ap (λ (b : List ℕ). b ++ extra) is.parts ∙ append_assoc (all_bytes items) rest extra }
 
 -- a fault whose test failed for good fails again
-stays : (longest : ℕ) (place : Place) (rest extra : List ℕ) (offset : ℕ) (fault : PartFault) (step : Result (Found × ℕ) Stop)
+stays : (longest : ℕ) (place : Place) (rest extra : List ℕ) (offset : ℕ) (fault : PartFault) (step : Result (Found × ℕ) ParseStop)
     → item_at longest place rest ≡ step → fault_at offset step ≡ Some fault → is_settled fault ≡ true
     → (item_at longest place (rest ++ extra) ≡ step) × (item_at longest place (rest ++ extra) ≡ Err Short → ⊥)
 stays longest place rest extra offset fault (Ok (found, n)) is fails settled = absurd cc

@@ -8,8 +8,8 @@ use Rattle.hprof_values.specs.declared.reason.Reason.{Reason}
 use Rattle.hprof_values.specs.declared.reason.Reason.TheVariants.{BadLength}
 use Rattle.hprof_values.specs.declared.record_tag.RecordTag.{RecordTag}
 use Rattle.hprof_values.specs.declared.record_tag.RecordTag.TheVariants as tags
-use Rattle.hprof_values.specs.declared.stop.Stop.{Stop}
-use Rattle.hprof_values.specs.declared.stop.Stop.TheVariants as stops
+use Rattle.hprof_values.specs.declared.parse_stop.ParseStop.{ParseStop}
+use Rattle.hprof_values.specs.declared.parse_stop.ParseStop.TheVariants as stops
 use Rattle.hprof_values.specs.FieldGroups.{Bounds}
 use Rattle.hprof_values.specs.RecordTag.{record_of_code}
 use Rattle.hprof_items.specs.declared.header.Header.{Header}
@@ -36,12 +36,12 @@ use Rattle.hprof_stream.proofs.Tags.{fact_taken}
 -- ---- bytes behind what is judged
 
 -- a header whose text and size were judged
-timed_stays : (version : Version) (size : Option IdSize) (bytes more : List ℕ) (step : Result (Header × ℕ) Stop)
+timed_stays : (version : Version) (size : Option IdSize) (bytes more : List ℕ) (step : Result (Header × ℕ) ParseStop)
     → (Err stops.Short ≡ step → ⊥)
     → timed_header version size bytes ≡ step → timed_header version size (bytes ++ more) ≡ step
 timed_stays version None bytes more step never e = e
 timed_stays version (Some ids) bytes more step never e =
-    let made : ℕ → Result (Header × ℕ) Stop = λ millis. Ok (record { version = version; ids = ids; millis = millis }, 31) in
+    let made : ℕ → Result (Header × ℕ) ParseStop = λ millis. Ok (record { version = version; ids = ids; millis = millis }, 31) in
     let g = went_on (ltb (length bytes) 31) (Err stops.Short) (made (number 8 (drop 23 bytes))) step never e in
     let long : 31 ≤ length bytes = ltb-false (length bytes) 31 g.0 in
     cond-false (ltb (length (bytes ++ more)) 31) (Err stops.Short) (made (number 8 (drop 23 (bytes ++ more))))
@@ -49,7 +49,7 @@ timed_stays version (Some ids) bytes more step never e =
     ∙ ap made (number_more 8 23 bytes more long) ∙ g.1
 
 -- a header whose text was judged
-sized_stays : (text : Option Version) (bytes more : List ℕ) (step : Result (Header × ℕ) Stop) → (Err stops.Short ≡ step → ⊥)
+sized_stays : (text : Option Version) (bytes more : List ℕ) (step : Result (Header × ℕ) ParseStop) → (Err stops.Short ≡ step → ⊥)
     → sized_header text bytes ≡ step
     → sized_header text (bytes ++ more) ≡ step
 sized_stays None bytes more step never e = e
@@ -64,7 +64,7 @@ sized_stays (Some version) bytes more step never e =
     ∙ timed_stays version size bytes more step never g.1
 
 -- a header
-pub header_stays : (bytes more : List ℕ) (step : Result (Header × ℕ) Stop) → (Err stops.Short ≡ step → ⊥) → header_at bytes ≡ step
+pub header_stays : (bytes more : List ℕ) (step : Result (Header × ℕ) ParseStop) → (Err stops.Short ≡ step → ⊥) → header_at bytes ≡ step
     → header_at (bytes ++ more) ≡ step
 unfolding header_at
 header_stays bytes more step never e =
@@ -76,11 +76,11 @@ header_stays bytes more step never e =
     ∙ sized_stays (version_of (take 19 bytes)) bytes more step never g.1
 
 -- a head that is judged
-pub head_stays : (ids : IdSize) (longest : ℕ) (bytes more : List ℕ) (step : Result (Head × ℕ) Stop) → (Err stops.Short ≡ step → ⊥)
+pub head_stays : (ids : IdSize) (longest : ℕ) (bytes more : List ℕ) (step : Result (Head × ℕ) ParseStop) → (Err stops.Short ≡ step → ⊥)
     → head_at ids longest bytes ≡ step → head_at ids longest (bytes ++ more) ≡ step
 unfolding head_at
 head_stays ids longest bytes more step never e =
-    let judged : ℕ → ℕ → ℕ → Result (Head × ℕ) Stop = λ tag time len. judged_head ids longest
+    let judged : ℕ → ℕ → ℕ → Result (Head × ℕ) ParseStop = λ tag time len. judged_head ids longest
     (record { tag = tag; time = time; length = len }) in
     let all : List ℕ = bytes ++ more in
     let g = went_on (ltb (length bytes) 9) (Err stops.Short) (judged (slice_index bytes 0) (number 4 (drop 1 bytes))
@@ -94,13 +94,13 @@ head_stays ids longest bytes more step never e =
     ∙ g.1
 
 -- a record whose head was read
-pub record_stays : (header : Header) (kind : HeadKind) (head : Head) (bytes more : List ℕ) (step : Result (Found × ℕ) Stop)
+pub record_stays : (header : Header) (kind : HeadKind) (head : Head) (bytes more : List ℕ) (step : Result (Found × ℕ) ParseStop)
     → (Err stops.Short ≡ step → ⊥)
     → found_record header kind head bytes ≡ step → found_record header kind head (bytes ++ more) ≡ step
 record_stays header FactRecord head bytes more step never e =
     let all : List ℕ = bytes ++ more in
     let len : ℕ = head.length in
-    let found : List ℕ → Result (Found × ℕ) Stop = λ body. found_fact header (body_at header.ids head.tag body) (9 + len) in
+    let found : List ℕ → Result (Found × ℕ) ParseStop = λ body. found_fact header (body_at header.ids head.tag body) (9 + len) in
     let g = went_on (ltb (length bytes) (9 + len)) (Err stops.Short) (found (take len (drop 9 bytes))) step never e in
     let long : 9 + len ≤ length bytes = ltb-false (length bytes) (9 + len) g.0 in
     let body : take len (drop 9 all) ≡ take len (drop 9 bytes) =
@@ -113,37 +113,39 @@ record_stays header HeapDump head bytes more step never e = e
 record_stays header DumpEnd head bytes more step never e = e
 record_stays header Skipped head bytes more step never e =
     let len : ℕ = head.length in
-    let last : Result (Found × ℕ) Stop = Ok (record { next = Between header; facts = [] }, 9 + len) in
+    let last : Result (Found × ℕ) ParseStop = Ok (record { next = Between header; facts = [] }, 9 + len) in
     let g = went_on (ltb (length bytes) (9 + len)) (Err stops.Short) last step never e in
     let long : 9 + len ≤ length bytes = ltb-false (length bytes) (9 + len) g.0 in
     cond-false (ltb (length (bytes ++ more)) (9 + len)) (Err stops.Short) last (le-ltb _ _ (omega (arith, length-append bytes more))) ∙ g.1
 
 -- what stands behind a header
-behind_stays : (header : Header) (read : Result (Head × ℕ) Stop) (bytes more : List ℕ) (step : Result (Found × ℕ) Stop)
+behind_stays : (header : Header) (read : Result (Head × ℕ) ParseStop) (bytes more : List ℕ) (step : Result (Found × ℕ) ParseStop)
     → (Err stops.Short ≡ step → ⊥)
     → found_behind header read bytes ≡ step → found_behind header read (bytes ++ more) ≡ step
 behind_stays header (Ok (head, n)) bytes more step never e = record_stays header (kind_of head.tag) head bytes more step never e
 behind_stays header (Err stop) bytes more step never e = e
 
 -- a step behind a header, by what its head is
-head_cases : (longest : ℕ) (header : Header) (bytes more : List ℕ) (step : Result (Found × ℕ) Stop) (read : Result (Head × ℕ) Stop)
+head_cases : (longest : ℕ) (header : Header) (bytes more : List ℕ) (step : Result (Found × ℕ) ParseStop)
+    (read : Result (Head × ℕ) ParseStop)
     → (Err stops.Short ≡ step → ⊥)
     → head_at header.ids longest bytes ≡ read → found_behind header read bytes ≡ step
     → found_behind header (head_at header.ids longest (bytes ++ more)) (bytes ++ more) ≡ step
 head_cases longest header bytes more step (Ok (head, n)) never is e =
-    ap (λ (r : Result (Head × ℕ) Stop). found_behind header r (bytes ++ more))
+    ap (λ (r : Result (Head × ℕ) ParseStop). found_behind header r (bytes ++ more))
     (head_stays header.ids longest bytes more (Ok (head, n)) (λ q. cc) is)
     ∙ behind_stays header (Ok (head, n)) bytes more step never e
 head_cases longest header bytes more step (Err stops.Short) never is e = absurd (never e)
 head_cases longest header bytes more step (Err stops.TooLong) never is e =
-    ap (λ (r : Result (Head × ℕ) Stop). found_behind header r (bytes ++ more))
+    ap (λ (r : Result (Head × ℕ) ParseStop). found_behind header r (bytes ++ more))
     (head_stays header.ids longest bytes more (Err stops.TooLong) (λ q. cc) is) ∙ e
 head_cases longest header bytes more step (Err (stops.Fault reason)) never is e =
-    ap (λ (r : Result (Head × ℕ) Stop). found_behind header r (bytes ++ more))
+    ap (λ (r : Result (Head × ℕ) ParseStop). found_behind header r (bytes ++ more))
     (head_stays header.ids longest bytes more (Err (stops.Fault reason)) (λ q. cc) is) ∙ e
 
 -- what stands at the first byte, by what its header is
-start_cases : (bytes more : List ℕ) (step : Result (Found × ℕ) Stop) (read : Result (Header × ℕ) Stop) → (Err stops.Short ≡ step → ⊥)
+start_cases : (bytes more : List ℕ) (step : Result (Found × ℕ) ParseStop) (read : Result (Header × ℕ) ParseStop)
+    → (Err stops.Short ≡ step → ⊥)
     → header_at bytes ≡ read
     → found_header read ≡ step → found_header (header_at (bytes ++ more)) ≡ step
 start_cases bytes more step (Ok (header, n)) never is e = ap found_header (header_stays bytes more (Ok (header, n)) (λ q. cc) is) ∙ e
@@ -153,25 +155,25 @@ start_cases bytes more step (Err (stops.Fault reason)) never is e = ap found_hea
     (header_stays bytes more (Err (stops.Fault reason)) (λ q. cc) is) ∙ e
 
 -- a sub-record
-settled_stays : (header : Header) (room : ℕ) (r s : Result (FactValue × ℕ) Stop) (step : Result (Found × ℕ) Stop) → IsSettled r s
+settled_stays : (header : Header) (room : ℕ) (r s : Result (FactValue × ℕ) ParseStop) (step : Result (Found × ℕ) ParseStop) → IsSettled r s
     → (Err stops.Short ≡ step → ⊥)
     → found_sub header room r ≡ step → found_sub header room s ≡ step
 settled_stays header room r s step (inl short) never e = absurd (never (sym (ap (found_sub header room) short) ∙ e))
 settled_stays header room r s step (inr same) never e = ap (found_sub header room) same ∙ e
 
-pub sub_stays : (longest : ℕ) (header : Header) (room : ℕ) (bytes more : List ℕ) (step : Result (Found × ℕ) Stop)
+pub sub_stays : (longest : ℕ) (header : Header) (room : ℕ) (bytes more : List ℕ) (step : Result (Found × ℕ) ParseStop)
     → (Err stops.Short ≡ step → ⊥)
     → found_sub header room (sub_at header.ids (bounds_within room longest bytes) bytes) ≡ step
     → found_sub header room (sub_at header.ids (bounds_within room longest (bytes ++ more)) (bytes ++ more)) ≡ step
 sub_stays longest header room bytes more step never e =
     let bounds : ℕ → Bounds = λ there. record { room = room; longest = longest; there = there } in
-    let longer : ℕ → Result (FactValue × ℕ) Stop = λ there. sub_at header.ids (bounds there) (bytes ++ more) in
+    let longer : ℕ → Result (FactValue × ℕ) ParseStop = λ there. sub_at header.ids (bounds there) (bytes ++ more) in
     ap (λ (n : ℕ). found_sub header room (longer n)) (length-append bytes more)
     ∙ settled_stays header room (sub_at header.ids (bounds_within room longest bytes) bytes) (longer (length bytes + length more)) step
     (sub_more header.ids (bounds_within room longest bytes) bytes more (omega arith)) never e
 
 -- what is found stays, whatever follows, but that bytes are lacking
-pub item_settled : (longest : ℕ) (place : Place) (bytes more : List ℕ) (step : Result (Found × ℕ) Stop) → (Err stops.Short ≡ step → ⊥)
+pub item_settled : (longest : ℕ) (place : Place) (bytes more : List ℕ) (step : Result (Found × ℕ) ParseStop) → (Err stops.Short ≡ step → ⊥)
     → item_at longest place bytes ≡ step → item_at longest place (bytes ++ more) ≡ step
 unfolding item_at
 item_settled longest Start bytes more step never e = start_cases bytes more step (header_at bytes) never refl e
@@ -193,7 +195,7 @@ item_stays_long longest place bytes more e = item_settled longest place bytes mo
 -- ---- what each step tells
 
 -- what a step tells, by which step it is; a reason for a fault is always one that lasts
-abbrev Tells : {A : Type 0} → (A → Type 0) → Type 0 → Type 0 → Result (A × ℕ) Stop → Type 0
+abbrev Tells : {A : Type 0} → (A → Type 0) → Type 0 → Type 0 → Result (A × ℕ) ParseStop → Type 0
 Tells whole short long (Ok (value, n)) = whole value
 Tells whole short long (Err stops.Short) = short
 Tells whole short long (Err stops.TooLong) = long
@@ -229,8 +231,8 @@ header_short bytes e = subst (Tells (λ _. Unit {0}) (length bytes < 31) (Unit {
 judged_tells : (ids : IdSize) (longest : ℕ) (head : Head) (few : Type 0)
     → Tells (λ h. is_too_long longest h ≡ false) few (Unit {0}) (judged_head ids longest head)
 judged_tells ids longest head few =
-    let P : Result (Head × ℕ) Stop → Type 0 = Tells (λ h. is_too_long longest h ≡ false) few (Unit {0}) in
-    let last : Result (Head × ℕ) Stop = cond (is_too_long longest head) (Err stops.TooLong) (Ok (head, 9)) in
+    let P : Result (Head × ℕ) ParseStop → Type 0 = Tells (λ h. is_too_long longest h ≡ false) few (Unit {0}) in
+    let last : Result (Head × ℕ) ParseStop = cond (is_too_long longest head) (Err stops.TooLong) (Ok (head, 9)) in
     cond_both (is_legal ids head.tag head.length) last (Err (stops.Fault BadLength)) P
     (λ l. cond_both (is_too_long longest head) (Err stops.TooLong) (Ok (head, 9)) P (λ t. tt) (λ f. f))
     (λ l. refl)
@@ -266,7 +268,7 @@ body_tells ids (Some tags.StartThread) body = tt
 body_tells ids (Some tags.EndThread) body = tt
 
 -- what is found says as much; what is short has less than that many bytes
-abbrev FoundTells : ℕ → List ℕ → Result (Found × ℕ) Stop → Type 0
+abbrev FoundTells : ℕ → List ℕ → Result (Found × ℕ) ParseStop → Type 0
 FoundTells longest held step = Tells (λ _. Unit {0}) (length held < max 31 (9 + longest)) (Unit {0}) step
 
 fact_tells : (longest : ℕ) (header : Header) (read : Result FactValue Reason) (n : ℕ) (held : List ℕ) → Refuses read
@@ -290,11 +292,11 @@ record_tells longest header FactRecord head bytes fits =
 record_tells longest header HeapDump head bytes fits = tt
 record_tells longest header DumpEnd head bytes fits = tt
 record_tells longest header Skipped head bytes fits =
-    let last : Result (Found × ℕ) Stop = Ok (record { next = Between header; facts = [] }, 9 + head.length) in
+    let last : Result (Found × ℕ) ParseStop = Ok (record { next = Between header; facts = [] }, 9 + head.length) in
     cond_both (ltb (length bytes) (9 + head.length)) (Err stops.Short) last (FoundTells longest []) (λ t. omega arith) (λ f. tt)
 
 -- what stands behind a header
-behind_tells : (longest : ℕ) (header : Header) (read : Result (Head × ℕ) Stop) (bytes : List ℕ)
+behind_tells : (longest : ℕ) (header : Header) (read : Result (Head × ℕ) ParseStop) (bytes : List ℕ)
     → Tells (λ h. is_too_long longest h ≡ false) (length bytes < 9) (Unit {0}) read
     → FoundTells longest (cond (is_skipped_head read) [] bytes) (found_behind header read bytes)
 behind_tells longest header (Ok (head, n)) bytes told =
@@ -304,7 +306,7 @@ behind_tells longest header (Err stops.TooLong) bytes told = tt
 behind_tells longest header (Err (stops.Fault reason)) bytes told = told
 
 -- a sub-record
-sub_tells : (longest : ℕ) (header : Header) (room : ℕ) (bytes : List ℕ) (read : Result (FactValue × ℕ) Stop)
+sub_tells : (longest : ℕ) (header : Header) (room : ℕ) (bytes : List ℕ) (read : Result (FactValue × ℕ) ParseStop)
     → StopsIn (bounds_within room longest bytes) read
     → FoundTells longest bytes (found_sub header room read)
 sub_tells longest header room bytes (Ok read) told = tt
@@ -313,7 +315,8 @@ sub_tells longest header room bytes (Err stops.TooLong) told = tt
 sub_tells longest header room bytes (Err (stops.Fault reason)) told = told
 
 -- what stands at the first byte
-start_tells : (longest : ℕ) (read : Result (Header × ℕ) Stop) (bytes : List ℕ) → Tells (λ _. Unit {0}) (length bytes < 31) (Unit {0}) read
+start_tells : (longest : ℕ) (read : Result (Header × ℕ) ParseStop) (bytes : List ℕ)
+    → Tells (λ _. Unit {0}) (length bytes < 31) (Unit {0}) read
     → FoundTells longest bytes (found_header read)
 start_tells longest (Ok (header, n)) bytes told = tt
 start_tells longest (Err stops.Short) bytes told = omega arith

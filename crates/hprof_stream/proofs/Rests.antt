@@ -8,8 +8,8 @@ use Rattle.hprof_items.specs.declared.header.Header.{Header}
 use Rattle.hprof_items.specs.declared.head.Head.{Head}
 use Rattle.hprof_items.specs.declared.head.HeadKind.{HeadKind}
 use Rattle.hprof_items.specs.declared.head.HeadKind.TheVariants.{FactRecord, HeapDump, DumpEnd, Skipped}
-use Rattle.hprof_values.specs.declared.stop.Stop.{Stop}
-use Rattle.hprof_values.specs.declared.stop.Stop.TheVariants.{Short, TooLong, Fault}
+use Rattle.hprof_values.specs.declared.parse_stop.ParseStop.{ParseStop}
+use Rattle.hprof_values.specs.declared.parse_stop.ParseStop.TheVariants.{Short, TooLong, Fault}
 use Rattle.hprof_items.specs.Head.{kind_of}
 use Rattle.hprof_items.specs.Reading.{head_at}
 use Rattle.hprof_items.proofs.Heads.{head_found}
@@ -52,7 +52,7 @@ passing_if : (test : Bool) (one passing : Passing) → cond test (Some one) None
 passing_if true one passing e = (refl, cc)
 passing_if false one passing e = absurd cc
 
-passed_by : (longest : ℕ) (header : Header) (front : List ℕ) (passing : Passing) (step : Result (Head × ℕ) Stop)
+passed_by : (longest : ℕ) (header : Header) (front : List ℕ) (passing : Passing) (step : Result (Head × ℕ) ParseStop)
     → head_at header.ids longest front
     ≡ step → passing_by step (length front) ≡ Some passing
     → IsPassed longest (Between header) front passing
@@ -78,14 +78,14 @@ module _ (longest : ℕ) (place : Place) (front : List ℕ) (passing : Passing) 
     unfolding item_at
     passed_at =
         ap (λ (p : Place). item_at longest p (front ++ more)) is.between
-        ∙ ap (λ (r : Result (Head × ℕ) Stop). found_behind is.header r (front ++ more)) head_on
+        ∙ ap (λ (r : Result (Head × ℕ) ParseStop). found_behind is.header r (front ++ more)) head_on
         ∙ ap (λ (k : HeadKind). found_record is.header k is.head (front ++ more)) (skipped_kind (kind_of is.head.tag) is.kind)
 
     -- with its last byte it is whole
     pub passed_whole : 9 + is.head.length ≤ length (front ++ more) → item_at longest place (front ++ more)
         ≡ Ok (record { next = place; facts = [] }, 9 + is.head.length)
     passed_whole all =
-        let found : Place → Result (Found × ℕ) Stop = λ next. Ok (record { next = next; facts = [] }, 9 + is.head.length) in
+        let found : Place → Result (Found × ℕ) ParseStop = λ next. Ok (record { next = next; facts = [] }, 9 + is.head.length) in
         passed_at ∙ cond-false (ltb (length (front ++ more)) (9 + is.head.length)) (Err Short) (found (Between is.header)) (le-ltb _ _ all)
         ∙ ap found (sym is.between)
 
@@ -108,7 +108,7 @@ module _ (longest : ℕ) (place : Place) (front : List ℕ) (passing : Passing) 
     })
     passed_on =
         ap (λ (p : Place). passing_of longest p (front ++ more)) is.between
-        ∙ ap (λ (r : Result (Head × ℕ) Stop). passing_by r (length (front ++ more))) head_on
+        ∙ ap (λ (r : Result (Head × ℕ) ParseStop). passing_by r (length (front ++ more))) head_on
         ∙ cond-true (is_skipped_kind (kind_of is.head.tag))
         (Some (record { seen = length (front ++ more); left = 9 + is.head.length - length (front ++ more) })) None is.kind
 

@@ -9,8 +9,8 @@ use Rattle.hprof_items.specs.declared.head.HeadKind.{HeadKind}
 use Rattle.hprof_items.specs.declared.head.HeadKind.TheVariants.{FactRecord, HeapDump, DumpEnd, Skipped}
 use Rattle.hprof_values.specs.declared.reason.Reason.{Reason}
 use Rattle.hprof_values.specs.declared.reason.Reason.TheVariants.{Truncated}
-use Rattle.hprof_values.specs.declared.stop.Stop.{Stop}
-use Rattle.hprof_values.specs.declared.stop.Stop.TheVariants.{Short, TooLong, Fault}
+use Rattle.hprof_values.specs.declared.parse_stop.ParseStop.{ParseStop}
+use Rattle.hprof_values.specs.declared.parse_stop.ParseStop.TheVariants.{Short, TooLong, Fault}
 use Rattle.hprof_items.specs.FactValue.{FactValue}
 use Rattle.hprof_items.specs.Head.{kind_of}
 use Rattle.hprof_items.specs.SubReading.{bounds_within}
@@ -43,8 +43,8 @@ unfolding item_at
 same_or_long less longest Start bytes le = inl refl
 same_or_long less longest (Between header) bytes le =
     elim (head_same_or_long header.ids less longest bytes le) [
-      | inl same ↦ inl (ap (λ (s : Result (Head × ℕ) Stop). found_behind header s bytes) same)
-      | inr long ↦ inr (ap (λ (s : Result (Head × ℕ) Stop). found_behind header s bytes) long)
+      | inl same ↦ inl (ap (λ (s : Result (Head × ℕ) ParseStop). found_behind header s bytes) same)
+      | inr long ↦ inr (ap (λ (s : Result (Head × ℕ) ParseStop). found_behind header s bytes) long)
     ]
 same_or_long less longest (Within header room) bytes le =
     elim (sub_cut less (bounds_within room longest bytes) le header.ids bytes) [
@@ -64,7 +64,7 @@ none_is_one fact e = cc
 
 -- what states nothing states no fact
 states_none : (place : Place) (fact : FactValue) (next : Place) (m n : ℕ)
-    → ◌≡◌ {A = Result (Found × ℕ) Stop} (Ok (record { next = place; facts = [] }, m))
+    → ◌≡◌ {A = Result (Found × ℕ) ParseStop} (Ok (record { next = place; facts = [] }, m))
     (Ok (record { next = next; facts = fact ∷ [] }, n)) → ⊥
 states_none place fact next m n e =
     let same = whole_parts (record { next = place; facts = [] }) (record { next = next; facts = fact ∷ [] }) m n e in
@@ -85,12 +85,12 @@ record_within less header FactRecord head bytes fact next n kind taken e =
 record_within less header HeapDump head bytes fact next n kind taken e = absurd (states_none (place_in header head.length) fact next 9 n e)
 record_within less header DumpEnd head bytes fact next n kind taken e = absurd (states_none (Between header) fact next 9 n e)
 record_within less header Skipped head bytes fact next n kind taken e =
-    let last : Result (Found × ℕ) Stop = Ok (record { next = Between header; facts = [] }, 9 + head.length) in
+    let last : Result (Found × ℕ) ParseStop = Ok (record { next = Between header; facts = [] }, 9 + head.length) in
     let long = long_enough (length bytes) (9 + head.length) last (record { next = next; facts = fact ∷ [] }) n e in
     absurd (states_none (Between header) fact next (9 + head.length) n long.1)
 
 -- the same of what is found behind the header
-behind_within : (less : ℕ) (header : Header) (step : Result (Head × ℕ) Stop) (bytes : List ℕ) (fact : FactValue) (next : Place) (n : ℕ)
+behind_within : (less : ℕ) (header : Header) (step : Result (Head × ℕ) ParseStop) (bytes : List ℕ) (fact : FactValue) (next : Place) (n : ℕ)
     → head_at header.ids less bytes ≡ step
     → found_behind header step bytes ≡ Ok (record { next = next; facts = fact ∷ [] }, n) → n ≤ 9 + less
 behind_within less header (Ok (head, m)) bytes fact next n is e =
@@ -231,7 +231,8 @@ smaller_sound less longest bytes le sound =
     ]
 
 -- the offset of the fault of a test
-offset_at : (offset : ℕ) (step : Result (Found × ℕ) Stop) (fault : PartFault) → fault_at offset step ≡ Some fault → offset_of fault ≡ offset
+offset_at : (offset : ℕ) (step : Result (Found × ℕ) ParseStop) (fault : PartFault) → fault_at offset step ≡ Some fault
+    → offset_of fault ≡ offset
 offset_at offset (Ok (found, n)) fault e = absurd cc
 offset_at offset (Err Short) fault e = let same : Malformed offset Truncated ≡ fault = cc in ap offset_of (sym same)
 offset_at offset (Err TooLong) fault e = let same : ItemTooLong offset ≡ fault = cc in ap offset_of (sym same)

@@ -9,8 +9,8 @@ use Rattle.hprof_values.specs.declared.basic.Basic.TheVariants as basics
 use Rattle.hprof_values.specs.declared.entry.EntryKind.{EntryKind}
 use Rattle.hprof_values.specs.declared.entry.EntryKind.TheVariants as kinds
 use Rattle.hprof_values.specs.declared.reason.Reason.TheVariants.{PastEnd}
-use Rattle.hprof_values.specs.declared.stop.Stop.{Stop}
-use Rattle.hprof_values.specs.declared.stop.Stop.TheVariants.{Short, TooLong, Fault}
+use Rattle.hprof_values.specs.declared.parse_stop.ParseStop.{ParseStop}
+use Rattle.hprof_values.specs.declared.parse_stop.ParseStop.TheVariants.{Short, TooLong, Fault}
 use Rattle.hprof_values.specs.declared.sub_tag.SubTag.{SubTag}
 use Rattle.hprof_values.specs.declared.sub_tag.SubTag.TheVariants as tags
 use Rattle.hprof_values.specs.Basic.{basic_of_code, width_of_basic}
@@ -31,18 +31,18 @@ abbrev pub number : ℕ → List ℕ → ℕ
 number width bytes = slice_index (fields_in (width ∷ []) bytes) 0
 
 -- what an answer tells, by which it is
-abbrev pub Stops : {A : Type 0} → Type 0 → Result A Stop → Type 0
+abbrev pub Stops : {A : Type 0} → Type 0 → Result A ParseStop → Type 0
 Stops short (Ok x) = Unit {0}
 Stops short (Err Short) = short
 Stops short (Err TooLong) = Unit {0}
 Stops short (Err (Fault reason)) = is_lasting reason ≡ true
 
 -- more bytes are wanted where there are no more than the longest item has
-abbrev pub StopsIn : {A : Type 0} → Bounds → Result A Stop → Type 0
+abbrev pub StopsIn : {A : Type 0} → Bounds → Result A ParseStop → Type 0
 StopsIn bounds r = Stops (bounds.there ≤ bounds.longest) r
 
 -- two steps, one after the other
-then_stops : {A B : Type 0} (bounds : Bounds) (r : Result A Stop) (next : A → Result B Stop) → StopsIn bounds r
+then_stops : {A B : Type 0} (bounds : Bounds) (r : Result A ParseStop) (next : A → Result B ParseStop) → StopsIn bounds r
     → ((x : A) → StopsIn bounds (next x)) → StopsIn bounds (r >>= next)
 then_stops bounds (Ok x) next first later = later x
 then_stops bounds (Err Short) next first later = first
@@ -52,8 +52,8 @@ then_stops bounds (Err (Fault reason)) next first later = first
 -- the tests of a field
 field_stops : (bounds : Bounds) (end : ℕ) → StopsIn bounds (field_end bounds end)
 field_stops bounds end =
-    let P : Result ℕ Stop → Type 0 = StopsIn bounds in
-    let there : Result ℕ Stop = cond (ltb bounds.there end) (Err Short) (Ok end) in
+    let P : Result ℕ ParseStop → Type 0 = StopsIn bounds in
+    let there : Result ℕ ParseStop = cond (ltb bounds.there end) (Err Short) (Ok end) in
     cond_both (ltb bounds.room end) (Err (Fault PastEnd)) (cond (ltb bounds.longest end) (Err TooLong) there) P (λ past. refl)
     (λ within. cond_both (ltb bounds.longest end) (Err TooLong) there P (λ long. tt)
     (λ taken. cond_both (ltb bounds.there end) (Err Short) (Ok end) P
@@ -75,8 +75,8 @@ entry_stops : (ids : IdSize) (kind : EntryKind) (bounds : Bounds) (bytes : List 
     → StopsIn bounds (entry_end ids kind bounds bytes at)
 unfolding entry_end
 entry_stops ids kind bounds bytes at =
-    let typed : Result Basic Stop = judged_type (basic_of_code (slice_index bytes (at + lead_width ids kind))) in
-    let last : ℕ → Basic → Result ℕ Stop = λ front basic. reached bounds front (bits_width ids kind basic ∷ []) in
+    let typed : Result Basic ParseStop = judged_type (basic_of_code (slice_index bytes (at + lead_width ids kind))) in
+    let last : ℕ → Basic → Result ℕ ParseStop = λ front basic. reached bounds front (bits_width ids kind basic ∷ []) in
     then_stops bounds (reached bounds at (lead_width ids kind ∷ 1 ∷ [])) (λ (front : ℕ). typed >>= last front)
     (reached_stops bounds at (lead_width ids kind ∷ 1 ∷ []))
     (λ front. then_stops bounds typed (last front) (type_stops bounds (basic_of_code (slice_index bytes (at + lead_width ids kind))))
@@ -105,9 +105,9 @@ class_stops ids bounds bytes =
     let numbers : List ℕ = fields_in (class_widths ids) (drop 1 bytes) in
     let made : ℕ → ℕ → ℕ → FactValue =
     λ at s f. class_of numbers (list_in ids kinds.Constant bytes at) (list_in ids kinds.Static bytes s) (list_in ids kinds.Field bytes f) in
-    let last : ℕ → ℕ → ℕ → Result (FactValue × ℕ) Stop =
+    let last : ℕ → ℕ → ℕ → Result (FactValue × ℕ) ParseStop =
     λ at s f. list_end ids kinds.Field bounds bytes f >>= λ (end : ℕ). Ok (made at s f, end) in
-    let third : ℕ → ℕ → Result (FactValue × ℕ) Stop = λ at s. list_end ids kinds.Static bounds bytes s >>= λ (f : ℕ). last at s f in
+    let third : ℕ → ℕ → Result (FactValue × ℕ) ParseStop = λ at s. list_end ids kinds.Static bounds bytes s >>= λ (f : ℕ). last at s f in
     then_stops bounds (reached bounds 1 (class_widths ids))
     (λ (at : ℕ). list_end ids kinds.Constant bounds bytes at >>= λ (s : ℕ). third at s) (reached_stops bounds 1 (class_widths ids))
     (λ at. then_stops bounds (list_end ids kinds.Constant bounds bytes at) (λ (s : ℕ). third at s)
@@ -121,7 +121,8 @@ class_stops ids bounds bytes =
 root_stops : (ids : IdSize) (tag : SubTag) (bounds : Bounds) (bytes : List ℕ) → StopsIn bounds (root_at ids tag bounds bytes)
 unfolding root_at
 root_stops ids tag bounds bytes =
-    let answer : ℕ → Result (FactValue × ℕ) Stop = λ end. Ok (Rooted (root_of tag (fields_in (root_fields ids tag) (drop 1 bytes))), end) in
+    let answer : ℕ → Result (FactValue × ℕ) ParseStop = λ end.
+    Ok (Rooted (root_of tag (fields_in (root_fields ids tag) (drop 1 bytes))), end) in
     then_stops bounds (reached bounds 1 (root_fields ids tag)) answer (reached_stops bounds 1 (root_fields ids tag)) (λ end. tt)
 
 instance_stops : (ids : IdSize) (bounds : Bounds) (bytes : List ℕ) → StopsIn bounds (instance_at ids bounds bytes)
@@ -129,7 +130,7 @@ unfolding instance_at
 instance_stops ids bounds bytes =
     let numbers : List ℕ = fields_in (instance_widths ids) (drop 1 bytes) in
     let len : ℕ = slice_index numbers 3 in
-    let answer : ℕ → ℕ → Result (FactValue × ℕ) Stop =
+    let answer : ℕ → ℕ → Result (FactValue × ℕ) ParseStop =
     λ front end. Ok (Instance (slice_index numbers 0) (slice_index numbers 1) (slice_index numbers 2) (cut len front bytes), end) in
     then_stops bounds (reached bounds 1 (instance_widths ids)) (λ (front : ℕ). reached bounds front (len ∷ []) >>= answer front)
     (reached_stops bounds 1 (instance_widths ids))
@@ -140,7 +141,7 @@ unfolding obj_array_at
 obj_array_stops ids bounds bytes =
     let numbers : List ℕ = fields_in (obj_array_widths ids) (drop 1 bytes) in
     let len : ℕ = slice_index numbers 2 * width_of ids in
-    let answer : ℕ → ℕ → Result (FactValue × ℕ) Stop =
+    let answer : ℕ → ℕ → Result (FactValue × ℕ) ParseStop =
     λ front end. Ok (
       ObjArray (slice_index numbers 0) (slice_index numbers 1) (slice_index numbers 3) (ids_in ids (cut len front bytes)),
       end,
@@ -160,10 +161,10 @@ unfolding prim_array_at
 prim_array_stops ids bounds bytes =
     let numbers : List ℕ = fields_in (prim_array_widths ids) (drop 1 bytes) in
     let len : Basic → ℕ = λ elem. slice_index numbers 2 * width_of_basic ids elem in
-    let typed : Result Basic Stop = element_type (basic_of_code (slice_index numbers 3)) in
-    let answer : ℕ → Basic → ℕ → Result (FactValue × ℕ) Stop =
+    let typed : Result Basic ParseStop = element_type (basic_of_code (slice_index numbers 3)) in
+    let answer : ℕ → Basic → ℕ → Result (FactValue × ℕ) ParseStop =
     λ front elem end. Ok (PrimArray (slice_index numbers 0) (slice_index numbers 1) elem (cut (len elem) front bytes), end) in
-    let valued : ℕ → Basic → Result (FactValue × ℕ) Stop = λ front elem. reached bounds front (len elem ∷ []) >>= answer front elem in
+    let valued : ℕ → Basic → Result (FactValue × ℕ) ParseStop = λ front elem. reached bounds front (len elem ∷ []) >>= answer front elem in
     then_stops bounds (reached bounds 1 (prim_array_widths ids)) (λ (front : ℕ). typed >>= valued front)
     (reached_stops bounds 1 (prim_array_widths ids))
     (λ front. then_stops bounds typed (valued front) (element_stops bounds (basic_of_code (slice_index numbers 3)))

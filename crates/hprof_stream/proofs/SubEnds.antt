@@ -5,8 +5,8 @@ use Rattle.hprof_values.specs.declared.ids.IdSize.{IdSize}
 use Rattle.hprof_values.specs.declared.basic.Basic.{Basic}
 use Rattle.hprof_values.specs.declared.entry.EntryKind.{EntryKind}
 use Rattle.hprof_values.specs.declared.entry.EntryKind.TheVariants as kinds
-use Rattle.hprof_values.specs.declared.stop.Stop.{Stop}
-use Rattle.hprof_values.specs.declared.stop.Stop.TheVariants.{Short}
+use Rattle.hprof_values.specs.declared.parse_stop.ParseStop.{ParseStop}
+use Rattle.hprof_values.specs.declared.parse_stop.ParseStop.TheVariants.{Short}
 use Rattle.hprof_values.specs.declared.sub_tag.SubTag.{SubTag}
 use Rattle.hprof_values.specs.declared.sub_tag.SubTag.TheVariants as tags
 use Rattle.hprof_values.specs.Basic.{basic_of_code, width_of_basic}
@@ -28,10 +28,10 @@ use Rattle.hprof_stream.proofs.Stops.{number}
 -- ---- steps, and the lists of a class
 
 -- a fact that was read ends within the longest item
-abbrev Ends : Bounds → Result (FactValue × ℕ) Stop → Type 0
+abbrev Ends : Bounds → Result (FactValue × ℕ) ParseStop → Type 0
 Ends bounds r = (fact : FactValue) (n : ℕ) → r ≡ Ok (fact, n) → n ≤ bounds.longest
 
-then_ends : {A : Type 0} (bounds : Bounds) (r : Result A Stop) (next : A → Result (FactValue × ℕ) Stop)
+then_ends : {A : Type 0} (bounds : Bounds) (r : Result A ParseStop) (next : A → Result (FactValue × ℕ) ParseStop)
     → ((x : A) → r ≡ Ok x → Ends bounds (next x)) → Ends bounds (r >>= next)
 then_ends bounds r next h fact n e = let first = then_ok r next (fact, n) e in h first.0 first.1 fact n first.2
 
@@ -71,9 +71,9 @@ class_ends ids bounds bytes =
     let numbers : List ℕ = fields_in (class_widths ids) (drop 1 bytes) in
     let made : ℕ → ℕ → ℕ → FactValue =
     λ at s f. class_of numbers (list_in ids kinds.Constant bytes at) (list_in ids kinds.Static bytes s) (list_in ids kinds.Field bytes f) in
-    let last : ℕ → ℕ → ℕ → Result (FactValue × ℕ) Stop =
+    let last : ℕ → ℕ → ℕ → Result (FactValue × ℕ) ParseStop =
     λ at s f. list_end ids kinds.Field bounds bytes f >>= λ (end : ℕ). Ok (made at s f, end) in
-    let third : ℕ → ℕ → Result (FactValue × ℕ) Stop = λ at s. list_end ids kinds.Static bounds bytes s >>= λ (f : ℕ). last at s f in
+    let third : ℕ → ℕ → Result (FactValue × ℕ) ParseStop = λ at s. list_end ids kinds.Static bounds bytes s >>= λ (f : ℕ). last at s f in
     then_ends bounds (reached bounds 1 (class_widths ids))
     (λ (at : ℕ). list_end ids kinds.Constant bounds bytes at >>= λ (s : ℕ). third at s)
     (λ at was. then_ends bounds (list_end ids kinds.Constant bounds bytes at) (λ (s : ℕ). third at s)
@@ -85,7 +85,7 @@ class_ends ids bounds bytes =
 raw_ends : (bounds : Bounds) (widths : List ℕ) (len : ℕ) (made : ℕ → FactValue)
     → Ends bounds (reached bounds 1 widths >>= λ (front : ℕ). reached bounds front (len ∷ []) >>= λ (end : ℕ). Ok (made front, end))
 raw_ends bounds widths len made =
-    let answer : ℕ → ℕ → Result (FactValue × ℕ) Stop = λ front end. Ok (made front, end) in
+    let answer : ℕ → ℕ → Result (FactValue × ℕ) ParseStop = λ front end. Ok (made front, end) in
     then_ends bounds (reached bounds 1 widths) (λ (front : ℕ). reached bounds front (len ∷ []) >>= answer front)
     (λ front was. then_ends bounds (reached bounds front (len ∷ [])) (answer front)
     (λ end passed. last_ends bounds (made front) end (field_ends bounds front len end passed)))
@@ -96,7 +96,7 @@ unfolding root_at
 root_ends ids tag bounds bytes some =
     let widths : List ℕ = root_fields ids tag in
     let made : FactValue = Rooted (root_of tag (fields_in widths (drop 1 bytes))) in
-    let answer : ℕ → Result (FactValue × ℕ) Stop = λ end. Ok (made, end) in
+    let answer : ℕ → Result (FactValue × ℕ) ParseStop = λ end. Ok (made, end) in
     then_ends bounds (reached bounds 1 widths) answer
     (λ end passed. last_ends bounds made end (reached_ends bounds 1 widths end some passed))
 
@@ -122,11 +122,11 @@ prim_array_ends ids bounds bytes =
     let widths : List ℕ = prim_array_widths ids in
     let numbers : List ℕ = fields_in widths (drop 1 bytes) in
     let len : Basic → ℕ = λ elem. slice_index numbers 2 * width_of_basic ids elem in
-    let typed : Result Basic Stop = element_type (basic_of_code (slice_index numbers 3)) in
+    let typed : Result Basic ParseStop = element_type (basic_of_code (slice_index numbers 3)) in
     let made : ℕ → Basic → FactValue =
     λ front elem. PrimArray (slice_index numbers 0) (slice_index numbers 1) elem (cut (len elem) front bytes) in
-    let answer : ℕ → Basic → ℕ → Result (FactValue × ℕ) Stop = λ front elem end. Ok (made front elem, end) in
-    let valued : ℕ → Basic → Result (FactValue × ℕ) Stop = λ front elem. reached bounds front (len elem ∷ []) >>= answer front elem in
+    let answer : ℕ → Basic → ℕ → Result (FactValue × ℕ) ParseStop = λ front elem end. Ok (made front elem, end) in
+    let valued : ℕ → Basic → Result (FactValue × ℕ) ParseStop = λ front elem. reached bounds front (len elem ∷ []) >>= answer front elem in
     then_ends bounds (reached bounds 1 widths) (λ (front : ℕ). typed >>= valued front)
     (λ front was. then_ends bounds typed (valued front)
     (λ elem was. then_ends bounds (reached bounds front (len elem ∷ [])) (answer front elem)
@@ -149,8 +149,8 @@ pub sub_ends : (ids : IdSize) (bounds : Bounds) (bytes : List ℕ) (fact : FactV
     → n ≤ bounds.longest
 unfolding sub_at
 sub_ends ids bounds bytes =
-    let tag : Result SubTag Stop = judged_tag (tag_of_code (slice_index bytes 0)) in
-    let first : Result ℕ Stop = cond (bounds.there == 0) (Err Short) (reached bounds 0 (1 ∷ [])) in
+    let tag : Result SubTag ParseStop = judged_tag (tag_of_code (slice_index bytes 0)) in
+    let first : Result ℕ ParseStop = cond (bounds.there == 0) (Err Short) (reached bounds 0 (1 ∷ [])) in
     then_ends bounds first (λ (front : ℕ). tag >>= λ (t : SubTag). dump_at ids t bounds bytes)
     (λ front passed. then_ends bounds tag (λ (t : SubTag). dump_at ids t bounds bytes)
     (λ t was. dump_ends ids t bounds bytes (first_ends bounds (bounds.there == 0) front passed)))

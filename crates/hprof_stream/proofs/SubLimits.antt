@@ -8,8 +8,8 @@ use Rattle.hprof_values.specs.declared.basic.Basic.{Basic}
 use Rattle.hprof_values.specs.declared.entry.EntryKind.{EntryKind}
 use Rattle.hprof_values.specs.declared.entry.EntryKind.TheVariants as kinds
 use Rattle.hprof_values.specs.declared.reason.Reason.TheVariants.{PastEnd}
-use Rattle.hprof_values.specs.declared.stop.Stop.{Stop}
-use Rattle.hprof_values.specs.declared.stop.Stop.TheVariants.{Short, TooLong, Fault}
+use Rattle.hprof_values.specs.declared.parse_stop.ParseStop.{ParseStop}
+use Rattle.hprof_values.specs.declared.parse_stop.ParseStop.TheVariants.{Short, TooLong, Fault}
 use Rattle.hprof_values.specs.declared.sub_tag.SubTag.{SubTag}
 use Rattle.hprof_values.specs.declared.sub_tag.SubTag.TheVariants as tags
 use Rattle.hprof_values.specs.Basic.{basic_of_code, width_of_basic}
@@ -28,22 +28,23 @@ use Rattle.hprof_stream.proofs.Stops.{number}
 -- ---- one test under two limits
 
 -- under the smaller limit the answer is the same, or that the item is too long
-abbrev IsCut : {A : Type 0} → Result A Stop → Result A Stop → Type 0
+abbrev IsCut : {A : Type 0} → Result A ParseStop → Result A ParseStop → Type 0
 IsCut r s = (r ≡ Err TooLong) ⊎ (r ≡ s)
 
-then_cut : {A B : Type 0} (r s : Result A Stop) (next later : A → Result B Stop) → IsCut r s → ((x : A) → IsCut (next x) (later x))
+then_cut : {A B : Type 0} (r s : Result A ParseStop) (next later : A → Result B ParseStop) → IsCut r s
+    → ((x : A) → IsCut (next x) (later x))
     → IsCut (r >>= next) (s >>= later)
-then_cut r s next later (inl long) h = inl (ap (λ (x : Result _ Stop). x >>= next) long)
+then_cut r s next later (inl long) h = inl (ap (λ (x : Result _ ParseStop). x >>= next) long)
 then_cut (Ok x) s next later (inr same) h =
-    elim (h x) [ inl long ↦ inl long | inr more ↦ inr (more ∙ ap (λ (y : Result _ Stop). y >>= later) same) ]
-then_cut (Err stop) s next later (inr same) h = inr (ap (λ (y : Result _ Stop). y >>= later) same)
+    elim (h x) [ inl long ↦ inl long | inr more ↦ inr (more ∙ ap (λ (y : Result _ ParseStop). y >>= later) same) ]
+then_cut (Err stop) s next later (inr same) h = inr (ap (λ (y : Result _ ParseStop). y >>= later) same)
 
 -- the bounds with another limit
 abbrev with_limit : Bounds → ℕ → Bounds
 with_limit bounds less = record { room = bounds.room; longest = less; there = bounds.there }
 
 -- the tests of a field
-tests_cut : (past less_long long : Bool) (there : Result ℕ Stop) → (less_long ≡ false → long ≡ false)
+tests_cut : (past less_long long : Bool) (there : Result ℕ ParseStop) → (less_long ≡ false → long ≡ false)
     → IsCut (cond past (Err (Fault PastEnd)) (cond less_long (Err TooLong) there))
     (cond past (Err (Fault PastEnd)) (cond long (Err TooLong) there))
 tests_cut true less_long long there h = inr refl
@@ -71,8 +72,8 @@ module _ (less : ℕ) (bounds : Bounds) (le : less ≤ bounds.longest) where
   entry_cut ids kind bytes at =
       let small : Bounds = with_limit bounds less in
       let lead : List ℕ = lead_width ids kind ∷ 1 ∷ [] in
-      let typed : Result Basic Stop = judged_type (basic_of_code (slice_index bytes (at + lead_width ids kind))) in
-      let last : Bounds → ℕ → Basic → Result ℕ Stop = λ limits front basic. reached limits front (bits_width ids kind basic ∷ []) in
+      let typed : Result Basic ParseStop = judged_type (basic_of_code (slice_index bytes (at + lead_width ids kind))) in
+      let last : Bounds → ℕ → Basic → Result ℕ ParseStop = λ limits front basic. reached limits front (bits_width ids kind basic ∷ []) in
       then_cut (reached small at lead) (reached bounds at lead) (λ (front : ℕ). typed >>= last small front)
       (λ (front : ℕ). typed >>= last bounds front) (reached_cut at lead)
       (λ front. then_cut typed typed (last small front) (last bounds front) (inr refl)
@@ -105,11 +106,11 @@ module _ (less : ℕ) (bounds : Bounds) (le : less ≤ bounds.longest) where
       let made : ℕ → ℕ → ℕ → FactValue =
       λ at s f. class_of numbers (list_in ids kinds.Constant bytes at) (list_in ids kinds.Static bytes s)
       (list_in ids kinds.Field bytes f) in
-      let last : Bounds → ℕ → ℕ → ℕ → Result (FactValue × ℕ) Stop =
+      let last : Bounds → ℕ → ℕ → ℕ → Result (FactValue × ℕ) ParseStop =
       λ limits at s f. list_end ids kinds.Field limits bytes f >>= λ (end : ℕ). Ok (made at s f, end) in
-      let third : Bounds → ℕ → ℕ → Result (FactValue × ℕ) Stop =
+      let third : Bounds → ℕ → ℕ → Result (FactValue × ℕ) ParseStop =
       λ limits at s. list_end ids kinds.Static limits bytes s >>= λ (f : ℕ). last limits at s f in
-      let second : Bounds → ℕ → Result (FactValue × ℕ) Stop =
+      let second : Bounds → ℕ → Result (FactValue × ℕ) ParseStop =
       λ limits at. list_end ids kinds.Constant limits bytes at >>= λ (s : ℕ). third limits at s in
       then_cut (reached small 1 (class_widths ids)) (reached bounds 1 (class_widths ids)) (second small) (second bounds)
       (reached_cut 1 (class_widths ids))
@@ -132,7 +133,7 @@ module _ (less : ℕ) (bounds : Bounds) (le : less ≤ bounds.longest) where
       (reached bounds 1 widths >>= λ (front : ℕ). reached bounds front (len ∷ []) >>= λ (end : ℕ). Ok (made front, end))
   raw_cut widths len made =
       let small : Bounds = with_limit bounds less in
-      let answer : ℕ → ℕ → Result (FactValue × ℕ) Stop = λ front end. Ok (made front, end) in
+      let answer : ℕ → ℕ → Result (FactValue × ℕ) ParseStop = λ front end. Ok (made front, end) in
       then_cut (reached small 1 widths) (reached bounds 1 widths) (λ (front : ℕ). reached small front (len ∷ []) >>= answer front)
       (λ (front : ℕ). reached bounds front (len ∷ []) >>= answer front)
       (reached_cut 1 widths)
@@ -144,7 +145,7 @@ module _ (less : ℕ) (bounds : Bounds) (le : less ≤ bounds.longest) where
   unfolding root_at
   root_cut ids tag bytes =
       let widths : List ℕ = root_fields ids tag in
-      let answer : ℕ → Result (FactValue × ℕ) Stop = λ end. Ok (Rooted (root_of tag (fields_in widths (drop 1 bytes))), end) in
+      let answer : ℕ → Result (FactValue × ℕ) ParseStop = λ end. Ok (Rooted (root_of tag (fields_in widths (drop 1 bytes))), end) in
       then_cut (reached (with_limit bounds less) 1 widths) (reached bounds 1 widths) answer answer (reached_cut 1 widths) (λ end. inr refl)
 
   instance_cut : (ids : IdSize) (bytes : List ℕ) → IsCut (instance_at ids (with_limit bounds less) bytes) (instance_at ids bounds bytes)
@@ -171,10 +172,10 @@ module _ (less : ℕ) (bounds : Bounds) (le : less ≤ bounds.longest) where
       let widths : List ℕ = prim_array_widths ids in
       let numbers : List ℕ = fields_in widths (drop 1 bytes) in
       let len : Basic → ℕ = λ elem. slice_index numbers 2 * width_of_basic ids elem in
-      let typed : Result Basic Stop = element_type (basic_of_code (slice_index numbers 3)) in
-      let answer : ℕ → Basic → ℕ → Result (FactValue × ℕ) Stop =
+      let typed : Result Basic ParseStop = element_type (basic_of_code (slice_index numbers 3)) in
+      let answer : ℕ → Basic → ℕ → Result (FactValue × ℕ) ParseStop =
       λ front elem end. Ok (PrimArray (slice_index numbers 0) (slice_index numbers 1) elem (cut (len elem) front bytes), end) in
-      let valued : Bounds → ℕ → Basic → Result (FactValue × ℕ) Stop =
+      let valued : Bounds → ℕ → Basic → Result (FactValue × ℕ) ParseStop =
       λ limits front elem. reached limits front (len elem ∷ []) >>= answer front elem in
       then_cut (reached small 1 widths) (reached bounds 1 widths) (λ (front : ℕ). typed >>= valued small front)
       (λ (front : ℕ). typed >>= valued bounds front) (reached_cut 1 widths)
@@ -201,8 +202,8 @@ module _ (less : ℕ) (bounds : Bounds) (le : less ≤ bounds.longest) where
   unfolding sub_at
   sub_cut ids bytes =
       let small : Bounds = with_limit bounds less in
-      let tag : Result SubTag Stop = judged_tag (tag_of_code (slice_index bytes 0)) in
-      let behind : Bounds → Result (FactValue × ℕ) Stop = λ limits. tag >>= λ (t : SubTag). dump_at ids t limits bytes in
+      let tag : Result SubTag ParseStop = judged_tag (tag_of_code (slice_index bytes 0)) in
+      let behind : Bounds → Result (FactValue × ℕ) ParseStop = λ limits. tag >>= λ (t : SubTag). dump_at ids t limits bytes in
       then_cut (cond (bounds.there == 0) (Err Short) (reached small 0 (1 ∷ [])))
       (cond (bounds.there == 0) (Err Short) (reached bounds 0 (1 ∷ [])))
       (λ (front : ℕ). behind small) (λ (front : ℕ). behind bounds) (first_cut (bounds.there == 0))

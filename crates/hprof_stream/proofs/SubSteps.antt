@@ -1,7 +1,7 @@
 -- What was read of a sub-record.
 use Rattle.std.proofs.Common.{◌≡◌, ℕ, ◌≤◌, List, [], ◌∷◌, Some, Ok, Err, sym, ap, subst, ◌∙◌}
 use Rattle.hprof_values.specs.Ids.{IsBytes}
-use Rattle.hprof_values.specs.declared.stop.Stop.{Stop}
+use Rattle.hprof_values.specs.declared.parse_stop.ParseStop.{ParseStop}
 use Rattle.hprof_items.specs.declared.fact.Fact.{Fact}
 use Rattle.hprof_items.specs.declared.header.Header.{Header}
 use Rattle.hprof_items.specs.FactValue.{value_of}
@@ -37,7 +37,7 @@ sub_read from header bytes fact n are before some exact =
     }
 
 -- or what the reading stopped with is what the item at the front stops with
-pub sub_stopped : (from : Progress) (header : Header) (bytes : List ℕ) (stop : Stop) → from.header ≡ Some header → 1 ≤ from.room
+pub sub_stopped : (from : Progress) (header : Header) (bytes : List ℕ) (stop : ParseStop) → from.header ≡ Some header → 1 ≤ from.room
     → sub_at header.ids (bounds_within from.room from.limits.max_item bytes) bytes ≡ Err stop
     → item_at from.limits.max_item (place_of from) bytes ≡ found_sub header from.room (Err stop)
 unfolding item_at

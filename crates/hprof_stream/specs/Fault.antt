@@ -4,8 +4,8 @@ use Rattle.std.specs.Prelude.{◌≡◌, ◌==◌, ◌&&◌, ℕ, Bool, true, fa
 use Rattle.hprof_items.specs.declared.header.Header.{Header}
 use Rattle.hprof_values.specs.declared.reason.Reason.{Reason}
 use Rattle.hprof_values.specs.declared.reason.Reason.TheVariants.{BadMagic, BadIdSize, Truncated, BadLength, BadSubTag, PastEnd, BadType}
-use Rattle.hprof_values.specs.declared.stop.Stop.{Stop}
-use Rattle.hprof_values.specs.declared.stop.Stop.TheVariants.{Short, TooLong, Fault}
+use Rattle.hprof_values.specs.declared.parse_stop.ParseStop.{ParseStop}
+use Rattle.hprof_values.specs.declared.parse_stop.ParseStop.TheVariants.{Short, TooLong, Fault}
 use Rattle.hprof_items.specs.FactValue.{FactValue}
 use Rattle.hprof_stream.specs.declared.part_fault.PartFault.{PartFault}
 use Rattle.hprof_stream.specs.declared.part_fault.PartFault.TheVariants.{Malformed, ItemTooLong}
@@ -18,7 +18,7 @@ pub record Splits (longest : ℕ) (bytes : List ℕ) (items : List Stated) (plac
   pub parts : bytes ≡ all_bytes items ++ rest
 
 -- the fault of an item at that offset, by the test that fails
-abbrev pub fault_at : ℕ → Result (Found × ℕ) Stop → Option PartFault
+abbrev pub fault_at : ℕ → Result (Found × ℕ) ParseStop → Option PartFault
 fault_at offset (Ok found) = None
 fault_at offset (Err Short) = Some (Malformed offset Truncated)
 fault_at offset (Err TooLong) = Some (ItemTooLong offset)

@@ -7,8 +7,8 @@ use Rattle.hprof_items.specs.declared.head.Head.{Head}
 use Rattle.hprof_items.specs.declared.head.HeadKind.{HeadKind}
 use Rattle.hprof_items.specs.declared.head.HeadKind.TheVariants.{FactRecord, HeapDump, DumpEnd, Skipped}
 use Rattle.hprof_values.specs.declared.reason.Reason.{Reason}
-use Rattle.hprof_values.specs.declared.stop.Stop.{Stop}
-use Rattle.hprof_values.specs.declared.stop.Stop.TheVariants as stops
+use Rattle.hprof_values.specs.declared.parse_stop.ParseStop.{ParseStop}
+use Rattle.hprof_values.specs.declared.parse_stop.ParseStop.TheVariants as stops
 use Rattle.hprof_values.specs.FieldGroups.{◌>>=◌}
 use Rattle.hprof_items.specs.FactValue.{FactValue}
 use Rattle.hprof_items.specs.Header.{header_bytes, IsMillis}
@@ -102,16 +102,16 @@ pub record Found : Type 0 where
   pub next : Place
   pub facts : List FactValue
 
-abbrev pub found_header : Result (Header × ℕ) Stop → Result (Found × ℕ) Stop
+abbrev pub found_header : Result (Header × ℕ) ParseStop → Result (Found × ℕ) ParseStop
 found_header read = read >>= λ (header, n). Ok (record { next = Between header; facts = [] }, n)
 
-abbrev pub found_fact : Header → Result FactValue Reason → ℕ → Result (Found × ℕ) Stop
+abbrev pub found_fact : Header → Result FactValue Reason → ℕ → Result (Found × ℕ) ParseStop
 found_fact header (Ok fact) n = Ok (record { next = Between header; facts = fact ∷ [] }, n)
 found_fact header (Err reason) n = Err (stops.Fault reason)
 
 -- a record whose head was read: the body of one with a fact is there, and right; that of one that is passed over is there;
 -- of a heap dump the head is all
-abbrev pub found_record : Header → HeadKind → Head → List ℕ → Result (Found × ℕ) Stop
+abbrev pub found_record : Header → HeadKind → Head → List ℕ → Result (Found × ℕ) ParseStop
 found_record header FactRecord head bytes =
     if nat_lt (length bytes) (9 + head.length) then Err stops.Short
     else found_fact header (body_at header.ids head.tag (take head.length (drop 9 bytes))) (9 + head.length)
@@ -120,15 +120,15 @@ found_record header DumpEnd head bytes = Ok (record { next = Between header; fac
 found_record header Skipped head bytes =
     if nat_lt (length bytes) (9 + head.length) then Err stops.Short else Ok (record { next = Between header; facts = [] }, 9 + head.length)
 
-abbrev pub found_behind : Header → Result (Head × ℕ) Stop → List ℕ → Result (Found × ℕ) Stop
+abbrev pub found_behind : Header → Result (Head × ℕ) ParseStop → List ℕ → Result (Found × ℕ) ParseStop
 found_behind header read bytes = read >>= λ (head, n). found_record header (kind_of head.tag) head bytes
 
 -- a sub-record
-abbrev pub found_sub : Header → ℕ → Result (FactValue × ℕ) Stop → Result (Found × ℕ) Stop
+abbrev pub found_sub : Header → ℕ → Result (FactValue × ℕ) ParseStop → Result (Found × ℕ) ParseStop
 found_sub header room read = read >>= λ (fact, n). Ok (record { next = place_in header (room - n); facts = fact ∷ [] }, n)
 
 -- the item at the front, or the first of its tests that fails
-unfoldable pub item_at : ℕ → Place → List ℕ → Result (Found × ℕ) Stop
+unfoldable pub item_at : ℕ → Place → List ℕ → Result (Found × ℕ) ParseStop
 item_at longest Start bytes = found_header (header_at bytes)
 item_at longest (Between header) bytes = found_behind header (head_at header.ids longest bytes) bytes
 item_at longest (Within header room) bytes = found_sub header room (sub_at header.ids (bounds_within room longest bytes) bytes)
@@ -142,7 +142,7 @@ is_skipped_kind DumpEnd = false
 is_skipped_kind Skipped = true
 
 -- the head of a record that is passed over was read
-abbrev pub is_skipped_head : Result (Head × ℕ) Stop → Bool
+abbrev pub is_skipped_head : Result (Head × ℕ) ParseStop → Bool
 is_skipped_head (Ok (head, n)) = is_skipped_kind (kind_of head.tag)
 is_skipped_head (Err stop) = false
 

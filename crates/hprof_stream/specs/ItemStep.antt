@@ -1,7 +1,7 @@
 -- What the item that was read says of what stands at the front.
 use Rattle.std.specs.Prelude.{◌≡◌, ◌==◌, ℕ, ◌-◌, Bool, true, false, List, [], ◌∷◌, slice_index, Option, Some, ⊤, Result, Ok, Err}
 use Rattle.hprof_items.specs.declared.header.Header.{Header}
-use Rattle.hprof_values.specs.declared.stop.Stop.{Stop}
+use Rattle.hprof_values.specs.declared.parse_stop.ParseStop.{ParseStop}
 use Rattle.hprof_values.specs.FieldGroups.{◌>>=◌}
 use Rattle.hprof_items.specs.FactValue.{FactValue, value_of, ListsHave}
 use Rattle.hprof_stream.specs.ItemValue.{ItemValue}
@@ -22,7 +22,7 @@ place_after (Within header room) item n = place_in header (room - n)
 place_after place item n = place
 
 -- what was read is what was found
-abbrev pub IsFound : Place → Result (ItemValue × ℕ) Stop → Result (Found × ℕ) Stop → Type 0
+abbrev pub IsFound : Place → Result (ItemValue × ℕ) ParseStop → Result (Found × ℕ) ParseStop → Type 0
 IsFound place read found =
     found ≡ (read >>= λ (item, n). Ok (record { next = place_after place item n; facts = facts_stated item }, n))
 
@@ -42,7 +42,7 @@ is_end_item items.End = true
 is_end_item _ = false
 
 -- what holds of the item that was read
-abbrev pub IfRead : Result (ItemValue × ℕ) Stop → (ItemValue → Type 0) → Type 0
+abbrev pub IfRead : Result (ItemValue × ℕ) ParseStop → (ItemValue → Type 0) → Type 0
 IfRead (Ok (item, n)) holds = holds item
 IfRead (Err stop) holds = ⊤
 

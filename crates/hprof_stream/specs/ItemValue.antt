@@ -3,7 +3,7 @@ use Rattle.std.specs.Prelude.{ℕ, Result, Ok}
 use Rattle.hprof_items.specs.declared.header.Header as headers
 use Rattle.hprof_items.specs.declared.fact.Fact as facts
 use Rattle.hprof_items.specs.declared.fact.Fact.TheVariants as fact_forms
-use Rattle.hprof_values.specs.declared.stop.Stop.{Stop}
+use Rattle.hprof_values.specs.declared.parse_stop.ParseStop.{ParseStop}
 use Rattle.hprof_values.specs.FieldGroups.{◌>>=◌}
 use Rattle.hprof_stream.specs.declared.item.Item.{Item}
 use Rattle.hprof_stream.specs.declared.item.Item.TheVariants as kinds
@@ -35,5 +35,5 @@ abbrev pub bare : Item → ItemValue
 bare item = with_fact item (fact_forms.End 0)
 
 -- what was read, with the fact that was read beside it
-abbrev pub read_with : Result (Item × ℕ) Stop → facts.Fact → Result (ItemValue × ℕ) Stop
+abbrev pub read_with : Result (Item × ℕ) ParseStop → facts.Fact → Result (ItemValue × ℕ) ParseStop
 read_with read fact = read >>= λ (item, n). Ok (with_fact item fact, n)

@@ -9,7 +9,7 @@ use Rattle.hprof_devices.specs.declared.health.Health.{Health}
 use Rattle.hprof_devices.specs.declared.health.Health.TheVariants as healths
 use Rattle.hprof_values.specs.declared.ids.IdSize.{IdSize}
 use Rattle.hprof_values.specs.declared.reason.Reason.TheVariants.{Truncated}
-use Rattle.hprof_values.specs.declared.stop.Stop.TheVariants.{Short}
+use Rattle.hprof_values.specs.declared.parse_stop.ParseStop.TheVariants.{Short}
 use Rattle.hprof_items.specs.FactValue.{FactValue}
 use Rattle.hprof_stream.specs.declared.limits.Limits.{Limits}
 use Rattle.hprof_stream.specs.declared.part_fault.PartFault.{PartFault}

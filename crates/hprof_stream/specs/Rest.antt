@@ -4,8 +4,8 @@ use Rattle.std.specs.Prelude.{if◌then◌else◌, Result, Ok, Err}
 use Rattle.hprof_values.specs.declared.ids.IdSize.{IdSize}
 use Rattle.hprof_values.specs.Ids.{IsBytes}
 use Rattle.hprof_items.specs.declared.head.Head.{Head}
-use Rattle.hprof_values.specs.declared.stop.Stop.{Stop}
-use Rattle.hprof_values.specs.declared.stop.Stop.TheVariants.{Short}
+use Rattle.hprof_values.specs.declared.parse_stop.ParseStop.{ParseStop}
+use Rattle.hprof_values.specs.declared.parse_stop.ParseStop.TheVariants.{Short}
 use Rattle.hprof_items.specs.declared.walk.Walk.{Walk}
 use Rattle.hprof_items.specs.declared.walk.Walk.TheVariants.{Front, Entries}
 use Rattle.hprof_items.specs.Head.{kind_of}
@@ -21,7 +21,7 @@ use Rattle.hprof_stream.specs.Progress.{place_of, advanced}
 use Rattle.hprof_stream.specs.Item.{Place, Between, Within, is_skipped_kind, held_of, item_at}
 
 -- how much was seen of a record that is passed over, once its head is there
-abbrev pub passing_by : Result (Head × ℕ) Stop → ℕ → Option Passing
+abbrev pub passing_by : Result (Head × ℕ) ParseStop → ℕ → Option Passing
 passing_by (Ok (head, n)) seen = if is_skipped_kind (kind_of head.tag) then Some (record { seen = seen; left = 9 + head.length - seen })
     else None
 passing_by _ seen = None

@@ -16,7 +16,7 @@ use crate::part_fault::PartFault;
 use crate::progress::Progress;
 use crate::rest::{Passing, Rest, pass_over};
 use crate::sink::Sink;
-use hprof_items::{Fact, HEAD_LEN, HEADER_LEN, HeadKind, Stop, go_on, read_head};
+use hprof_items::{Fact, HEAD_LEN, HEADER_LEN, HeadKind, ParseStop, read_head, resume_sub_record};
 use hprof_values::BoundedBytes;
 
 /// Appends bytes to the held ones.
@@ -73,10 +73,10 @@ fn walks_short(progress: &Progress, rest: &mut Rest) -> bool
     ensures passing { rest.new.passing ≡ rest.old.passing }
     ensures walk { IsWalkOf progress.now.limits.max_item (place_of progress.now) rest.old.held.items rest.old.walk
         → IsWalkOf progress.now.limits.max_item (place_of progress.now) rest.old.held.items rest.new.walk
-        × (result ≡ true → item_at progress.now.limits.max_item (place_of progress.now) rest.old.held.items ≡ Err Stop.Short) }
+        × (result ≡ true → item_at progress.now.limits.max_item (place_of progress.now) rest.old.held.items ≡ Err ParseStop.Short) }
     ensures stands { (header : Header) → progress.now.header ≡ Some header → result ≡ true
         → StopsIn header.ids (bounds_within progress.now.room progress.now.limits.max_item rest.old.held.items) rest.old.held.items
-        rest.new.walk Stop.Short }
+        rest.new.walk ParseStop.Short }
     ensures held_whole { result ≡ true → passing_of progress.now.limits.max_item (place_of progress.now) rest.old.held.items ≡ None }
 {
     let Some(header) = progress.header else {
@@ -90,9 +90,9 @@ fn walks_short(progress: &Progress, rest: &mut Rest) -> bool
         room: progress.room as usize,
         longest: progress.limits.max_item as usize,
     };
-    let (walk, end) = go_on(&item, header.ids, rest.walk);
+    let (walk, end) = resume_sub_record(&item, header.ids, rest.walk);
     rest.walk = walk;
-    matches!(end, Err(Stop::Short))
+    matches!(end, Err(ParseStop::Short))
 }
 
 /// If the held bytes are the head of a record that is skipped, counts them instead of holding them.
@@ -102,7 +102,7 @@ fn count_passed(progress: &Progress, rest: &mut Rest)
     ensures len { rest_len rest.new ≤ rest_len rest.old }
     ensures shorter { length rest.new.held.items ≤ length rest.old.held.items }
     ensures room { vec_capacity rest.new.held ≡ vec_capacity rest.old.held }
-    ensures rest { item_at progress.now.limits.max_item (place_of progress.now) rest.old.held.items ≡ Err Stop.Short
+    ensures rest { item_at progress.now.limits.max_item (place_of progress.now) rest.old.held.items ≡ Err ParseStop.Short
         → IsWalkOf progress.now.limits.max_item (place_of progress.now) rest.old.held.items rest.old.walk
         → rest.old.passing ≡ None
         → IsRest progress.now.limits.max_item (place_of progress.now) rest.old.held.items rest.new }
@@ -219,7 +219,8 @@ pub(crate) fn keep(progress: &Progress, rest: &mut Rest, left: &[u8]) -> Result<
     requires counted { IsCounted progress.now (rest_len rest.old + length left.now) }
     requires sound { IsSound rest.old }
     ensures ok { OnOk result ((still : List ℕ) → IsRest progress.now.limits.max_item (place_of progress.now) still rest.old
-        → item_at progress.now.limits.max_item (place_of progress.now) (still ++ left.now) ≡ Err Stop.Short → (still ≡ []) ⊎ (left.now ≡ [])
+        → item_at progress.now.limits.max_item (place_of progress.now) (still ++ left.now) ≡ Err ParseStop.Short
+        → (still ≡ []) ⊎ (left.now ≡ [])
         → IsRest progress.now.limits.max_item (place_of progress.now) (still ++ left.now) rest.new) }
     ensures err { OnErr result ((result ≡ Err PartFault.OutOfMemory) × (0 < length left.now)
         × ((still : List ℕ) → (still ≡ []) ⊎ (left.now ≡ [])

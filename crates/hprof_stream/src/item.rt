@@ -10,7 +10,7 @@ ghost use Rattle.hprof_stream.specs.ItemValue.{Skipped, read_with};
 ghost use Rattle.hprof_stream.specs.ItemStep.{IsFound, IfRead, IsOfPlace, ItemLists, IsFact};
 
 use hprof_items::{
-    Fact, HEAD_LEN, Head, HeadKind, Header, Stop, read_body_into, read_head, read_header,
+    Fact, HEAD_LEN, Head, HeadKind, Header, ParseStop, read_body_into, read_head, read_header,
 };
 
 /// The header or a record. Its fact is stored separately, so that no fact is moved from call to call.
@@ -30,7 +30,7 @@ pub(crate) enum Item {
 
 /// Returns the item at the first byte of a part.
 #[tactic(auto, unfolding(crate::specs::Item::item_at))]
-pub(crate) fn first_item(bytes: &[u8], longest: u32) -> Result<(Item, usize), Stop>
+pub(crate) fn first_item(bytes: &[u8], longest: u32) -> Result<(Item, usize), ParseStop>
     ensures found { (fact : Fact) → IsFound Start (read_with result fact) (item_at longest Start bytes.now) }
     ensures place { (fact : Fact) → IfRead (read_with result fact) (IsOfPlace Start bytes.now) }
     ensures lists { (fact : Fact) → IfRead (read_with result fact) (ItemLists None) }
@@ -45,7 +45,7 @@ fn fact_item<'a>(
     head: &Head,
     bytes: &'a [u8],
     fact: &mut Fact<'a>,
-) -> Result<(Item, usize), Stop>
+) -> Result<(Item, usize), ParseStop>
     requires whole { IsRightHead header.now.ids longest_body head.now }
     requires kind { kind_of head.now.tag ≡ HeadKind.FactRecord }
     ensures found { IsFound (Between header.now) (read_with result fact.new)
@@ -55,23 +55,23 @@ fn fact_item<'a>(
 {
     let len = HEAD_LEN + head.length as usize;
     if bytes.len() < len {
-        return Err(Stop::Short);
+        return Err(ParseStop::Short);
     }
     match read_body_into(head, &bytes[HEAD_LEN..len], header.ids, fact) {
         Ok(()) => Ok((Item::Fact, len)),
-        Err(reason) => Err(Stop::Fault(reason)),
+        Err(reason) => Err(ParseStop::Fault(reason)),
     }
 }
 
 /// Reads a record that is skipped. Its head was read.
-fn skipped_item(header: &Header, head: &Head, bytes: &[u8]) -> Result<(Item, usize), Stop>
+fn skipped_item(header: &Header, head: &Head, bytes: &[u8]) -> Result<(Item, usize), ParseStop>
     ensures found { (fact : Fact) → IsFound (Between header.now) (read_with result fact)
         (found_record header.now HeadKind.Skipped head.now bytes.now) }
     ensures skipped { (fact : Fact) → IfRead (read_with result fact) (λ item. item ≡ Skipped) }
 {
     let len = HEAD_LEN + head.length as usize;
     if bytes.len() < len {
-        return Err(Stop::Short);
+        return Err(ParseStop::Short);
     }
     Ok((Item::Skipped, len))
 }
@@ -83,7 +83,7 @@ pub(crate) fn record_item<'a>(
     bytes: &'a [u8],
     longest: u32,
     fact: &mut Fact<'a>,
-) -> Result<(Item, usize), Stop>
+) -> Result<(Item, usize), ParseStop>
     ensures found { IsFound (Between header.now) (read_with result fact.new) (item_at longest (Between header.now) bytes.now) }
     ensures place { IfRead (read_with result fact.new) (IsOfPlace (Between header.now) bytes.now) }
     ensures lists { IfRead (read_with result fact.new) (ItemLists (Some header.now)) }

@@ -13,7 +13,7 @@ use crate::item::{Item, first_item, record_item};
 use crate::limits::Limits;
 use crate::part_fault::PartFault;
 use crate::sink::{Sink, SinkFault};
-use hprof_items::{Fact, Header, IdSize, Stop, read_sub_into};
+use hprof_items::{Fact, Header, IdSize, ParseStop, read_sub_into};
 
 /// The progress of reading a part: the complete items from its start.
 #[derive(Clone, Copy)]
@@ -53,7 +53,7 @@ impl Progress {
     }
 
     /// Reads the header or the record at the front. Stores its fact in `fact`.
-    fn item<'a>(&self, bytes: &'a [u8], fact: &mut Fact<'a>) -> Result<(Item, usize), Stop>
+    fn item<'a>(&self, bytes: &'a [u8], fact: &mut Fact<'a>) -> Result<(Item, usize), ParseStop>
         requires { IsOutside self.now }
         ensures found { IsFound (place_of self.now) (read_with result fact.new)
             (item_at self.now.limits.max_item (place_of self.now) bytes.now) }
@@ -132,9 +132,9 @@ impl Progress {
                 self.room -= len as u32;
                 Ok(Some(len))
             }
-            Err(Stop::Short) => Ok(None),
-            Err(Stop::TooLong) => Err(PartFault::ItemTooLong { at }),
-            Err(Stop::Fault(reason)) => Err(PartFault::Malformed { at, reason }),
+            Err(ParseStop::Short) => Ok(None),
+            Err(ParseStop::TooLong) => Err(PartFault::ItemTooLong { at }),
+            Err(ParseStop::Fault(reason)) => Err(PartFault::Malformed { at, reason }),
         }
     }
 
@@ -164,9 +164,9 @@ impl Progress {
                 self.advance(&item, len);
                 Ok(Some(len))
             }
-            Err(Stop::Short) => Ok(None),
-            Err(Stop::TooLong) => Err(PartFault::ItemTooLong { at }),
-            Err(Stop::Fault(reason)) => Err(PartFault::Malformed { at, reason }),
+            Err(ParseStop::Short) => Ok(None),
+            Err(ParseStop::TooLong) => Err(PartFault::ItemTooLong { at }),
+            Err(ParseStop::Fault(reason)) => Err(PartFault::Malformed { at, reason }),
         }
     }
 

@@ -11,7 +11,7 @@ ghost use Rattle.hprof_suspects.specs.Grounds.{AreAlone, IsClassLabelled};
 use crate::alone::{alone_of, is_class_labelled};
 use hprof_by_label::NodeLabels;
 use hprof_heap::Heap;
-use hprof_passes::{Objects, PassStop};
+use hprof_passes::{Objects, PassFault};
 use hprof_reach::sort_once;
 use hprof_retained::Retained;
 use hprof_small::small_heap;
@@ -64,7 +64,7 @@ pub(crate) fn alone_over<O: Objects>(
     objects: &O,
     retained: &Retained,
     labels: &NodeLabels,
-) -> Result<Vec<bool>, PassStop<AllocError, O::Fault>>
+) -> Result<Vec<bool>, PassFault<AllocError, O::Fault>>
     requires { place_count labels.now ≡ count_of retained.now }
     ensures as_many { IfOk result (λ alone. length alone.items ≡ count_of retained.now) }
     ensures alone { Finds (O.make_up objects.now (size_of heap.now) (facts_of heap.now))
@@ -73,11 +73,11 @@ pub(crate) fn alone_over<O: Objects>(
 {
     let nodes = match class_nodes(alloc, retained, labels) {
         Ok(nodes) => nodes,
-        Err(fault) => return Err(PassStop::Sink(fault)),
+        Err(fault) => return Err(PassFault::Sink(fault)),
     };
     let small = small_heap(alloc, heap, objects, &nodes)?;
     match alone_of(alloc, &small, retained, labels) {
         Ok(alone) => Ok(alone),
-        Err(fault) => Err(PassStop::Sink(fault)),
+        Err(fault) => Err(PassFault::Sink(fault)),
     }
 }

@@ -4,7 +4,7 @@ ghost use Rattle.std.specs.Prelude.{List, All, IfOk};
 ghost use Rattle.hprof_items.specs.FactValue.{FactValue};
 ghost use Rattle.hprof_heap.specs.HeapFacts.{facts_of, size_of};
 ghost use Rattle.hprof_passes.specs.Finding.{Finds};
-ghost use Rattle.hprof_retained.specs.KeptReferences.{AreKeptReferences};
+ghost use Rattle.hprof_retained.specs.CachedReferences.{AreCachedReferences};
 ghost use Rattle.hprof_retained.specs.Retained.{IsSumOver};
 ghost use Rattle.hprof_retained.specs.Tree.{IsTreeOf};
 ghost use Rattle.hprof_retained.specs.Weakly.{IsWeaklyHeld};
@@ -18,8 +18,8 @@ use hprof_by_label::{NodeLabels, labels_over};
 use hprof_heap::Heap;
 use hprof_keeps::{WeakSum, sum_in};
 use hprof_naming::ClassNames;
-use hprof_passes::{Objects, PassStop};
-use hprof_retained::{KeptReferences, Retained, weakly_held_over};
+use hprof_passes::{Objects, PassFault};
+use hprof_retained::{CachedReferences, Retained, weakly_held_over};
 use hprof_weak::weak_fields_over;
 use std::alloc::{AllocError, Global};
 
@@ -46,7 +46,7 @@ fn weak_sum_over<O: Objects>(
     heap: &Heap,
     objects: &O,
     retained: &Retained,
-) -> Result<WeakSum, PassStop<AllocError, O::Fault>>
+) -> Result<WeakSum, PassFault<AllocError, O::Fault>>
     requires tree { (all : List FactValue) → O.make_up objects.now (size_of heap.now) (facts_of heap.now) all
         → IsTreeOf (size_of heap.now) all retained.now }
     ensures sum { Finds (O.make_up objects.now (size_of heap.now) (facts_of heap.now))
@@ -76,7 +76,7 @@ fn told_over<O: Objects>(
     heap: &Heap,
     objects: &O,
     retained: &Retained,
-) -> Result<LabelledTold, PassStop<AllocError, O::Fault>>
+) -> Result<LabelledTold, PassFault<AllocError, O::Fault>>
     requires { (all : List FactValue) → O.make_up objects.now (size_of heap.now) (facts_of heap.now) all
         → IsTreeOf (size_of heap.now) all retained.now }
     ensures fit { IfOk result (λ made. All (Fits retained.now) made.told.items) }
@@ -85,13 +85,13 @@ fn told_over<O: Objects>(
         (λ all made. AreTold (size_of heap.now) all retained.now made.labels made.told.items) result }
 {
     let Ok(names) = ClassNames::of(alloc, heap) else {
-        return Err(PassStop::Sink(AllocError));
+        return Err(PassFault::Sink(AllocError));
     };
     let labels = labels_over(alloc, heap, objects, &names, retained)?;
     let alone = alone_over(alloc, heap, objects, retained, &labels)?;
     match all_told(alloc, retained, &labels, &alone) {
         Ok(told) => Ok(LabelledTold { labels, told }),
-        Err(fault) => Err(PassStop::Sink(fault)),
+        Err(fault) => Err(PassFault::Sink(fault)),
     }
 }
 
@@ -105,15 +105,15 @@ pub(crate) fn found_out_over<O: Objects>(
     alloc: Global,
     heap: &Heap,
     objects: &O,
-    references: &mut KeptReferences,
-) -> Result<FoundOut, PassStop<AllocError, O::Fault>>
-    requires references { AreKeptReferences (O.make_up objects.now (size_of heap.now) (facts_of heap.now))
+    references: &mut CachedReferences,
+) -> Result<FoundOut, PassFault<AllocError, O::Fault>>
+    requires references { AreCachedReferences (O.make_up objects.now (size_of heap.now) (facts_of heap.now))
         (O.agree objects.now (size_of heap.now) (facts_of heap.now)) (size_of heap.now) references.old }
     ensures fit { IfOk result (λ found. All (Fits found.retained) found.told.items) }
     ensures found { Finds (O.make_up objects.now (size_of heap.now) (facts_of heap.now))
         (O.agree objects.now (size_of heap.now) (facts_of heap.now)) (O.tells objects.now (size_of heap.now) (facts_of heap.now))
         (λ all. AreFoundOut (size_of heap.now) all) result }
-    ensures references { AreKeptReferences (O.make_up objects.now (size_of heap.now) (facts_of heap.now))
+    ensures references { AreCachedReferences (O.make_up objects.now (size_of heap.now) (facts_of heap.now))
         (O.agree objects.now (size_of heap.now) (facts_of heap.now)) (size_of heap.now) references.new }
 {
     let retained = references.take_retained(alloc, heap, objects)?;

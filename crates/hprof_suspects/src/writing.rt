@@ -16,7 +16,7 @@ ghost use Rattle.hprof_suspects.specs.SuspectsText.{IsSuspectsText};
 use crate::report::suspects_text;
 use hprof_devices::Target;
 use hprof_edges::LeftOut;
-use hprof_engine::WriteStop;
+use hprof_engine::ProductFault;
 use hprof_heap::{Heap, holds_of_heap};
 use hprof_lines::write_line;
 use hprof_naming::ClassNames;
@@ -39,7 +39,7 @@ pub fn write_suspects<W: Target>(
     retained: &Retained,
     weakly: &mut Option<WeaklyHeld>,
     target: &mut W,
-) -> Result<(), WriteStop>
+) -> Result<(), ProductFault>
     requires classes { AreClassNames (facts_of heap.now) names.now }
     requires weak { (edge : Edge) → IsEdge (size_of heap.now) (facts_of heap.now) edge
         → IsLeftOut (fields_in weak.now) (facts_of heap.now) edge ↔ IsWeak (facts_of heap.now) edge }

@@ -8,7 +8,7 @@ ghost use Rattle.hprof_describe.specs.Findings.{AreFindings, Findings};
 ghost use Rattle.hprof_lines.specs.Passed.{EndsPassed};
 ghost use Rattle.hprof_lines.specs.Stopping.{LeavesTarget, WritesText};
 ghost use Rattle.hprof_passes.specs.Finding.{Finds};
-ghost use Rattle.hprof_retained.specs.KeptReferences.{AreKeptReferences};
+ghost use Rattle.hprof_retained.specs.CachedReferences.{AreCachedReferences};
 ghost use Rattle.hprof_suspects.specs.SuspectsText.{IsSuspectsText};
 ghost use Rattle.hprof_suspects.specs.Told.{Fits, report_text};
 ghost use Rattle.hprof_suspects.specs.ToldHeaps.{AreFoundOut, IsToldHeap, named_nodes};
@@ -17,12 +17,12 @@ use crate::found_out::{FoundOut, found_out_over};
 use crate::named::nodes_named;
 use crate::report::report_text;
 use hprof_devices::Target;
-use hprof_engine::WriteStop;
+use hprof_engine::ProductFault;
 use hprof_heap::Heap;
 use hprof_lines::{stop_of_pass, write_line};
 use hprof_naming::ClassNames;
-use hprof_passes::{Objects, PassStop};
-use hprof_retained::KeptReferences;
+use hprof_passes::{Objects, PassFault};
+use hprof_retained::CachedReferences;
 use hprof_words::words_heap;
 use std::alloc::{AllocError, Global};
 
@@ -36,7 +36,7 @@ fn told_heap<O: Objects>(
     heap: &Heap,
     objects: &O,
     found: &FoundOut,
-) -> Result<Heap, PassStop<AllocError, O::Fault>>
+) -> Result<Heap, PassFault<AllocError, O::Fault>>
     requires { All (Fits found.now.retained) found.now.told.items }
     ensures { Finds (O.make_up objects.now (size_of heap.now) (facts_of heap.now))
         (O.agree objects.now (size_of heap.now) (facts_of heap.now)) (O.tells objects.now (size_of heap.now) (facts_of heap.now))
@@ -44,7 +44,7 @@ fn told_heap<O: Objects>(
 {
     match nodes_named(alloc, &found.retained, &found.told) {
         Ok(nodes) => words_heap(alloc, heap, objects, nodes),
-        Err(fault) => Err(PassStop::Sink(fault)),
+        Err(fault) => Err(PassFault::Sink(fault)),
     }
 }
 
@@ -72,7 +72,7 @@ fn write_found<W: Target>(
     heap: &Heap,
     found: &FoundOut,
     target: &mut W,
-) -> Result<(), WriteStop>
+) -> Result<(), ProductFault>
     requires fit { All (Fits found.now.retained) found.now.told.items }
     requires well { W.health target.old ≡ Well }
     ensures bytes { (words : Findings) → AreFindings (size_of heap.now) (facts_of heap.now) words
@@ -95,7 +95,7 @@ fn write_from_found<O: Objects, W: Target>(
     objects: &O,
     found: &FoundOut,
     target: &mut W,
-) -> Result<(), PassStop<WriteStop, O::Fault>>
+) -> Result<(), PassFault<ProductFault, O::Fault>>
     requires agree { O.agree objects.now (size_of heap.now) (facts_of heap.now) }
     requires found { (all : List FactValue) → O.make_up objects.now (size_of heap.now) (facts_of heap.now) all
         → AreFoundOut (size_of heap.now) all found.now }
@@ -111,7 +111,7 @@ fn write_from_found<O: Objects, W: Target>(
     };
     match write_found(alloc, &small, found, target) {
         Ok(()) => Ok(()),
-        Err(stop) => Err(PassStop::Sink(stop)),
+        Err(stop) => Err(PassFault::Sink(stop)),
     }
 }
 
@@ -131,16 +131,16 @@ pub fn write_suspects_over<O: Objects, W: Target>(
     alloc: Global,
     heap: &Heap,
     objects: &O,
-    references: &mut KeptReferences,
+    references: &mut CachedReferences,
     target: &mut W,
-) -> Result<(), PassStop<WriteStop, O::Fault>>
-    requires references { AreKeptReferences (O.make_up objects.now (size_of heap.now) (facts_of heap.now))
+) -> Result<(), PassFault<ProductFault, O::Fault>>
+    requires references { AreCachedReferences (O.make_up objects.now (size_of heap.now) (facts_of heap.now))
         (O.agree objects.now (size_of heap.now) (facts_of heap.now)) (size_of heap.now) references.old }
     requires well { W.health target.old ≡ Well }
     ensures ends { EndsPassed (O.make_up objects.now (size_of heap.now) (facts_of heap.now))
         (O.agree objects.now (size_of heap.now) (facts_of heap.now)) (O.tells objects.now (size_of heap.now) (facts_of heap.now))
         (λ all. IsSuspectsText (size_of heap.now) all) W.written W.health target.old target.new result }
-    ensures references { AreKeptReferences (O.make_up objects.now (size_of heap.now) (facts_of heap.now))
+    ensures references { AreCachedReferences (O.make_up objects.now (size_of heap.now) (facts_of heap.now))
         (O.agree objects.now (size_of heap.now) (facts_of heap.now)) (size_of heap.now) references.new }
 {
     let found = match found_out_over(alloc, heap, objects, references) {

@@ -8,7 +8,7 @@ use std::collections::btree_map::Values;
 
 /// Returns the rows of the page with this number.
 #[inline(always)]
-fn rows_of_page<V>(pages: &[Page<V>], number: usize) -> &[(u64, V)]
+pub(crate) fn rows_of_page<V>(pages: &[Page<V>], number: usize) -> &[(u64, V)]
     ensures { result.now ≡ rows_in (slice_get pages.now number) }
 {
     match pages.get(number) {

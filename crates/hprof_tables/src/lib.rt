@@ -5,8 +5,8 @@
 #![tactic(auto)]
 
 mod content;
+mod cursor;
 mod entries;
-mod finger;
 mod hinted_map;
 mod merging;
 mod page;
@@ -18,8 +18,8 @@ mod sorted_table;
 mod visit;
 
 pub use content::Content;
+pub use cursor::Cursor;
 pub use entries::Entries;
-pub use finger::Finger;
 pub use hinted_map::HintedMap;
 pub use relation::{Relation, Stated};
 pub use rows::Rows;

@@ -119,6 +119,21 @@ impl<V: Content + Drop> Relation<V> {
         }
     }
 
+    /// Returns a table with the same rows. If memory runs out, the answer is `AllocError`.
+    pub fn copied(&self, alloc: Global) -> Result<Self, AllocError>
+    where
+        V: Copy,
+        ensures { IfOk result (λ table. rows_of table ≡ rows_of self.now) }
+    {
+        let rows = Vec::from_slice(alloc, &self.rows)?;
+        let places = self.places.copied(alloc)?;
+        Ok(Relation {
+            rows,
+            places,
+            alloc,
+        })
+    }
+
     /// States a row under a key. If the key is present, its row stays and nothing is allocated.
     pub fn state(&mut self, key: u64, row: V) -> Result<Stated, AllocError>
         ensures ok { IfOk result (λ stated. States V.content (rows_of self.old) key (V.content row) stated (rows_of self.new)) }

@@ -12,8 +12,8 @@ ghost use Rattle.hprof_tables.specs.Pages.{AreListed, AreListed-prop, ArePagesCu
 ghost use Rattle.hprof_tables.specs.SortedRows.{IsAscending, LeavesUnmade, row_at, Visits};
 ghost use Rattle.hprof_tables.specs.Union.{AreApart, AreUnion};
 
-use crate::entries::Entries;
-use crate::finger::Finger;
+use crate::cursor::Cursor;
+use crate::entries::{Entries, rows_of_page};
 use crate::merging::{merge_into, push_all};
 use crate::page::{Cut, Page};
 use crate::page_hints::PageHints;
@@ -206,9 +206,9 @@ impl<V> SortedTable<V> {
         self.pages[self.page_near(key, self.last)].get(key)
     }
 
-    /// Returns the row under a key, looking near the finger first, and moves the finger there.
+    /// Returns the row under a key, looking near the cursor first, and moves the cursor there.
     #[inline(always)]
-    pub fn get_near(&self, key: u64, near: &mut Finger) -> Option<&V>
+    pub fn get_near(&self, key: u64, near: &mut Cursor) -> Option<&V>
         ensures { option_copied result ≡ row_at key (entries_of self.now) }
     {
         if self.pages.is_empty() {
@@ -216,7 +216,7 @@ impl<V> SortedTable<V> {
         }
         let page = self.page_near(key, near.page);
         if page != near.page {
-            *near = Finger { page, place: 0 };
+            *near = Cursor { page, place: 0 };
         }
         self.pages[page].get_near(key, &mut near.place)
     }
@@ -437,6 +437,42 @@ impl<V> SortedTable<V> {
             alloc,
         };
         Ok(())
+    }
+
+    /// Returns copies of the rows, in order of key.
+    fn copied_rows(&self, alloc: Global) -> Result<Vec<(u64, V)>, AllocError>
+    where
+        V: Copy + Drop,
+        ensures { IfOk result (λ rows. rows.items ≡ entries_of self.now) }
+    {
+        let mut rows = Vec::new(alloc);
+        rows.reserve_exact(self.len)?;
+        for number in self.places.values() {
+            rows.extend_from_slice(rows_of_page(&self.pages, *number))?;
+        }
+        Ok(rows)
+    }
+
+    /// Returns a table with the same rows, which has a single page. If memory runs out, the answer is `AllocError`.
+    pub fn copied(&self, alloc: Global) -> Result<Self, AllocError>
+    where
+        V: Copy + Drop,
+        ensures { IfOk result (λ table. entries_of table ≡ entries_of self.now) }
+    {
+        let rows = self.copied_rows(alloc)?;
+        let mut pages = Vec::new(alloc);
+        pages.reserve_exact(1)?;
+        let mut places = BTreeMap::new(alloc);
+        places.insert(0, 0)?;
+        pages.push_reserved(Page::of(rows));
+        Ok(SortedTable {
+            pages,
+            places,
+            last: 0,
+            hints: PageHints::new(alloc),
+            len: self.len,
+            alloc,
+        })
     }
 
     /// Returns the number of rows.

@@ -12,8 +12,8 @@ use Rattle.hprof_stored.specs.StoredMaking.{stored_dump_making}
 use Rattle.hprof_stored.specs.Storing.{HaveObject}
 use Rattle.hprof_diff.specs.Comparing.{IsOfCounting}
 use Rattle.hprof_questions.specs.declared.question.Question.{Question}
-use Rattle.hprof_questions.specs.declared.stop.DialogueStop.{DialogueStop}
-use Rattle.hprof_questions.specs.declared.stop.DialogueStop.TheVariants as stops
+use Rattle.hprof_questions.specs.declared.dialogue_fault.DialogueFault.{DialogueFault}
+use Rattle.hprof_questions.specs.declared.dialogue_fault.DialogueFault.TheVariants as stops
 use Rattle.hprof_questions.specs.Dialogue.{AnswersBefore, AnswersDialogue, AnswersLines, AnswersSome, AreOpenLines, Came, EndsDialogue}
 use Rattle.hprof_questions.specs.Dialogue.{IsOver}
 use Rattle.hprof_questions.specs.Lines.{AreLines}
@@ -63,7 +63,7 @@ module _ {R Q W : Type 0} (left : R → Option (List ℕ)) (health : R → Healt
   abbrev Stored : Option AskFault → Type 0
   Stored ended = AsksStored left health pulls asked how turns written well usual_limits readers new was is before after ended
 
-  abbrev IsAnswered : Result (Unit {0}) DialogueStop → Type 0
+  abbrev IsAnswered : Result (Unit {0}) DialogueFault → Type 0
   IsAnswered result = (parts : List (List ℕ)) → Tell left readers parts
       → OverTold parts (λ IsAnswer. AnswersDialogue IsAnswer asked how turns written well was is before after result)
 
@@ -79,12 +79,12 @@ module _ {R Q W : Type 0} (left : R → Option (List ℕ)) (health : R → Healt
   }
 
   kept_answers : (ended : Option AskFault) → Kept ended → OfDialogue ended IsAnswered
-  kept_answers None a = over_told _ (a.ok refl).0
-  kept_answers (Some (faults.Parts fault)) a = tt
-  kept_answers (Some (faults.Dialogue (stops.Questions fault))) a = over_told _ (a.questions fault refl).0
-  kept_answers (Some (faults.Dialogue (stops.Write fault))) a = over_told _ (a.write fault refl).0
-  kept_answers (Some (faults.Dialogue stops.OutOfMemory)) a = over_told _ (a.memory refl).0
-  kept_answers (Some (faults.Dialogue (stops.Lost loss))) a = absurd (a.lost loss refl)
+  cached_answers None a = over_told _ (a.ok refl).0
+  cached_answers (Some (faults.Parts fault)) a = tt
+  cached_answers (Some (faults.Dialogue (stops.Questions fault))) a = over_told _ (a.questions fault refl).0
+  cached_answers (Some (faults.Dialogue (stops.Write fault))) a = over_told _ (a.write fault refl).0
+  cached_answers (Some (faults.Dialogue stops.OutOfMemory)) a = over_told _ (a.memory refl).0
+  cached_answers (Some (faults.Dialogue (stops.Lost loss))) a = absurd (a.lost loss refl)
 
   -- a fault of reading is one of counting, and so is want of memory
   counting : (fault : ToolFault) → IsOfReading (Some fault) → IsOfCounting (Some fault)
@@ -121,7 +121,7 @@ module _ {R Q W : Type 0} (left : R → Option (List ℕ)) (health : R → Healt
     refused = a.refused;
     kind = kept_kind ended a;
     changed = λ loss lost parts told change. kept_lost ended a loss lost;
-    answers = kept_answers ended a;
+    answers = cached_answers ended a;
     cause = λ fault e. (a.questions fault e).1;
   }
 

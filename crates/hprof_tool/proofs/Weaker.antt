@@ -8,7 +8,7 @@ use Rattle.hprof_stream.specs.declared.part_fault.PartFault.TheVariants as fault
 use Rattle.hprof_stream.specs.declared.sink.SinkFault.TheVariants as sinks
 use Rattle.hprof_rows.specs.HeapValue.{HeapValue}
 use Rattle.hprof_heap.specs.Gathering.{Given}
-use Rattle.hprof_engine.specs.declared.product_refusal.ProductRefusal.{ProductRefusal}
+use Rattle.hprof_engine.specs.declared.heap_fault.HeapFault.{HeapFault}
 use Rattle.hprof_engine.specs.declared.tool_fault.ToolFault.{ToolFault}
 use Rattle.hprof_engine.specs.Joining.{IsPartFault, RefusesPart}
 use Rattle.hprof_engine.specs.Makes.{Making, Makes, Reads}
@@ -66,7 +66,7 @@ module _ {R : Type 0} (left : R → Option (List ℕ)) (health : R → Health) (
     read_out = reads.read_out;
   }
 
-  module _ (IsMade : List (List ℕ) → List ℕ → Type 0) (Refuses : ProductRefusal → HeapValue → Type 0) (Room OtherRoom : ℕ → Type 0)
+  module _ (IsMade : List (List ℕ) → List ℕ → Type 0) (Refuses : HeapFault → HeapValue → Type 0) (Room OtherRoom : ℕ → Type 0)
       (Memory OtherMemory Again OtherAgain : Type 0) (room : (count : ℕ) → Room count → OtherRoom count) (memory : Memory → OtherMemory)
       (again : Again → OtherAgain) where
     abbrev pub strong : Making

@@ -20,7 +20,7 @@ use Rattle.hprof_stored.specs.StoredMaking.{stored_dump_making}
 use Rattle.hprof_stored.specs.Storing.{HaveObject}
 use Rattle.hprof_diff.specs.Comparing.{IsOfCounting}
 use Rattle.hprof_questions.specs.declared.question.Question.{Question}
-use Rattle.hprof_questions.specs.declared.stop.DialogueStop.TheVariants as stops
+use Rattle.hprof_questions.specs.declared.dialogue_fault.DialogueFault.TheVariants as stops
 use Rattle.hprof_questions.specs.Dialogue.{AnswersBefore, AnswersDialogue, AnswersLines, AnswersSome, AreOpenLines}
 use Rattle.hprof_questions.specs.Lines.{AreLines}
 use Rattle.hprof_ask.specs.declared.ask_fault.AskFault.{AskFault}

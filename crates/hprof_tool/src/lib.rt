@@ -47,10 +47,11 @@ pub use hprof_ask::{
 pub use hprof_diff::{DiffFault, diff_to};
 pub use hprof_dump::{DumpFault, write_canonical, write_v101};
 pub use hprof_engine::{
-    FaultedPart, Joined, JoinedHeap, Loss, ProductRefusal, Salvaged, SalvagedHeap, ToolFault,
-    join_kept, join_to, join101_kept, join101_to, salvage_kept, salvage_to,
+    FaultedPart, HeapFault, Joined, JoinedHeap, Loss, Salvaged, SalvagedHeap, ToolFault,
+    join_returning_heap, join_to, join101_returning_heap, join101_to, salvage_returning_heap,
+    salvage_to,
 };
-pub use hprof_questions::{DialogueStop, HeapReport, KindReport, Kinds, Node, NodeReport, Report};
+pub use hprof_questions::{DialogueFault, HeapReport, KindReport, Kinds, Node, NodeReport, Report};
 
 // The program.
 pub use program::run;

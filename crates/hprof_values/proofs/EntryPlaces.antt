@@ -1,7 +1,7 @@
 -- Where so many entries end, or which of them stops them: both are what their tests answer.
 use Rattle.std.proofs.Common.{◌≡◌, ℕ, zero, suc, ◌<◌, ◌≤◌, inl, inr, List, length, drop, Ok, Err, refl, sym, ap, subst, ◌∙◌, arith}
 use Rattle.hprof_values.specs.declared.ids.IdSize.{IdSize}
-use Rattle.hprof_values.specs.declared.stop.Stop.{Stop}
+use Rattle.hprof_values.specs.declared.parse_stop.ParseStop.{ParseStop}
 use Rattle.hprof_values.specs.declared.entry.EntryKind.{EntryKind}
 use Rattle.hprof_values.specs.Ids.{IsBytes}
 use Rattle.hprof_values.specs.FieldGroups.{Bounds, IsWithin}
@@ -42,7 +42,7 @@ lies_to_end ids kind bounds bytes count at end lie =
 
 -- ---- which of them stops them
 
-pub stop_found : (ids : IdSize) (kind : EntryKind) (bounds : Bounds) (bytes : List ℕ) (count at : ℕ) (stop : Stop)
+pub stop_found : (ids : IdSize) (kind : EntryKind) (bounds : Bounds) (bytes : List ℕ) (count at : ℕ) (stop : ParseStop)
     → entries_end ids kind bounds bytes count at ≡ Err stop → StopsBehind ids kind bounds bytes count at stop
 stop_found ids kind bounds bytes zero at stop e = absurd cc
 stop_found ids kind bounds bytes (suc count) at stop e =
@@ -60,7 +60,8 @@ stop_found ids kind bounds bytes (suc count) at stop e =
           }
     ]
 
-stop_behind : (ids : IdSize) (kind : EntryKind) (bounds : Bounds) (bytes : List ℕ) (before count at mid : ℕ) (stop : Stop) → before < count
+stop_behind : (ids : IdSize) (kind : EntryKind) (bounds : Bounds) (bytes : List ℕ) (before count at mid : ℕ) (stop : ParseStop)
+    → before < count
     → entries_end ids kind bounds bytes before at ≡ Ok mid → entry_end ids kind bounds bytes mid ≡ Err stop
     → entries_end ids kind bounds bytes count at ≡ Err stop
 stop_behind ids kind bounds bytes zero count at mid stop less passed stops =
@@ -72,7 +73,7 @@ stop_behind ids kind bounds bytes (suc before) (suc count) at mid stop less pass
     then_next (entry_end ids kind bounds bytes at) (λ (end : ℕ). entries_end ids kind bounds bytes count end) first.0 first.1
     ∙ stop_behind ids kind bounds bytes before count first.0 mid stop (omega arith) first.2 stops
 
-pub stops_behind : (ids : IdSize) (kind : EntryKind) (bounds : Bounds) (bytes : List ℕ) (count at : ℕ) (stop : Stop)
+pub stops_behind : (ids : IdSize) (kind : EntryKind) (bounds : Bounds) (bytes : List ℕ) (count at : ℕ) (stop : ParseStop)
     → StopsBehind ids kind bounds bytes count at stop → entries_end ids kind bounds bytes count at ≡ Err stop
 stops_behind ids kind bounds bytes count at stop behind =
     stop_behind ids kind bounds bytes behind.before count at behind.mid stop behind.less behind.passed behind.stops

@@ -9,8 +9,8 @@ use Rattle.std.specs.Prelude.{sum}
 use Rattle.byteorder.specs.Endian.{big_bytes, big_number}
 use Rattle.byteorder.specs.Numbers.{big_from-lt, big_number-reads_back, length-bytes_high_first}
 use Rattle.hprof_values.specs.declared.reason.Reason.TheVariants.{PastEnd}
-use Rattle.hprof_values.specs.declared.stop.Stop.{Stop}
-use Rattle.hprof_values.specs.declared.stop.Stop.TheVariants.{Short, TooLong, Fault}
+use Rattle.hprof_values.specs.declared.parse_stop.ParseStop.{ParseStop}
+use Rattle.hprof_values.specs.declared.parse_stop.ParseStop.TheVariants.{Short, TooLong, Fault}
 use Rattle.hprof_values.specs.Ids.{IsBytes}
 use Rattle.hprof_values.specs.FieldGroups.{field_bytes, fields_in, FitFields, Bounds, ◌>>=◌, field_end, reached, IsWithin, with_more}
 use Rattle.hprof_values.proofs.Numbers.{IsBytes-drop, number_parts}
@@ -83,7 +83,7 @@ field_within bounds end within =
     ∙ cond-false (ltb bounds.there end) _ _ (le-ltb _ _ within.there)
 
 -- a test that did not fail
-passed : {A : Type 0} (t : Bool) (stop : Stop) (r : Result A Stop) (x : A) → cond t (Err stop) r ≡ Ok x → (t ≡ false) × (r ≡ Ok x)
+passed : {A : Type 0} (t : Bool) (stop : ParseStop) (r : Result A ParseStop) (x : A) → cond t (Err stop) r ≡ Ok x → (t ≡ false) × (r ≡ Ok x)
 passed true stop r x e = absurd cc
 passed false stop r x e = (refl, e)
 
@@ -97,13 +97,13 @@ field_passed bounds end last e =
     (cc, record { room = ltb-false _ _ room.0; longest = ltb-false _ _ longest.0; there = ltb-false _ _ there.0 })
 
 -- a step that went well, and what came next
-pub then_ok : {A B : Type 0} (r : Result A Stop) (next : A → Result B Stop) (y : B) → (r >>= next) ≡ Ok y → (x : A) × (r ≡ Ok x)
+pub then_ok : {A B : Type 0} (r : Result A ParseStop) (next : A → Result B ParseStop) (y : B) → (r >>= next) ≡ Ok y → (x : A) × (r ≡ Ok x)
     × (next x ≡ Ok y)
 then_ok (Ok x) next y e = (x, refl, e)
 then_ok (Err stop) next y e = absurd cc
 
 -- what comes after a step that went well
-pub then_next : {A B : Type 0} (r : Result A Stop) (next : A → Result B Stop) (x : A) → r ≡ Ok x → (r >>= next) ≡ next x
+pub then_next : {A B : Type 0} (r : Result A ParseStop) (next : A → Result B ParseStop) (x : A) → r ≡ Ok x → (r >>= next) ≡ next x
 then_next (Ok y) next x e = let same : y ≡ x = cc in ap next same
 then_next (Err stop) next x e = absurd cc
 
@@ -149,7 +149,8 @@ field_short bounds end room longest there =
     ∙ cond-true (ltb bounds.there end) _ _ (lt-ltb _ _ there)
 
 -- what comes after a step that stopped
-pub then_stop : {A B : Type 0} (r : Result A Stop) (next : A → Result B Stop) (stop : Stop) → r ≡ Err stop → (r >>= next) ≡ Err stop
+pub then_stop : {A B : Type 0} (r : Result A ParseStop) (next : A → Result B ParseStop) (stop : ParseStop) → r ≡ Err stop
+    → (r >>= next) ≡ Err stop
 then_stop (Ok y) next stop e = absurd cc
 then_stop (Err other) next stop e = ap Err (cc)
 
@@ -160,7 +161,7 @@ pub reached_short : (bounds : Bounds) (at : ℕ) (widths : List ℕ) → at ≤ 
 reached_short bounds at [] begun there room longest = absurd (omega arith)
 reached_short bounds at (w ∷ ws) begun there room longest =
     let all = sum_widths w ws in
-    let next : ℕ → Result ℕ Stop = λ end. reached bounds end ws in
+    let next : ℕ → Result ℕ ParseStop = λ end. reached bounds end ws in
     elim (cases_lt bounds.there (at + w)) [
       | inl cut ↦ then_stop (field_end bounds (at + w)) next Short (field_short bounds (at + w) (omega arith) (omega arith) cut)
       | inr more ↦
@@ -174,7 +175,7 @@ reached_short bounds at (w ∷ ws) begun there room longest =
     ]
 
 -- answers behind one test
-guarded : (t : Bool) (stop : Stop) (r s : Result ℕ Stop) → (r ≡ Err Short) ⊎ (s ≡ r) → (cond t (Err stop) r ≡ Err Short)
+guarded : (t : Bool) (stop : ParseStop) (r s : Result ℕ ParseStop) → (r ≡ Err Short) ⊎ (s ≡ r) → (cond t (Err stop) r ≡ Err Short)
     ⊎ (cond t (Err stop) s ≡ cond t (Err stop) r)
 guarded true stop r s h = inr refl
 guarded false stop r s h = h
@@ -192,13 +193,13 @@ field_more bounds end more = elim (cases_lt bounds.there end) [
 ]
 
 -- two steps, each of which answers the same unless for want of bytes
-pub then_more : {A B : Type 0} (r s : Result A Stop) (next later : A → Result B Stop) → (r ≡ Err Short) ⊎ (s ≡ r)
+pub then_more : {A B : Type 0} (r s : Result A ParseStop) (next later : A → Result B ParseStop) → (r ≡ Err Short) ⊎ (s ≡ r)
     → ((x : A) → (next x ≡ Err Short) ⊎ (later x ≡ next x))
     → ((r >>= next) ≡ Err Short) ⊎ ((s >>= later) ≡ (r >>= next))
 then_more r s next later (inl short) h = inl (then_stop r next Short short)
 then_more (Ok x) s next later (inr same) h =
-    elim (h x) [ inl short ↦ inl short | inr more ↦ inr (ap (λ (r : Result _ Stop). r >>= later) same ∙ more) ]
-then_more (Err stop) s next later (inr same) h = inr (ap (λ (r : Result _ Stop). r >>= later) same)
+    elim (h x) [ inl short ↦ inl short | inr more ↦ inr (ap (λ (r : Result _ ParseStop). r >>= later) same ∙ more) ]
+then_more (Err stop) s next later (inr same) h = inr (ap (λ (r : Result _ ParseStop). r >>= later) same)
 
 -- a group that does not want for bytes ends the same when there are more
 pub reached_more : (bounds : Bounds) (at more : ℕ) (widths : List ℕ) → (reached bounds at widths ≡ Err Short)

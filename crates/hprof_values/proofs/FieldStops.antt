@@ -2,7 +2,7 @@
 use Rattle.std.proofs.Common.{◌≡◌, ℕ, ◌+◌, ◌<◌, ◌⊎◌, inl, inr, List, [], ◌∷◌, ◌++◌, length, Result, Ok, Err, refl, sym, ap, subst, ◌∙◌}
 use Rattle.std.proofs.Common.{arith}
 use Rattle.std.specs.Prelude.{sum}
-use Rattle.hprof_values.specs.declared.stop.Stop.{Stop}
+use Rattle.hprof_values.specs.declared.parse_stop.ParseStop.{ParseStop}
 use Rattle.hprof_values.specs.FieldGroups.{Bounds, ◌>>=◌, field_end, reached, IsWithin}
 use Rattle.hprof_values.specs.FieldStops.{IsFirstStop}
 use Rattle.hprof_values.proofs.FieldGroups.{sum_widths, field_within, field_passed, then_next, then_stop, within-less, reached_within}
@@ -22,7 +22,7 @@ within_ends bounds at end widths is = reached_within bounds at widths (subst (Is
 -- ---- the first that stops them
 
 -- a step that stopped, or what came next
-pub then_err : {A B : Type 0} (r : Result A Stop) (next : A → Result B Stop) (stop : Stop) → (r >>= next) ≡ Err stop
+pub then_err : {A B : Type 0} (r : Result A ParseStop) (next : A → Result B ParseStop) (stop : ParseStop) → (r >>= next) ≡ Err stop
     → (r ≡ Err stop) ⊎ ((x : A) × (r ≡ Ok x) × (next x ≡ Err stop))
 then_err (Ok x) next stop e = inr (x, refl, e)
 then_err (Err other) next stop e = let same : other ≡ stop = cc in inl (ap Err same)
@@ -34,7 +34,7 @@ within_behind bounds mid [] within others = let same : mid ≡ mid + sum [] = om
 within_behind bounds mid (w ∷ ws) within others = others (omega arith)
 
 -- the first that stops those behind a field stops them all
-stop_behind : (bounds : Bounds) (at w mid : ℕ) (ws : List ℕ) (stop : Stop) → mid ≡ at + w → IsWithin bounds mid
+stop_behind : (bounds : Bounds) (at w mid : ℕ) (ws : List ℕ) (stop : ParseStop) → mid ≡ at + w → IsWithin bounds mid
     → IsFirstStop bounds mid ws stop → IsFirstStop bounds at (w ∷ ws) stop
 stop_behind bounds at w mid ws stop same within first =
     let all = sum_widths w first.before in
@@ -49,7 +49,7 @@ stop_behind bounds at w mid ws stop same within first =
       stops = subst (λ (end : ℕ). field_end bounds end ≡ Err stop) last first.stops;
     }
 
-pub first_stop : (bounds : Bounds) (at : ℕ) (widths : List ℕ) (stop : Stop) → reached bounds at widths ≡ Err stop
+pub first_stop : (bounds : Bounds) (at : ℕ) (widths : List ℕ) (stop : ParseStop) → reached bounds at widths ≡ Err stop
     → IsFirstStop bounds at widths stop
 first_stop bounds at [] stop e = absurd cc
 first_stop bounds at (w ∷ ws) stop e = elim (then_err (field_end bounds (at + w)) (λ (end : ℕ). reached bounds end ws) stop e) [
@@ -69,7 +69,7 @@ first_stop bounds at (w ∷ ws) stop e = elim (then_err (field_end bounds (at + 
       (first_stop bounds later.0 ws stop later.2)
 ]
 
-stop_there : (bounds : Bounds) (at : ℕ) (before : List ℕ) (width : ℕ) (behind : List ℕ) (stop : Stop)
+stop_there : (bounds : Bounds) (at : ℕ) (before : List ℕ) (width : ℕ) (behind : List ℕ) (stop : ParseStop)
     → (0 < length before → IsWithin bounds (at + sum before)) → field_end bounds (at + sum before + width) ≡ Err stop
     → reached bounds at (before ++ (width ∷ behind)) ≡ Err stop
 stop_there bounds at [] width behind stop within stops =
@@ -85,7 +85,7 @@ stop_there bounds at (w ∷ ws) width behind stop within stops =
     then_next (field_end bounds (at + w)) (λ (end : ℕ). reached bounds end (ws ++ (width ∷ behind))) (at + w) first
     ∙ stop_there bounds (at + w) ws width behind stop (λ some. inside) (subst (λ (end : ℕ). field_end bounds end ≡ Err stop) last stops)
 
-pub stops_first : (bounds : Bounds) (at : ℕ) (widths : List ℕ) (stop : Stop) → IsFirstStop bounds at widths stop
+pub stops_first : (bounds : Bounds) (at : ℕ) (widths : List ℕ) (stop : ParseStop) → IsFirstStop bounds at widths stop
     → reached bounds at widths ≡ Err stop
 stops_first bounds at widths stop first =
     ap (reached bounds at) first.parts

@@ -7,7 +7,7 @@ use Rattle.std.specs.Prelude.{sum}
 use Rattle.byteorder.specs.Endian.{big_bytes, big_number}
 use Rattle.byteorder.specs.Numbers.{big_from-lt, big_number-reads_back, length-bytes_high_first}
 use Rattle.hprof_values.specs.declared.ids.IdSize.{IdSize}
-use Rattle.hprof_values.specs.declared.stop.Stop.{Stop}
+use Rattle.hprof_values.specs.declared.parse_stop.ParseStop.{ParseStop}
 use Rattle.hprof_values.specs.declared.entry.Entry.{Entry}
 use Rattle.hprof_values.specs.declared.entry.EntryKind.{EntryKind}
 use Rattle.hprof_values.specs.Ids.{IsBytes}
@@ -92,7 +92,7 @@ entries_pass ids kind bounds bytes (entry ∷ entries) rest at fits spelled with
     ∙ ap Ok (omega (arith, len, all))
 
 -- an entry that stops stops them all
-pub entries_stop : (ids : IdSize) (kind : EntryKind) (bounds : Bounds) (bytes : List ℕ) (left at : ℕ) (stop : Stop) → 0 < left
+pub entries_stop : (ids : IdSize) (kind : EntryKind) (bounds : Bounds) (bytes : List ℕ) (left at : ℕ) (stop : ParseStop) → 0 < left
     → entry_end ids kind bounds bytes at ≡ Err stop
     → entries_end ids kind bounds bytes left at ≡ Err stop
 entries_stop ids kind bounds bytes zero at stop some e = absurd (omega arith)

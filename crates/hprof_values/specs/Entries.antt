@@ -11,8 +11,8 @@ use Rattle.hprof_values.specs.declared.entry.EntryKind.{EntryKind}
 use Rattle.hprof_values.specs.declared.entry.EntryKind.TheVariants as kinds
 use Rattle.hprof_values.specs.declared.entry.Entry.{Entry}
 use Rattle.hprof_values.specs.declared.reason.Reason.TheVariants.{BadType}
-use Rattle.hprof_values.specs.declared.stop.Stop.{Stop}
-use Rattle.hprof_values.specs.declared.stop.Stop.TheVariants.{Fault}
+use Rattle.hprof_values.specs.declared.parse_stop.ParseStop.{ParseStop}
+use Rattle.hprof_values.specs.declared.parse_stop.ParseStop.TheVariants.{Fault}
 use Rattle.hprof_values.specs.Ids.{width_of}
 use Rattle.hprof_values.specs.Basic.{code_of_basic, basic_of_code, width_of_basic}
 use Rattle.hprof_values.specs.FieldGroups.{field_bytes, FitFields, Bounds, ◌>>=◌, reached}
@@ -92,19 +92,19 @@ entries_in ids kind (suc count) bytes =
 -- ---- where they end
 
 -- a type that stands for one
-abbrev pub judged_type : Option Basic → Result Basic Stop
+abbrev pub judged_type : Option Basic → Result Basic ParseStop
 judged_type None = Err (Fault BadType)
 judged_type (Some basic) = Ok basic
 
 -- where the entry ends that begins there: its index or name and its type are there, the type is right, its value is there
-unfoldable pub entry_end : IdSize → EntryKind → Bounds → List ℕ → ℕ → Result ℕ Stop
+unfoldable pub entry_end : IdSize → EntryKind → Bounds → List ℕ → ℕ → Result ℕ ParseStop
 entry_end ids kind bounds bytes at =
     reached bounds at (lead_width ids kind ∷ 1 ∷ []) >>= λ front.
     judged_type (basic_of_code (slice_index bytes (at + lead_width ids kind))) >>= λ basic.
     reached bounds front (bits_width ids kind basic ∷ [])
 
 -- where the last of so many entries ends
-abbrev pub entries_end : IdSize → EntryKind → Bounds → List ℕ → ℕ → ℕ → Result ℕ Stop
+abbrev pub entries_end : IdSize → EntryKind → Bounds → List ℕ → ℕ → ℕ → Result ℕ ParseStop
 entries_end ids kind bounds bytes zero at = Ok at
 entries_end ids kind bounds bytes (suc count) at = entry_end ids kind bounds bytes at >>= λ end. entries_end ids kind bounds bytes count end
 
@@ -122,6 +122,6 @@ abbrev pub list_in : IdSize → EntryKind → List ℕ → ℕ → List Entry
 list_in ids kind bytes at = entries_in ids kind (big_number 2 (drop at bytes)) (drop (at + 2) bytes)
 
 -- where the list ends whose count stands there: the count is there, and then each entry passes its tests
-unfoldable pub list_end : IdSize → EntryKind → Bounds → List ℕ → ℕ → Result ℕ Stop
+unfoldable pub list_end : IdSize → EntryKind → Bounds → List ℕ → ℕ → Result ℕ ParseStop
 list_end ids kind bounds bytes at =
     reached bounds at (2 ∷ []) >>= λ begin. entries_end ids kind bounds bytes (big_number 2 (drop at bytes)) begin

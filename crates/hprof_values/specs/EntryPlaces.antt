@@ -1,7 +1,7 @@
 -- Entries that lie between two places.
 use Rattle.std.specs.Prelude.{◌≡◌, ℕ, ◌+◌, ◌<◌, List, ◌++◌, length, drop, Ok, Err}
 use Rattle.hprof_values.specs.declared.ids.IdSize.{IdSize}
-use Rattle.hprof_values.specs.declared.stop.Stop.{Stop}
+use Rattle.hprof_values.specs.declared.parse_stop.ParseStop.{ParseStop}
 use Rattle.hprof_values.specs.FieldGroups.{Bounds}
 use Rattle.hprof_values.specs.declared.entry.Entry.{Entry}
 use Rattle.hprof_values.specs.declared.entry.EntryKind.{EntryKind}
@@ -17,7 +17,7 @@ pub record EntriesLie (ids : IdSize) (kind : EntryKind) (count : ℕ) (bytes : L
   pub ends : end ≡ at + length (entries_bytes ids kind entries)
 
 -- of so many entries, one has a test that fails with this, and those before it end
-pub record StopsBehind (ids : IdSize) (kind : EntryKind) (bounds : Bounds) (bytes : List ℕ) (count at : ℕ) (stop : Stop) : Type 0 where
+pub record StopsBehind (ids : IdSize) (kind : EntryKind) (bounds : Bounds) (bytes : List ℕ) (count at : ℕ) (stop : ParseStop) : Type 0 where
   pub before : ℕ
   pub mid : ℕ
   pub less : before < count

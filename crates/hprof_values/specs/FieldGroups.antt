@@ -2,8 +2,8 @@
 use Rattle.std.specs.Prelude.{ℕ, ◌+◌, ◌<◌, ◌≤◌, ◌^◌, nat_lt, List, [], ◌∷◌, ◌++◌, length, drop, Result, Ok, Err, ⊤, if◌then◌else◌}
 use Rattle.byteorder.specs.Endian.{big_bytes, big_number}
 use Rattle.hprof_values.specs.declared.reason.Reason.TheVariants.{PastEnd}
-use Rattle.hprof_values.specs.declared.stop.Stop.{Stop}
-use Rattle.hprof_values.specs.declared.stop.Stop.TheVariants.{Short, TooLong, Fault}
+use Rattle.hprof_values.specs.declared.parse_stop.ParseStop.{ParseStop}
+use Rattle.hprof_values.specs.declared.parse_stop.ParseStop.TheVariants.{Short, TooLong, Fault}
 
 -- the bytes that spell the numbers in fields of those widths
 abbrev pub field_bytes : List ℕ → List ℕ → List ℕ
@@ -33,18 +33,18 @@ pub record Bounds : Type 0 where
   pub there : ℕ
 
 infixl 10 ◌>>=◌
-abbrev pub ◌>>=◌ : {A B : Type 0} → Result A Stop → (A → Result B Stop) → Result B Stop
+abbrev pub ◌>>=◌ : {A B : Type 0} → Result A ParseStop → (A → Result B ParseStop) → Result B ParseStop
 (Ok x) >>= next = next x
 (Err stop) >>= next = Err stop
 
 -- the tests of a field by where it ends: within the record, within the longest item, and then it is there
-abbrev pub field_end : Bounds → ℕ → Result ℕ Stop
+abbrev pub field_end : Bounds → ℕ → Result ℕ ParseStop
 field_end bounds end =
     if nat_lt bounds.room end then Err (Fault PastEnd)
     else (if nat_lt bounds.longest end then Err TooLong else (if nat_lt bounds.there end then Err Short else Ok end))
 
 -- where fields of those widths end that begin there, each tested before the next
-abbrev pub reached : Bounds → ℕ → List ℕ → Result ℕ Stop
+abbrev pub reached : Bounds → ℕ → List ℕ → Result ℕ ParseStop
 reached bounds at [] = Ok at
 reached bounds at (width ∷ widths) = field_end bounds (at + width) >>= λ end. reached bounds end widths
 

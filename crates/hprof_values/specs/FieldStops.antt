@@ -1,10 +1,10 @@
 -- Which of some fields is the first that does not lie within bounds.
 use Rattle.std.specs.Prelude.{◌≡◌, ℕ, ◌+◌, ◌<◌, List, ◌∷◌, ◌++◌, length, sum, Err}
-use Rattle.hprof_values.specs.declared.stop.Stop.{Stop}
+use Rattle.hprof_values.specs.declared.parse_stop.ParseStop.{ParseStop}
 use Rattle.hprof_values.specs.FieldGroups.{Bounds, field_end, IsWithin}
 
 -- of fields of those widths that begin there, one has a test that fails with this, and those before it end within all bounds
-pub record IsFirstStop (bounds : Bounds) (at : ℕ) (widths : List ℕ) (stop : Stop) : Type 0 where
+pub record IsFirstStop (bounds : Bounds) (at : ℕ) (widths : List ℕ) (stop : ParseStop) : Type 0 where
   pub before : List ℕ
   pub width : ℕ
   pub behind : List ℕ

@@ -4,8 +4,8 @@ ghost use Rattle.std.specs.Prelude.{◌≡◌, ◌+◌, ◌<◌, ◌^◌, sum};
 ghost use Rattle.hprof_values.specs.FieldGroups.{field_end, reached};
 ghost use Rattle.hprof_values.specs.BoundedBytes.{bounds_of};
 
+use crate::parse_stop::ParseStop;
 use crate::reason::Reason;
-use crate::stop::Stop;
 
 /// The bytes of an item, with the bounds within which it must end. Bounds and places are counted from the item's first byte.
 #[derive(Clone, Copy, Debug)]
@@ -29,15 +29,15 @@ fn total(widths: &[usize]) -> usize
 impl BoundedBytes<'_> {
     /// Tests the end of a field. It must lie within the record, then within the longest item, and then its bytes must be available.
     #[inline(always)]
-    fn field_end(&self, end: usize) -> Result<usize, Stop>
+    fn field_end(&self, end: usize) -> Result<usize, ParseStop>
         ensures { result ≡ field_end (bounds_of self.now) end }
     {
         if self.room < end {
-            Err(Stop::Fault(Reason::PastEnd))
+            Err(ParseStop::Fault(Reason::PastEnd))
         } else if self.longest < end {
-            Err(Stop::TooLong)
+            Err(ParseStop::TooLong)
         } else if self.bytes.len() < end {
-            Err(Stop::Short)
+            Err(ParseStop::Short)
         } else {
             Ok(end)
         }
@@ -46,7 +46,7 @@ impl BoundedBytes<'_> {
     /// Returns the end of fields of these widths that begin at a place. Each field is tested before the next. It is inlined, so that its
     /// callers need no memory for the item and the widths if it does not run.
     #[inline(always)]
-    fn each_end(&self, at: usize, widths: &[usize]) -> Result<usize, Stop>
+    fn each_end(&self, at: usize, widths: &[usize]) -> Result<usize, ParseStop>
         requires { at + sum widths.now < 2 ^ 64 }
         ensures { result ≡ reached (bounds_of self.now) at widths.now }
     {
@@ -62,7 +62,7 @@ impl BoundedBytes<'_> {
     /// Returns the end of fields of these widths that begin at a place, or the failure of the first test that fails.
     #[tactic(auto, using(crate::proofs::FieldGroups::reached_within))]
     #[inline(always)]
-    pub fn end_of(&self, at: usize, widths: &[usize]) -> Result<usize, Stop>
+    pub fn end_of(&self, at: usize, widths: &[usize]) -> Result<usize, ParseStop>
         requires { at + sum widths.now < 2 ^ 64 }
         ensures { result ≡ reached (bounds_of self.now) at widths.now }
     {

@@ -8,8 +8,8 @@ use crate::basic::Basic;
 use crate::bounded_bytes::BoundedBytes;
 use crate::ids::IdSize;
 use crate::number::{bits_at, id_at};
+use crate::parse_stop::ParseStop;
 use crate::reason::Reason;
-use crate::stop::Stop;
 use byteorder::{BigEndian, ByteOrder};
 
 /// The list of a class dump that an entry belongs to.
@@ -63,7 +63,7 @@ pub fn entry_end(
     at: usize,
     kind: EntryKind,
     ids: IdSize,
-) -> Result<usize, Stop>
+) -> Result<usize, ParseStop>
     requires { at ≤ length item.now.bytes.now }
     ensures end { result ≡ entry_end ids kind (bounds_of item.now) item.now.bytes.now at }
     ensures there { IfOk result (λ end. (at < end) × (end ≤ length item.now.bytes.now)) }
@@ -71,7 +71,7 @@ pub fn entry_end(
     let lead = kind.lead_width(ids);
     let front = item.end_of(at, &[lead, 1])?;
     let Some(basic) = Basic::from_code(item.bytes[at + lead]) else {
-        return Err(Stop::Fault(Reason::BadType));
+        return Err(ParseStop::Fault(Reason::BadType));
     };
     item.end_of(front, &[kind.bits_width(basic, ids)])
 }

@@ -9,7 +9,7 @@ ghost use Rattle.hprof_values.specs.BoundedBytes.{bounds_of};
 use crate::bounded_bytes::BoundedBytes;
 use crate::entry::{EntryKind, entry_end};
 use crate::ids::IdSize;
-use crate::stop::Stop;
+use crate::parse_stop::ParseStop;
 use byteorder::{BigEndian, ByteOrder};
 
 /// The bytes of some entries, and their number.
@@ -42,7 +42,7 @@ fn entries_end(
     count: u16,
     kind: EntryKind,
     ids: IdSize,
-) -> Result<usize, Stop>
+) -> Result<usize, ParseStop>
     requires { at ≤ length item.now.bytes.now }
     ensures end { result ≡ entries_end ids kind (bounds_of item.now) item.now.bytes.now count at }
     ensures there { IfOk result (λ end. end ≤ length item.now.bytes.now) }
@@ -63,7 +63,7 @@ pub fn list_at<'a>(
     at: usize,
     kind: EntryKind,
     ids: IdSize,
-) -> Result<EntrySpan<'a>, Stop>
+) -> Result<EntrySpan<'a>, ParseStop>
     requires { at ≤ length item.now.bytes.now }
     // Where it ends, or which test fails.
     ensures end { MatchResult result

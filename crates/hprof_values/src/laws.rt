@@ -7,7 +7,7 @@ ghost use Rattle.hprof_values.specs.declared.ids.IdSize.{IdSize};
 ghost use Rattle.hprof_values.specs.declared.basic.Basic.{Basic};
 ghost use Rattle.hprof_values.specs.Basic.{code_of_basic};
 ghost use Rattle.hprof_values.specs.declared.root.Root.{Root};
-ghost use Rattle.hprof_values.specs.declared.stop.Stop.{Stop};
+ghost use Rattle.hprof_values.specs.declared.parse_stop.ParseStop.{ParseStop};
 ghost use Rattle.hprof_values.specs.Ids.{IsBytes};
 ghost use Rattle.hprof_values.specs.FieldGroups.{field_bytes, fields_in, FitFields, Bounds, reached, IsWithin, with_more};
 ghost use Rattle.hprof_values.specs.FieldStops.{IsFirstStop};
@@ -17,7 +17,7 @@ ghost use Rattle.hprof_values.specs.declared.entry.EntryKind.{EntryKind};
 ghost use Rattle.hprof_values.specs.Entries.{IsEntryList, entries_end};
 ghost use Rattle.hprof_values.specs.EntryPlaces.{EntriesLie, StopsBehind};
 ghost use Rattle.hprof_values.specs.Lists.{IsIdList};
-ghost use Rattle.hprof_values.specs.declared.stop.Stop.TheVariants as stops;
+ghost use Rattle.hprof_values.specs.declared.parse_stop.ParseStop.TheVariants as stops;
 
 use crate::basic::Basic;
 use crate::root::Root;
@@ -58,7 +58,7 @@ pub fn fronts_are_short()
 pub fn fields_end_or_stop()
     ensures end { (bounds : Bounds) (at end : ℕ) (widths : List ℕ) → 0 < length widths
         → (reached bounds at widths ≡ Ok end) ↔ ((end ≡ at + sum widths) × IsWithin bounds end) }
-    ensures stop { (bounds : Bounds) (at : ℕ) (widths : List ℕ) (stop : Stop)
+    ensures stop { (bounds : Bounds) (at : ℕ) (widths : List ℕ) (stop : ParseStop)
         → (reached bounds at widths ≡ Err stop) ↔ IsFirstStop bounds at widths stop }
 {}
 
@@ -76,6 +76,6 @@ pub fn entries_end_or_stop()
     ensures end { (ids : IdSize) (kind : EntryKind) (bounds : Bounds) (bytes : List ℕ) (count at end : ℕ) → IsBytes bytes
         → bounds.there ≤ length bytes → IsWithin bounds at
         → (entries_end ids kind bounds bytes count at ≡ Ok end) ↔ (EntriesLie ids kind count bytes at end × IsWithin bounds end) }
-    ensures stop { (ids : IdSize) (kind : EntryKind) (bounds : Bounds) (bytes : List ℕ) (count at : ℕ) (stop : Stop)
+    ensures stop { (ids : IdSize) (kind : EntryKind) (bounds : Bounds) (bytes : List ℕ) (count at : ℕ) (stop : ParseStop)
         → (entries_end ids kind bounds bytes count at ≡ Err stop) ↔ StopsBehind ids kind bounds bytes count at stop }
 {}

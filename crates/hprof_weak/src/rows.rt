@@ -12,7 +12,7 @@ use crate::row_sink::RowSink;
 use crate::weak_classes::WeakClasses;
 use hprof_edges::FieldPlace;
 use hprof_heap::Heap;
-use hprof_passes::{Objects, PassStop};
+use hprof_passes::{Objects, PassFault};
 use std::alloc::{AllocError, Global};
 
 impl WeakClasses {
@@ -85,7 +85,7 @@ pub(crate) fn rows_over<O: Objects>(
     heap: &Heap,
     objects: &O,
     classes: WeakClasses,
-) -> Result<Vec<FieldPlace>, PassStop<AllocError, O::Fault>>
+) -> Result<Vec<FieldPlace>, PassFault<AllocError, O::Fault>>
     requires { AreWeakClasses (facts_of heap.now) classes }
     ensures rows { IfOk result (λ fields. (all : List FactValue)
         → O.make_up objects.now (size_of heap.now) (facts_of heap.now) all → AreWeakRows (size_of heap.now) all fields.items) }
@@ -98,7 +98,7 @@ pub(crate) fn rows_over<O: Objects>(
         .saturating_add(LEAST_ROOM);
     match left.put_few(most, &mut fields) {
         Ok(()) => {}
-        Err(fault) => return Err(PassStop::Sink(fault)),
+        Err(fault) => return Err(PassFault::Sink(fault)),
     }
     if left.firsts.is_empty() {
         return Ok(fields);

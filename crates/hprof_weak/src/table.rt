@@ -16,7 +16,7 @@ use crate::weak_classes::{WeakClasses, weak_classes};
 use hprof_edges::LeftOut;
 use hprof_heap::{Heap, holds_of_heap};
 use hprof_naming::ClassNames;
-use hprof_passes::{InHeap, Objects, PassStop};
+use hprof_passes::{InHeap, Objects, PassFault};
 use std::alloc::{AllocError, Global};
 
 /// Returns the classes of a heap that have weak fields. If memory runs out, the answer is `AllocError`.
@@ -43,16 +43,13 @@ pub fn weak_fields_over<O: Objects>(
     alloc: Global,
     heap: &Heap,
     objects: &O,
-) -> Result<LeftOut, PassStop<AllocError, O::Fault>>
+) -> Result<LeftOut, PassFault<AllocError, O::Fault>>
     ensures weak { IfOk result (λ left_out. (all : List FactValue)
         → O.make_up objects.now (size_of heap.now) (facts_of heap.now) all → (edge : Edge) → IsEdge (size_of heap.now) all edge
         → IsLeftOut (fields_in left_out) all edge ↔ IsWeak all edge) }
     ensures tells { IfErr result (IfLost (O.tells objects.now (size_of heap.now) (facts_of heap.now))) }
 {
-    let classes = match classes_of(alloc, heap) {
-        Ok(classes) => classes,
-        Err(fault) => return Err(PassStop::Sink(fault)),
-    };
+    let classes = classes_of(alloc, heap).map_err(|fault| PassFault::Sink(fault))?;
     match rows_over(alloc, heap, objects, classes) {
         Ok(fields) => Ok(LeftOut::new(fields)),
         Err(stop) => Err(stop),

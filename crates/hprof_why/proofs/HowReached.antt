@@ -6,7 +6,7 @@ use Rattle.std.specs.Prelude.{◌↔◌, OnOk, is_some}
 use Rattle.hprof_values.specs.declared.ids.IdSize.{IdSize}
 use Rattle.hprof_items.specs.FactValue.{FactValue}
 use Rattle.hprof_heap.specs.declared.class_dump.ClassDump.{ClassDump}
-use Rattle.hprof_heap.specs.ClassDump.{IsFoundClass, class_value}
+use Rattle.hprof_heap.specs.ClassDump.{AnswersClass, class_value}
 use Rattle.hprof_reach.specs.Reaching.{IsDistanceBy, IsDumped}
 use Rattle.hprof_weak.specs.Weak.{IsStrong}
 use Rattle.hprof_holders.specs.WhoObjects.{HasRootObjects}
@@ -24,7 +24,7 @@ reached_otherwise ids facts id (reached.Weakly path) none is = (none, is)
 reached_otherwise ids facts id reached.Nowise none is = (none, is)
 
 -- an identifier whose class dump was found has a dump
-pub class_dumped : (ids : IdSize) (facts : List FactValue) (id : ℕ) (class : Option ClassDump) → IsFoundClass ids facts id class
+pub class_dumped : (ids : IdSize) (facts : List FactValue) (id : ℕ) (class : Option ClassDump) → AnswersClass ids facts id class
     → (result : Bool) → result ≡ is_some class → result ≡ true → IsDumped facts id
 class_dumped ids facts id (Some dump) found result is told = inl (class_value dump, found.found, found.id)
 class_dumped ids facts id None found result is told = let clash = sym is ∙ told in absurd cc

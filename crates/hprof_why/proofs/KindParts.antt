@@ -8,8 +8,8 @@ use Rattle.hprof_items.specs.FactValue.{FactValue}
 use Rattle.hprof_rows.specs.Conflict.{IsConsistent}
 use Rattle.hprof_heap.specs.declared.class_dump.ClassDump.{ClassDump}
 use Rattle.hprof_heap.specs.declared.object_dump.ObjectDump.{ObjectDump}
-use Rattle.hprof_heap.specs.ClassDump.{IsFoundClass, class_value}
-use Rattle.hprof_heap.specs.ObjectDump.{IsFoundObject, fact_of_object}
+use Rattle.hprof_heap.specs.ClassDump.{AnswersClass, class_value}
+use Rattle.hprof_heap.specs.ObjectDump.{AnswersObject, fact_of_object}
 use Rattle.hprof_edges.specs.declared.edge.Edge.{Edge}
 use Rattle.hprof_naming.specs.Naming.{Naming}
 use Rattle.hprof_reports.specs.RefsText.{via_word}
@@ -28,8 +28,8 @@ found_equal one other same = sym ((bytes_eq-Decides one other).1 same)
 module _ (ids : IdSize) (facts : List FactValue) (agree : IsConsistent facts) (found : Findings) (are : AreFindings ids facts found)
     (id : ℕ) where
   -- what was found of a node tells its kind
-  pub kind_told : (class was_class : Option ClassDump) (object was_object : Option ObjectDump) → IsFoundClass ids facts id was_class
-      → IsFoundObject ids facts id was_object → was_class ≡ class → was_object ≡ object
+  pub kind_told : (class was_class : Option ClassDump) (object was_object : Option ObjectDump) → AnswersClass ids facts id was_class
+      → AnswersObject ids facts id was_object → was_class ≡ class → was_object ≡ object
       → kind_of found.naming id (option_map class_value class) (option_map fact_of_object object) ≡ kind_text found id
   kind_told class was_class object was_object is_class is_object same_class same_object =
       (λ i. kind_of found.naming id (option_map class_value (sym same_class i)) (option_map fact_of_object (sym same_object i)))

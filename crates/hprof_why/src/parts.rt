@@ -18,7 +18,7 @@ use crate::walk::Walk;
 use hprof_describe::node_text;
 use hprof_devices::Target;
 use hprof_edges::LeftOut;
-use hprof_engine::WriteStop;
+use hprof_engine::ProductFault;
 use hprof_heap::Heap;
 use hprof_holders::{HeapView, Step, step_text};
 use hprof_lines::write_line;
@@ -60,7 +60,7 @@ fn write_front<W: Target>(
     view: HeapView<'_>,
     front: Front<'_>,
     target: &mut W,
-) -> Result<(), WriteStop>
+) -> Result<(), ProductFault>
     requires view { IsView view }
     requires well { W.health target.old ≡ Well }
     ensures bytes { (found : PathFindings) (edge : Edge)
@@ -84,7 +84,7 @@ pub(crate) fn write_parts<W: Target>(
     first: u64,
     nodes: &[u64],
     target: &mut W,
-) -> Result<(), WriteStop>
+) -> Result<(), ProductFault>
     requires view { IsView view }
     requires well { W.health target.old ≡ Well }
     ensures bytes { (found : PathFindings) (text : List ℕ)

@@ -4,16 +4,16 @@ ghost use Rattle.std.specs.Prelude.{◌≡◌};
 ghost use Rattle.hprof_devices.specs.declared.health.Health.TheVariants.{Well};
 ghost use Rattle.hprof_heap.specs.HeapFacts.{facts_of, size_of};
 ghost use Rattle.hprof_lines.specs.Passed.{EndsPassed};
-ghost use Rattle.hprof_retained.specs.KeptReferences.{AreKeptReferences};
+ghost use Rattle.hprof_retained.specs.CachedReferences.{AreCachedReferences};
 ghost use Rattle.hprof_reports.specs.PathText.{IsPathText};
 
 use hprof_devices::Target;
-use hprof_engine::WriteStop;
+use hprof_engine::ProductFault;
 use hprof_heap::Heap;
 use hprof_lines::stop_of_pass;
-use hprof_passes::{Objects, PassStop};
+use hprof_passes::{Objects, PassFault};
 use hprof_reports::write_path;
-use hprof_retained::KeptReferences;
+use hprof_retained::CachedReferences;
 use std::alloc::Global;
 
 /// Writes the report `path` on an identifier, as [`write_path`] does. The heap has all facts but the objects, which are gone through twice
@@ -27,17 +27,17 @@ pub fn write_path_over<O: Objects, W: Target>(
     alloc: Global,
     heap: &Heap,
     objects: &O,
-    references: &mut KeptReferences,
+    references: &mut CachedReferences,
     id: u64,
     target: &mut W,
-) -> Result<(), PassStop<WriteStop, O::Fault>>
-    requires references { AreKeptReferences (O.make_up objects.now (size_of heap.now) (facts_of heap.now))
+) -> Result<(), PassFault<ProductFault, O::Fault>>
+    requires references { AreCachedReferences (O.make_up objects.now (size_of heap.now) (facts_of heap.now))
         (O.agree objects.now (size_of heap.now) (facts_of heap.now)) (size_of heap.now) references.old }
     requires well { W.health target.old ≡ Well }
     ensures ends { EndsPassed (O.make_up objects.now (size_of heap.now) (facts_of heap.now))
         (O.agree objects.now (size_of heap.now) (facts_of heap.now)) (O.tells objects.now (size_of heap.now) (facts_of heap.now))
         (λ all. IsPathText (size_of heap.now) all id) W.written W.health target.old target.new result }
-    ensures references { AreKeptReferences (O.make_up objects.now (size_of heap.now) (facts_of heap.now))
+    ensures references { AreCachedReferences (O.make_up objects.now (size_of heap.now) (facts_of heap.now))
         (O.agree objects.now (size_of heap.now) (facts_of heap.now)) (size_of heap.now) references.new }
 {
     let reach = match references.take_all(alloc, heap, objects) {
@@ -48,6 +48,6 @@ pub fn write_path_over<O: Objects, W: Target>(
     references.keep_all(reach);
     match outcome {
         Ok(()) => Ok(()),
-        Err(stop) => Err(PassStop::Sink(stop)),
+        Err(stop) => Err(PassFault::Sink(stop)),
     }
 }

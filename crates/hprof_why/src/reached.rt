@@ -7,16 +7,16 @@ ghost use Rattle.hprof_edges.specs.LeftOut.{IsKept, IsLeftOut, fields_in};
 ghost use Rattle.hprof_heap.specs.HeapFacts.{facts_of, size_of};
 ghost use Rattle.hprof_passes.specs.Finding.{Finds};
 ghost use Rattle.hprof_reach.specs.Reaching.{IsReach, IsReachBy};
-ghost use Rattle.hprof_retained.specs.KeptReferences.{AreKeptReferences};
+ghost use Rattle.hprof_retained.specs.CachedReferences.{AreCachedReferences};
 ghost use Rattle.hprof_weak.specs.Weak.{IsWeak};
 ghost use Rattle.hprof_why.specs.Paths.{IsReached, IsWithoutStrong};
 
 use crate::path::{Path, path_by_all, path_to};
 use hprof_edges::LeftOut;
 use hprof_heap::Heap;
-use hprof_passes::{Objects, PassStop};
+use hprof_passes::{Objects, PassFault};
 use hprof_reach::Reach;
-use hprof_retained::KeptReferences;
+use hprof_retained::CachedReferences;
 use std::alloc::{AllocError, Global};
 
 /// How an identifier is reached from GC roots.
@@ -83,15 +83,15 @@ fn reached_without_strong_over<O: Objects>(
     alloc: Global,
     heap: &Heap,
     objects: &O,
-    references: &mut KeptReferences,
+    references: &mut CachedReferences,
     id: u64,
-) -> Result<Reached, PassStop<AllocError, O::Fault>>
-    requires references { AreKeptReferences (O.make_up objects.now (size_of heap.now) (facts_of heap.now))
+) -> Result<Reached, PassFault<AllocError, O::Fault>>
+    requires references { AreCachedReferences (O.make_up objects.now (size_of heap.now) (facts_of heap.now))
         (O.agree objects.now (size_of heap.now) (facts_of heap.now)) (size_of heap.now) references.old }
     ensures reached { Finds (O.make_up objects.now (size_of heap.now) (facts_of heap.now))
         (O.agree objects.now (size_of heap.now) (facts_of heap.now)) (O.tells objects.now (size_of heap.now) (facts_of heap.now))
         (λ all. IsWithoutStrong (size_of heap.now) all id) result }
-    ensures references { AreKeptReferences (O.make_up objects.now (size_of heap.now) (facts_of heap.now))
+    ensures references { AreCachedReferences (O.make_up objects.now (size_of heap.now) (facts_of heap.now))
         (O.agree objects.now (size_of heap.now) (facts_of heap.now)) (size_of heap.now) references.new }
 {
     let all = references.take_all(alloc, heap, objects)?;
@@ -100,7 +100,7 @@ fn reached_without_strong_over<O: Objects>(
     match path {
         Ok(Some(path)) => Ok(Reached::Weakly(path)),
         Ok(None) => Ok(Reached::Nowise),
-        Err(fault) => Err(PassStop::Sink(fault)),
+        Err(fault) => Err(PassFault::Sink(fault)),
     }
 }
 
@@ -114,15 +114,15 @@ pub(crate) fn reached_over<O: Objects>(
     alloc: Global,
     heap: &Heap,
     objects: &O,
-    references: &mut KeptReferences,
+    references: &mut CachedReferences,
     id: u64,
-) -> Result<Reached, PassStop<AllocError, O::Fault>>
-    requires references { AreKeptReferences (O.make_up objects.now (size_of heap.now) (facts_of heap.now))
+) -> Result<Reached, PassFault<AllocError, O::Fault>>
+    requires references { AreCachedReferences (O.make_up objects.now (size_of heap.now) (facts_of heap.now))
         (O.agree objects.now (size_of heap.now) (facts_of heap.now)) (size_of heap.now) references.old }
     ensures reached { Finds (O.make_up objects.now (size_of heap.now) (facts_of heap.now))
         (O.agree objects.now (size_of heap.now) (facts_of heap.now)) (O.tells objects.now (size_of heap.now) (facts_of heap.now))
         (λ all. IsReached (size_of heap.now) all id) result }
-    ensures references { AreKeptReferences (O.make_up objects.now (size_of heap.now) (facts_of heap.now))
+    ensures references { AreCachedReferences (O.make_up objects.now (size_of heap.now) (facts_of heap.now))
         (O.agree objects.now (size_of heap.now) (facts_of heap.now)) (size_of heap.now) references.new }
 {
     let strong = references.take_strong(alloc, heap, objects)?;
@@ -131,6 +131,6 @@ pub(crate) fn reached_over<O: Objects>(
     match path {
         Ok(Some(path)) => Ok(Reached::Strongly(path)),
         Ok(None) => reached_without_strong_over(alloc, heap, objects, references, id),
-        Err(fault) => Err(PassStop::Sink(fault)),
+        Err(fault) => Err(PassFault::Sink(fault)),
     }
 }

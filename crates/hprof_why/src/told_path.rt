@@ -12,7 +12,7 @@ use crate::parts::{node_line, write_parts};
 use crate::path::Path;
 use hprof_devices::Target;
 use hprof_edges::LeftOut;
-use hprof_engine::WriteStop;
+use hprof_engine::ProductFault;
 use hprof_holders::{HeapView, write_roots};
 use hprof_lines::write_line;
 use hprof_reach::roots_of;
@@ -27,7 +27,7 @@ pub(crate) fn write_path<W: Target>(
     left_out: &LeftOut,
     path: &Path,
     target: &mut W,
-) -> Result<(), WriteStop>
+) -> Result<(), ProductFault>
     requires view { IsView view }
     requires well { W.health target.old ≡ Well }
     ensures bytes { (found : PathFindings) (text : List ℕ)

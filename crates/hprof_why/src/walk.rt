@@ -13,7 +13,7 @@ ghost use Rattle.hprof_why.specs.WhyText.{ArePathFindings, PathFindings, link_by
 ghost use Rattle.hprof_why.specs.Walks.{is_alike_link, step_by};
 
 use crate::alike::{same_kind, same_step};
-use hprof_edges::{LeftOut, Near, least_edge};
+use hprof_edges::{Cursors, LeftOut, least_edge};
 use hprof_holders::{HeapView, Step, step_of};
 use hprof_layouts::Reference;
 use hprof_reports::FieldNames;
@@ -23,7 +23,7 @@ use std::alloc::{AllocError, Global};
 /// references, and the names of fields.
 #[derive(Drop)]
 pub(crate) struct Walk {
-    near: Near,
+    near: Cursors,
     references: Vec<Reference>,
     pub(crate) names: FieldNames,
 }
@@ -34,7 +34,7 @@ impl Walk {
         ensures { (facts : List FactValue) → AreSkips facts result.names }
     {
         Walk {
-            near: Near::start(),
+            near: Cursors::start(),
             references: Vec::new(alloc),
             names: FieldNames::new(alloc),
         }

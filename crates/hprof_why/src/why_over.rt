@@ -6,7 +6,7 @@ ghost use Rattle.hprof_heap.specs.HeapFacts.{facts_of, size_of};
 ghost use Rattle.hprof_lines.specs.Passed.{EndsPassed};
 ghost use Rattle.hprof_lines.specs.Stopping.{LeavesTarget, WritesText};
 ghost use Rattle.hprof_passes.specs.Finding.{Finds};
-ghost use Rattle.hprof_retained.specs.KeptReferences.{AreKeptReferences};
+ghost use Rattle.hprof_retained.specs.CachedReferences.{AreCachedReferences};
 ghost use Rattle.hprof_why.specs.Paths.{TellsFound};
 ghost use Rattle.hprof_why.specs.WhyObjects.{IsWhyHeap, path_nodes};
 ghost use Rattle.hprof_why.specs.WhyText.{ArePathFindings, IsWhyText, PathFindings};
@@ -15,12 +15,12 @@ use crate::reached::{Reached, reached_over};
 use crate::why_objects::objects_of_why;
 use crate::why_report::write_told;
 use hprof_devices::Target;
-use hprof_engine::WriteStop;
+use hprof_engine::ProductFault;
 use hprof_heap::Heap;
 use hprof_holders::HeapTables;
 use hprof_lines::stop_of_pass;
-use hprof_passes::{Objects, PassStop};
-use hprof_retained::KeptReferences;
+use hprof_passes::{Objects, PassFault};
+use hprof_retained::CachedReferences;
 use hprof_words::words_heap;
 use std::alloc::{AllocError, Global};
 
@@ -35,14 +35,14 @@ fn why_heap<O: Objects>(
     objects: &O,
     id: u64,
     reached: &Reached,
-) -> Result<Heap, PassStop<AllocError, O::Fault>>
+) -> Result<Heap, PassFault<AllocError, O::Fault>>
     ensures { Finds (O.make_up objects.now (size_of heap.now) (facts_of heap.now))
         (O.agree objects.now (size_of heap.now) (facts_of heap.now)) (O.tells objects.now (size_of heap.now) (facts_of heap.now))
         (λ all. IsWhyHeap (size_of heap.now) id (path_nodes reached.now) all) result }
 {
     match objects_of_why(alloc, heap, id, reached) {
         Ok(nodes) => words_heap(alloc, heap, objects, nodes),
-        Err(fault) => Err(PassStop::Sink(fault)),
+        Err(fault) => Err(PassFault::Sink(fault)),
     }
 }
 
@@ -53,7 +53,7 @@ fn write_in_memory<W: Target>(
     id: u64,
     reached: &Reached,
     target: &mut W,
-) -> Result<(), WriteStop>
+) -> Result<(), ProductFault>
     requires { W.health target.old ≡ Well }
     ensures bytes { (found : PathFindings) (text : List ℕ) → ArePathFindings (size_of heap.now) (facts_of heap.now) found
         → TellsFound (size_of heap.now) (facts_of heap.now) found id reached.now text
@@ -80,17 +80,17 @@ pub fn write_why_over<O: Objects, W: Target>(
     alloc: Global,
     heap: &Heap,
     objects: &O,
-    references: &mut KeptReferences,
+    references: &mut CachedReferences,
     id: u64,
     target: &mut W,
-) -> Result<(), PassStop<WriteStop, O::Fault>>
-    requires references { AreKeptReferences (O.make_up objects.now (size_of heap.now) (facts_of heap.now))
+) -> Result<(), PassFault<ProductFault, O::Fault>>
+    requires references { AreCachedReferences (O.make_up objects.now (size_of heap.now) (facts_of heap.now))
         (O.agree objects.now (size_of heap.now) (facts_of heap.now)) (size_of heap.now) references.old }
     requires well { W.health target.old ≡ Well }
     ensures ends { EndsPassed (O.make_up objects.now (size_of heap.now) (facts_of heap.now))
         (O.agree objects.now (size_of heap.now) (facts_of heap.now)) (O.tells objects.now (size_of heap.now) (facts_of heap.now))
         (λ all. IsWhyText (size_of heap.now) all id) W.written W.health target.old target.new result }
-    ensures references { AreKeptReferences (O.make_up objects.now (size_of heap.now) (facts_of heap.now))
+    ensures references { AreCachedReferences (O.make_up objects.now (size_of heap.now) (facts_of heap.now))
         (O.agree objects.now (size_of heap.now) (facts_of heap.now)) (size_of heap.now) references.new }
 {
     let reached = match reached_over(alloc, heap, objects, references, id) {
@@ -103,6 +103,6 @@ pub fn write_why_over<O: Objects, W: Target>(
     };
     match write_in_memory(alloc, &small, id, &reached, target) {
         Ok(()) => Ok(()),
-        Err(stop) => Err(PassStop::Sink(stop)),
+        Err(stop) => Err(PassFault::Sink(stop)),
     }
 }

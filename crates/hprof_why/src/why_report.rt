@@ -14,7 +14,7 @@ use crate::reached::{Reached, reached_of};
 use crate::told_path::write_path;
 use hprof_devices::Target;
 use hprof_edges::LeftOut;
-use hprof_engine::WriteStop;
+use hprof_engine::ProductFault;
 use hprof_heap::{Heap, find_class, find_object, holds_of_heap};
 use hprof_holders::HeapView;
 use hprof_lines::{nothing_line, write_line, write_str};
@@ -28,7 +28,7 @@ fn write_reached<W: Target>(
     view: HeapView<'_>,
     reached: &Reached,
     target: &mut W,
-) -> Result<(), WriteStop>
+) -> Result<(), ProductFault>
     requires well { W.health target.old ≡ Well }
     requires view { IsView view }
     ensures bytes { (found : PathFindings) (text : List ℕ)
@@ -62,7 +62,7 @@ pub(crate) fn write_told<W: Target>(
     id: u64,
     reached: &Reached,
     target: &mut W,
-) -> Result<(), WriteStop>
+) -> Result<(), ProductFault>
     requires well { W.health target.old ≡ Well }
     requires view { IsView view }
     ensures bytes { (found : PathFindings) (text : List ℕ)
@@ -91,7 +91,7 @@ pub fn write_why<W: Target>(
     all: &mut Option<Reach>,
     id: u64,
     target: &mut W,
-) -> Result<(), WriteStop>
+) -> Result<(), ProductFault>
     requires well { W.health target.old ≡ Well }
     requires view { IsView view }
     requires strong { IsReachBy (IsKept (fields_in view.weak.now) (facts_of view.heap.now)) (size_of view.heap.now)

@@ -11,7 +11,7 @@ ghost use Rattle.hprof_words.specs.Words.{HasNextOf};
 
 use crate::needed::needed_for;
 use hprof_heap::Heap;
-use hprof_passes::{Objects, PassStop};
+use hprof_passes::{Objects, PassFault};
 use hprof_small::small_heap;
 use std::alloc::{AllocError, Global};
 
@@ -34,7 +34,7 @@ pub fn few_of<O: Objects>(
     heap: &Heap,
     objects: &O,
     wanted: Vec<u64>,
-) -> Result<Few, PassStop<AllocError, O::Fault>>
+) -> Result<Few, PassFault<AllocError, O::Fault>>
     requires { IsStrictlyIncreasing wanted.items }
     ensures { Finds (O.make_up objects.now (size_of heap.now) (facts_of heap.now))
         (O.agree objects.now (size_of heap.now) (facts_of heap.now)) (O.tells objects.now (size_of heap.now) (facts_of heap.now))
@@ -58,7 +58,7 @@ pub fn few_more<O: Objects>(
     objects: &O,
     few: Few,
     wanted: Vec<u64>,
-) -> Result<Few, PassStop<AllocError, O::Fault>>
+) -> Result<Few, PassFault<AllocError, O::Fault>>
     requires ascend { IsStrictlyIncreasing wanted.items }
     requires agree { O.agree objects.now (size_of heap.now) (facts_of heap.now) }
     requires few { (all : List FactValue) → O.make_up objects.now (size_of heap.now) (facts_of heap.now) all
@@ -80,7 +80,7 @@ pub(crate) fn few_next<O: Objects>(
     heap: &Heap,
     objects: &O,
     few: Few,
-) -> Result<Few, PassStop<AllocError, O::Fault>>
+) -> Result<Few, PassFault<AllocError, O::Fault>>
     requires agree { O.agree objects.now (size_of heap.now) (facts_of heap.now) }
     requires few { (all : List FactValue) → O.make_up objects.now (size_of heap.now) (facts_of heap.now) all
         → IsFew (heap_of heap.now).millis (size_of heap.now) all few }
@@ -91,6 +91,6 @@ pub(crate) fn few_next<O: Objects>(
 {
     match needed_for(alloc, &few.heap, &few.wanted) {
         Ok(needed) => few_more(alloc, heap, objects, few, needed),
-        Err(fault) => Err(PassStop::Sink(fault)),
+        Err(fault) => Err(PassFault::Sink(fault)),
     }
 }

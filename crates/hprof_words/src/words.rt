@@ -11,7 +11,7 @@ ghost use Rattle.hprof_words.specs.Words.{IsWordsHeap};
 
 use crate::few::{Few, few_next, few_of};
 use hprof_heap::Heap;
-use hprof_passes::{Objects, PassStop};
+use hprof_passes::{Objects, PassFault};
 use std::alloc::{AllocError, Global};
 
 /// Returns the heap of all objects that the words for those of `few` are read from. Picks the arrays of texts and the names of
@@ -25,7 +25,7 @@ pub fn words_of_few<O: Objects>(
     heap: &Heap,
     objects: &O,
     few: Few,
-) -> Result<Heap, PassStop<AllocError, O::Fault>>
+) -> Result<Heap, PassFault<AllocError, O::Fault>>
     requires agree { O.agree objects.now (size_of heap.now) (facts_of heap.now) }
     requires few { (all : List FactValue) → O.make_up objects.now (size_of heap.now) (facts_of heap.now) all
         → IsFew (heap_of heap.now).millis (size_of heap.now) all few }
@@ -57,7 +57,7 @@ pub fn words_heap<O: Objects>(
     heap: &Heap,
     objects: &O,
     wanted: Vec<u64>,
-) -> Result<Heap, PassStop<AllocError, O::Fault>>
+) -> Result<Heap, PassFault<AllocError, O::Fault>>
     requires { IsStrictlyIncreasing wanted.items }
     ensures { Finds (O.make_up objects.now (size_of heap.now) (facts_of heap.now))
         (O.agree objects.now (size_of heap.now) (facts_of heap.now)) (O.tells objects.now (size_of heap.now) (facts_of heap.now))

@@ -13,7 +13,7 @@ use hprof_devices::Device;
 use hprof_engine::ToolFault;
 use hprof_histogram::Kind;
 use hprof_naming::type_word;
-use hprof_questions::{DialogueStop, Kinds, Node, Report, ReportWord};
+use hprof_questions::{DialogueFault, Kinds, Node, Report, ReportWord};
 use hprof_stream::Limits;
 use std::alloc::{AllocError, Global};
 
@@ -21,14 +21,14 @@ use std::alloc::{AllocError, Global};
 fn text_of_asking(alloc: Global, fault: AskFault) -> Result<String, AllocError> {
     match fault {
         AskFault::Parts(fault) => text_of_fault(alloc, fault),
-        AskFault::Dialogue(DialogueStop::Questions(_)) => String::from_str(alloc, "read failed"),
-        AskFault::Dialogue(DialogueStop::Write(fault)) => {
+        AskFault::Dialogue(DialogueFault::Questions(_)) => String::from_str(alloc, "read failed"),
+        AskFault::Dialogue(DialogueFault::Write(fault)) => {
             text_of_fault(alloc, ToolFault::Write(fault))
         }
-        AskFault::Dialogue(DialogueStop::Lost(loss)) => {
+        AskFault::Dialogue(DialogueFault::Lost(loss)) => {
             text_of_fault(alloc, ToolFault::Lost(loss))
         }
-        AskFault::Dialogue(DialogueStop::OutOfMemory) => String::from_str(alloc, "out of memory"),
+        AskFault::Dialogue(DialogueFault::OutOfMemory) => String::from_str(alloc, "out of memory"),
     }
 }
 

@@ -13,10 +13,12 @@ use hprof_tables::Stated;
 use std::alloc::AllocError;
 
 impl Heap {
-    /// Adds a fact. `bytes` is its sub-record, if a sub-record states it, and empty otherwise. If the fact is present, nothing is
-    /// allocated. If memory runs out, the heap is unchanged.
+    /// Adds a fact. `bytes` is its sub-record, if a sub-record states it, and empty otherwise. If the fact is present, or another one with
+    /// its key, the heap is unchanged and nothing is allocated.
+    ///
+    /// If memory runs out, the answer is `AllocError`, and the heap is unchanged.
     #[inline(always)]
-    pub(crate) fn state(&mut self, fact: &Fact<'_>, bytes: &[u8]) -> Result<Stated, AllocError>
+    pub fn state(&mut self, fact: &Fact<'_>, bytes: &[u8]) -> Result<Stated, AllocError>
         requires fits { Fits (heap_of self.old).ids (value_of fact.now) }
         requires lists { ListsHave (heap_of self.old).ids fact.now }
         requires spelled { bytes.now ≡ dump_bytes (heap_of self.old).ids (value_of fact.now) }

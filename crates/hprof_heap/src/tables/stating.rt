@@ -33,7 +33,7 @@ impl Tables {
             (rows_in_tables self.new) }
     {
         self.traces
-            .state_four_apart(serial as u64, thread_bytes(thread), frames.bytes())
+            .state_prefixed(serial as u64, thread_bytes(thread), frames.bytes())
     }
 
     /// Adds an instance or an array with these sub-record bytes. They are stored without the identifier.
@@ -50,7 +50,7 @@ impl Tables {
             unreachable!()
         };
         let (_, rest) = fields.split_at(self.ids.width());
-        self.objects.state_apart(id, *tag, rest)
+        self.objects.state_split(id, *tag, rest)
     }
 
     /// Adds a fact as [`Tables::state`] does. It is not inlined into the loop over the facts of a part, since few facts are not objects.

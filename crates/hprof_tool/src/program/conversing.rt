@@ -16,7 +16,7 @@ use crate::program::folder::Folder;
 use crate::program::opening::open_parts;
 use crate::program::refused::{Refused, Stopped};
 use crate::program::writing::BUFFER_LEN;
-use hprof_ask::{AskFault, ask_kept};
+use hprof_ask::{AskFault, ask_returning_heap};
 use hprof_devices::{BufferedDevice, Device, Source};
 use hprof_handles::{Handles, ReadAt};
 use hprof_large::ask_stored;
@@ -44,7 +44,7 @@ fn ask_in_memory<R: Source, Q: Asker<BufferedDevice<W>>, W: Write + Drop>(
         buffered_health readers.old readers.new questions.old questions.new target.old target.new (fault_of_asking result) }
     ensures flushed { PassesAnswersOn (fault_of_asking result) (writer_buffer (buffered_of target.new) ≡ []) }
 {
-    match ask_kept(alloc, readers, questions, target, Limits::usual()) {
+    match ask_returning_heap(alloc, readers, questions, target, Limits::usual()) {
         Ok(heap) => {
             mem::forget(heap);
             Ok(())

@@ -6,7 +6,7 @@ ghost use Rattle.hprof_tool.specs.Program.{IsDumpRefusalText, IsRefusalText, of_
 use hprof_ask::AskFault;
 use hprof_devices::WriteFault;
 use hprof_engine::{Loss, ToolFault};
-use hprof_questions::DialogueStop;
+use hprof_questions::DialogueFault;
 use std::alloc::{AllocError, AllocFailed, Global};
 
 /// The reason why the program refused.
@@ -121,12 +121,12 @@ impl From<AskFault> for Refused {
     fn from(fault: AskFault) -> Refused {
         match fault {
             AskFault::Parts(fault) => Refused::from(fault),
-            AskFault::Dialogue(DialogueStop::Questions(_)) => Refused::Questions,
-            AskFault::Dialogue(DialogueStop::Write(fault)) => {
+            AskFault::Dialogue(DialogueFault::Questions(_)) => Refused::Questions,
+            AskFault::Dialogue(DialogueFault::Write(fault)) => {
                 Refused::Engine(ToolFault::Write(fault))
             }
-            AskFault::Dialogue(DialogueStop::Lost(loss)) => Refused::Engine(ToolFault::Lost(loss)),
-            AskFault::Dialogue(DialogueStop::OutOfMemory) => Refused::OutOfMemory,
+            AskFault::Dialogue(DialogueFault::Lost(loss)) => Refused::Engine(ToolFault::Lost(loss)),
+            AskFault::Dialogue(DialogueFault::OutOfMemory) => Refused::OutOfMemory,
         }
     }
 }

@@ -21,7 +21,7 @@ use crate::program::telling::write_part_line;
 use crate::program::writing::{Writing, take_apart};
 use hprof_command::OutName;
 use hprof_devices::{Device, Source, Target};
-use hprof_engine::{FaultedPart, Salvaged, ToolFault, salvage_kept};
+use hprof_engine::{FaultedPart, Salvaged, ToolFault, salvage_returning_heap};
 use hprof_handles::{Handles, ReadAt};
 use hprof_runs::Scratch;
 use hprof_stored::salvage_stored;
@@ -48,7 +48,7 @@ fn salvage_of_heap<R: Source, W: Target>(
     requires writer { W.health target.old ≡ Well }
     ensures { Salvages R.left R.health R.pulls usual_limits readers.old readers.new W.written W.health target.old target.new result }
 {
-    match salvage_kept(alloc, readers, target, Limits::usual()) {
+    match salvage_returning_heap(alloc, readers, target, Limits::usual()) {
         Ok(kept) => {
             mem::forget(kept.heap);
             Ok(kept.salvaged)

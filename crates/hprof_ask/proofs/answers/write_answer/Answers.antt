@@ -1,7 +1,7 @@
 use Rattle.std.proofs.Common.{◌++◌, refl, subst, Err, Result}
 use Rattle.hprof_lines.proofs.TextWriting.{text_stops, text_then}
 use Rattle.hprof_lines.specs.Stopping.{WritesText}
-use Rattle.hprof_engine.specs.declared.product.WriteStop.{WriteStop}
+use Rattle.hprof_engine.specs.declared.product.ProductFault.{ProductFault}
 use Rattle.hprof_ask.specs.HeapAnswers.{behind_reply}
 use Rattle.hprof_ask.proofs.answers.write_answer.Goals as goal
 
@@ -20,7 +20,7 @@ returns-in-Ok-clause-bytes g c =
 pub returns-in-Err-clause-bytes : goal.returns-in-Err-clause-bytes
 returns-in-Err-clause-bytes g c =
     let it = c.in-Err.ensures.bytes in
-    let r : Result (Unit {0}) WriteStop = Err c.in-Err.stop in
+    let r : Result (Unit {0}) ProductFault = Err c.in-Err.stop in
     let behind = behind_reply c.args.question in (
       it.0 ++ behind,
       record { reply = it.0; is_reply = it.1; is = refl },

@@ -1,7 +1,7 @@
 use Rattle.std.specs.Prelude.{⊤}
 use Rattle.std.proofs.Common.{Result, Some, Ok, Err, sym, subst}
 use Rattle.hprof_heap.specs.HeapFacts.{facts_of, size_of}
-use Rattle.hprof_engine.specs.declared.product.WriteStop.{WriteStop}
+use Rattle.hprof_engine.specs.declared.product.ProductFault.{ProductFault}
 use Rattle.hprof_engine.specs.declared.tool_fault.ToolFault.{ToolFault}
 use Rattle.hprof_engine.specs.Makes.{Makes}
 use Rattle.hprof_engine.proofs.Answers.{summaries_held}
@@ -33,7 +33,7 @@ returns-in-Ok-write_who_once g c =
     let e = c.in-Ok.ensures in
     let report = reports.Node nodes.Who (that.Identifier c.args.id) in
     let heap = indexed_heap c.in-Ok.found in
-    let r : Result (Unit {0}) WriteStop = Ok c.in-Ok-write_who_once.field-0 in
+    let r : Result (Unit {0}) ProductFault = Ok c.in-Ok-write_who_once.field-0 in
     ended g.R.Source.left g.R.Source.health g.R.Source.pulls c.args.limits c.args.readers.now c.read_heap.new.readers
     g.W.Target.written g.W.Target.health (IsReportText report) (λ refusal other. RefusesReport other.facts report refusal)
     (TakesRoom report) ⊤ c.args.target.now c.write_who_once.new.target
@@ -49,7 +49,7 @@ returns g c =
     let e = c.in-Ok.ensures in
     let report = reports.Node nodes.Who (that.Identifier c.args.id) in
     let heap = indexed_heap c.in-Ok.found in
-    let r : Result (Unit {0}) WriteStop = Err c.in-Err-write_who_once.stop in
+    let r : Result (Unit {0}) ProductFault = Err c.in-Err-write_who_once.stop in
     subst (λ (fault : ToolFault). Makes g.R.Source.left g.R.Source.health g.R.Source.pulls g.W.Target.written g.W.Target.health
     c.args.limits
     (report_making report) c.args.readers.now c.read_heap.new.readers c.args.target.now c.write_who_once.new.target (Some fault))

@@ -1,5 +1,5 @@
 use Rattle.std.proofs.Common.{Err, Ok, Result}
-use Rattle.hprof_engine.specs.declared.product.WriteStop.{WriteStop}
+use Rattle.hprof_engine.specs.declared.product.ProductFault.{ProductFault}
 use Rattle.hprof_heap.specs.HeapFacts.{facts_of, size_of}
 use Rattle.hprof_rows.proofs.Order.{order_agrees}
 use Rattle.hprof_lines.proofs.PassedEnds.{ends_passed}
@@ -12,7 +12,7 @@ returns-in-Ok-outcome-clause-ends g c =
     let ids = size_of c.args.heap.now in
     let facts = facts_of c.args.heap.now in
     let objects = c.args.objects.now in
-    let answer : Result (Unit {0}) WriteStop = Ok c.in-Ok-outcome.field-0 in
+    let answer : Result (Unit {0}) ProductFault = Ok c.in-Ok-outcome.field-0 in
     ends_passed (g.O.Objects.make_up objects ids facts) (g.O.Objects.agree objects ids facts) (g.O.Objects.tells objects ids facts)
     (IsRetainedText ids) g.W.Target.written g.W.Target.health c.args.target.now c.write_labels-outcome.new.target answer
     c.in-Ok.ensures.made.0
@@ -27,7 +27,7 @@ returns-clause-ends g c =
     let ids = size_of c.args.heap.now in
     let facts = facts_of c.args.heap.now in
     let objects = c.args.objects.now in
-    let answer : Result (Unit {0}) WriteStop = Err c.in-Err-outcome.stop in
+    let answer : Result (Unit {0}) ProductFault = Err c.in-Err-outcome.stop in
     ends_passed (g.O.Objects.make_up objects ids facts) (g.O.Objects.agree objects ids facts) (g.O.Objects.tells objects ids facts)
     (IsRetainedText ids) g.W.Target.written g.W.Target.health c.args.target.now c.write_labels-outcome.new.target answer
     c.in-Ok.ensures.made.0

@@ -13,7 +13,7 @@ returns-clause-holds g c = λ facts edges knows held.
     let instance = c.args.instance in
     let references = c.deref.result.now in
     let new = c.put_references.new.into in
-    let are = c.in_ok-lay.ensures.wanted facts knows in
+    let are = c.in_ok-set_references.ensures.wanted facts knows in
     let only : (edge : Edge) → is_wanted c.wanted.result edge.to ≡ false → g.C.Collect.keeps new edge ≡ false =
     λ edge unwanted. ap (λ (keeps : Edge → Bool). keeps edge) c.in_ok-put_references.ensures.keeps ∙ c.wanted.ensures edge unwanted in
     record {
@@ -31,6 +31,7 @@ pub returns-then-not-branch-clause-holds : goal.returns-then-not-branch-clause-h
 returns-then-not-branch-clause-holds g c = λ facts edges knows held.
     put_nothing edges (g.C.Collect.holds c.args.into.now) (IsFieldEdge c.args.ids facts c.args.instance c.args.class c.args.bytes.now) held
     (λ edge is.
-    let laid = (c.in_ok-lay.ensures.known c.args.ids facts knows).1 (is.reference.values_are.slots, is.reference.values_are.known) in
+    let laid = (c.in_ok-set_references.ensures.known c.args.ids facts knows).1
+    (is.reference.values_are.slots, is.reference.values_are.known) in
     let unlaid = c.if-not-branch.true in
     absurd cc)

@@ -11,8 +11,8 @@ use Rattle.hprof_edges.proofs.putting.put_statics.Given as goal
 abbrev pub invariant-loop-field : goal.invariant-loop-field
 invariant-loop-field g l = record {
   put : (edges : List Edge) → g.C.Collect.holds l.fn.into edges → Putting (g.C.Collect.holds l.into) edges
-      (numbered l.class vias.Fixed 0 (targets_of_statics (entries_of l.fn.statics)))
-      (numbered l.class vias.Fixed l.position (map (λ field. target_of field.value.basic field.value.bits)
+      (numbered l.class vias.Static 0 (targets_of_statics (entries_of l.fn.statics)))
+      (numbered l.class vias.Static l.position (map (λ field. target_of field.value.basic field.value.bits)
       (map static_of (entries_left l.field-iterator))));
   keeps : g.C.Collect.keeps l.into ≡ g.C.Collect.keeps l.fn.into;
   count : l.position + length (map static_of (entries_left l.field-iterator)) ≡ length (entries_of l.fn.statics);

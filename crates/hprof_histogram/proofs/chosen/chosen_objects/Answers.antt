@@ -7,11 +7,11 @@ use Rattle.hprof_histogram.proofs.chosen.chosen_objects.Goals as goal
 
 pub returns : goal.returns
 returns g c = (
-  c.in-Ok.ensures.agree,
+  c.in_ok-pass.ensures.agree,
   λ all make. record {
     sorted = c.sort_objects.ensures.sorted;
     same = subst (λ (l : List SizedObject). IsPermutation l c.sort_objects.new.objects.items)
-        (collected_all (size_of c.args.heap.now) all _ c.pass.new.sink c.new.ensures.items (c.in-Ok.ensures.given all make))
+        (collected_all (size_of c.args.heap.now) all _ c.pass.new.sink c.new.ensures.items (c.in_ok-pass.ensures.given all make))
         c.sort_objects.ensures.same;
   },
 )

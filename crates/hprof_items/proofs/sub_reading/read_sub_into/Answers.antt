@@ -1,7 +1,7 @@
 use Rattle.std.proofs.Common.{◌≡◌, ℕ, ◌≤◌, ◌<◌, ◌^◌, List, ◌++◌, length, Result, Ok, Err, refl, sym, ◌∙◌, arith, rules}
 use Rattle.std.specs.Prelude.{IfOk, OnOk, IsOkAnd, MatchResult}
 use Rattle.hprof_values.specs.declared.ids.IdSize.{IdSize}
-use Rattle.hprof_values.specs.declared.stop.Stop.{Stop}
+use Rattle.hprof_values.specs.declared.parse_stop.ParseStop.{ParseStop}
 use Rattle.hprof_values.specs.Ids.{IsBytes}
 use Rattle.hprof_items.specs.declared.fact.Fact.{Fact}
 use Rattle.hprof_items.specs.FactValue.{FactValue, value_of, ListsHave}
@@ -13,17 +13,17 @@ use Rattle.hprof_items.proofs.sub_reading.read_sub_into.Goals as goal
 
 module _ (ids : IdSize) (room longest : ℕ) (bytes : List ℕ) (fact : Fact) where
   -- what was read, or what stopped it
-  abbrev pub IsRead : Result ℕ Stop → Type 0
+  abbrev pub IsRead : Result ℕ ParseStop → Type 0
   IsRead result = MatchResult result
       (λ end. sub_at ids (bounds_within room longest bytes) bytes ≡ Ok (value_of fact, end))
       (λ stop. sub_at ids (bounds_within room longest bytes) bytes ≡ Err stop)
 
-  found_of : (result : Result ℕ Stop) → IsBytes bytes → room < 2 ^ 32 → IsRead result → OnOk result (ListsHave ids fact)
+  found_of : (result : Result ℕ ParseStop) → IsBytes bytes → room < 2 ^ 32 → IsRead result → OnOk result (ListsHave ids fact)
       → IfOk result (λ end. IsSubRead ids room longest bytes fact end)
   found_of (Ok end) are small read lists = sub_read ids room longest bytes fact end are small lists read
   found_of (Err stop) are small read lists = tt
 
-  only_of : (result : Result ℕ Stop) → IsRead result → (spelled : FactValue) (rest : List ℕ) → DumpFits ids spelled
+  only_of : (result : Result ℕ ParseStop) → IsRead result → (spelled : FactValue) (rest : List ℕ) → DumpFits ids spelled
       → bytes ≡ dump_bytes ids spelled ++ rest
       → length (dump_bytes ids spelled) ≤ room → length (dump_bytes ids spelled) ≤ longest
       → IsOkAnd result (λ end. (value_of fact ≡ spelled) × (end ≡ length (dump_bytes ids spelled)))

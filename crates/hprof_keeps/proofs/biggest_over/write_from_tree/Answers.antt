@@ -1,5 +1,5 @@
 use Rattle.std.proofs.Common.{Err, List, [], Ok, Result, ℕ, subst}
-use Rattle.hprof_engine.specs.declared.product.WriteStop.{WriteStop}
+use Rattle.hprof_engine.specs.declared.product.ProductFault.{ProductFault}
 use Rattle.hprof_heap.specs.HeapFacts.{facts_of, size_of}
 use Rattle.hprof_describe.specs.Findings.{AreFindings, Findings}
 use Rattle.hprof_lines.proofs.PassedEnds.{ends_passed}
@@ -22,7 +22,7 @@ returns-in-Ok-write_in_memory g c = λ choice tree.
     let retained = c.args.made.now.retained in
     let places = c.args.made.now.places.items in
     let small = c.in-Ok.small in
-    let answer : Result (Unit {0}) WriteStop = Ok c.in-Ok-write_in_memory.field-0 in
+    let answer : Result (Unit {0}) ProductFault = Ok c.in-Ok-write_in_memory.field-0 in
     ends_passed (g.O.Objects.make_up objects ids facts) (g.O.Objects.agree objects ids facts) (g.O.Objects.tells objects ids facts)
     (λ all. IsBiggestText ids all (IsChosen all choice)) g.W.Target.written g.W.Target.health c.args.target.now
     c.write_in_memory.new.target answer c.requires.agree
@@ -47,7 +47,7 @@ returns g c = λ choice tree.
     let retained = c.args.made.now.retained in
     let places = c.args.made.now.places.items in
     let small = c.in-Ok.small in
-    let answer : Result (Unit {0}) WriteStop = Err c.in-Err-write_in_memory.stop in
+    let answer : Result (Unit {0}) ProductFault = Err c.in-Err-write_in_memory.stop in
     ends_passed (g.O.Objects.make_up objects ids facts) (g.O.Objects.agree objects ids facts) (g.O.Objects.tells objects ids facts)
     (λ all. IsBiggestText ids all (IsChosen all choice)) g.W.Target.written g.W.Target.health c.args.target.now
     c.write_in_memory.new.target answer c.requires.agree

@@ -1,5 +1,5 @@
 use Rattle.std.proofs.Common.{Err, List, Ok, Result, ℕ, subst}
-use Rattle.hprof_engine.specs.declared.product.WriteStop.{WriteStop}
+use Rattle.hprof_engine.specs.declared.product.ProductFault.{ProductFault}
 use Rattle.hprof_heap.specs.HeapFacts.{facts_of, size_of}
 use Rattle.hprof_lines.proofs.PassedEnds.{ends_passed}
 use Rattle.hprof_lines.specs.Stopping.{WritesText}
@@ -18,7 +18,7 @@ returns-in-Ok-write_in_memory g c =
     let retained = c.args.made.now.retained in
     let kept = c.args.made.now.kept in
     let small = c.in-Ok.small in
-    let answer : Result (Unit {0}) WriteStop = Ok c.in-Ok-write_in_memory.field-0 in
+    let answer : Result (Unit {0}) ProductFault = Ok c.in-Ok-write_in_memory.field-0 in
     ends_passed (g.O.Objects.make_up objects ids facts) (g.O.Objects.agree objects ids facts) (g.O.Objects.tells objects ids facts)
     (λ all. IsKeepsText ids all c.args.id) g.W.Target.written g.W.Target.health c.args.target.now c.write_in_memory.new.target answer
     c.requires.agree
@@ -42,7 +42,7 @@ returns g c =
     let retained = c.args.made.now.retained in
     let kept = c.args.made.now.kept in
     let small = c.in-Ok.small in
-    let answer : Result (Unit {0}) WriteStop = Err c.in-Err-write_in_memory.stop in
+    let answer : Result (Unit {0}) ProductFault = Err c.in-Err-write_in_memory.stop in
     ends_passed (g.O.Objects.make_up objects ids facts) (g.O.Objects.agree objects ids facts) (g.O.Objects.tells objects ids facts)
     (λ all. IsKeepsText ids all c.args.id) g.W.Target.written g.W.Target.health c.args.target.now c.write_in_memory.new.target answer
     c.requires.agree

@@ -17,7 +17,7 @@ use Rattle.hprof_stored.proofs.StoredReads.{some_readers}
 use Rattle.hprof_making.proofs.Made.{AreOfParts, of_loss}
 use Rattle.hprof_diff.specs.Comparing.{Counts}
 use Rattle.hprof_diff.proofs.Counting.{all_counts, pass_counts, reading_counts}
-use Rattle.hprof_questions.specs.declared.stop.DialogueStop.{DialogueStop}
+use Rattle.hprof_questions.specs.declared.dialogue_fault.DialogueFault.{DialogueFault}
 use Rattle.hprof_questions.specs.Dialogue.{AnswersDialogue}
 use Rattle.hprof_large.proofs.AskingStored.{are_stored_of, asks, lines_over, no_loss, over_told, refuses}
 use Rattle.hprof_large.proofs.asking.ask_stored.Given.{Over}
@@ -170,7 +170,7 @@ returns-in-Ok-converse-clause-asks g c =
     let agreed = HaveUnion g.S.Target.written g.S.Target.health g.P.Parts.bytes it in
     let Tells = TellsPass g.S.Target.written g.S.Target.health g.P.Parts.bytes g.S.Scratch.unreadable it (size_of heap) (facts_of heap) in
     let summaries = c.read_stored.new.kept.items in
-    let ended : Result (Unit {0}) DialogueStop = Ok c.in-Ok-converse.field-0 in
+    let ended : Result (Unit {0}) DialogueFault = Ok c.in-Ok-converse.field-0 in
     let said = c.in-Ok-converse.ensures in
     asks g.R.Source.left g.R.Source.health g.R.Source.pulls g.Q.Asker.left g.Q.Asker.health g.Q.Asker.pulls g.W.Target.written
     g.W.Target.health c.args.limits c.args.readers.now c.read_stored.new.readers c.args.questions.now c.args.target.now
@@ -196,7 +196,7 @@ returns-clause-asks g c =
     let agreed = HaveUnion g.S.Target.written g.S.Target.health g.P.Parts.bytes it in
     let Tells = TellsPass g.S.Target.written g.S.Target.health g.P.Parts.bytes g.S.Scratch.unreadable it (size_of heap) (facts_of heap) in
     let summaries = c.read_stored.new.kept.items in
-    let ended : Result (Unit {0}) DialogueStop = Err c.in-Err-converse.stop in
+    let ended : Result (Unit {0}) DialogueFault = Err c.in-Err-converse.stop in
     let said = c.in-Err-converse.ensures in
     asks g.R.Source.left g.R.Source.health g.R.Source.pulls g.Q.Asker.left g.Q.Asker.health g.Q.Asker.pulls g.W.Target.written
     g.W.Target.health c.args.limits c.args.readers.now c.read_stored.new.readers c.args.questions.now c.args.target.now

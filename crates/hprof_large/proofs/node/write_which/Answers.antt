@@ -1,8 +1,8 @@
 use Rattle.std.proofs.Common.{List, [], Result, Ok, Err, refl, subst}
 use Rattle.hprof_items.specs.FactValue.{FactValue}
 use Rattle.hprof_heap.specs.HeapFacts.{facts_of, size_of}
-use Rattle.hprof_passes.specs.declared.pass_stop.PassStop.TheVariants.{Sink}
-use Rattle.hprof_engine.specs.declared.product.WriteStop.{WriteStop}
+use Rattle.hprof_passes.specs.declared.pass_fault.PassFault.TheVariants.{Sink}
+use Rattle.hprof_engine.specs.declared.product.ProductFault.{ProductFault}
 use Rattle.hprof_lines.proofs.PassedEnds.{ends_passed}
 use Rattle.hprof_lines.specs.Stopping.{WritesText}
 use Rattle.hprof_meaning.specs.MeantClasses.{AreMeantDumps}
@@ -35,7 +35,7 @@ returns-in-Ok-write_classes_of_name g c = λ report.
     let name = c.args.name.now in
     let old = g.W.Target.written c.args.target.now in
     let new = g.W.Target.written c.write_classes_of_name.new.target in
-    let answer : Result (Unit {0}) WriteStop = Ok c.in-Ok-write_classes_of_name.field-0 in
+    let answer : Result (Unit {0}) ProductFault = Ok c.in-Ok-write_classes_of_name.field-0 in
     let MakeUp = g.O.Objects.make_up objects ids facts in
     let agree = g.O.Objects.agree objects ids facts in
     let tells = g.O.Objects.tells objects ids facts in
@@ -62,7 +62,7 @@ returns-in-Err-write_classes_of_name g c = λ report.
     let old = g.W.Target.written c.args.target.now in
     let new = g.W.Target.written c.write_classes_of_name.new.target in
     let stop = c.in-Err-write_classes_of_name.stop in
-    let answer : Result (Unit {0}) WriteStop = Err stop in
+    let answer : Result (Unit {0}) ProductFault = Err stop in
     let MakeUp = g.O.Objects.make_up objects ids facts in
     let agree = g.O.Objects.agree objects ids facts in
     let tells = g.O.Objects.tells objects ids facts in

@@ -16,8 +16,9 @@ loop-fact-preserved-in-Some-to_class_dump c =
     let table = facts_of_table tables.Classes (facts_of c.args.heap.now) in
     let given = c.table_facts-fact-items.ensures in
     came_more c.id_size-ids.result table (facts_left c.loop-fact.fact-iterator) (facts_left c.next.new.self) c.loop-fact.known
-    c.come.new.self (value_of c.in-Some.fact) c.loop-fact.invariant c.in-Some.ensures.steps.0 (class_value c.in-Some-to_class_dump.dump)
-    c.in-Some-to_class_dump.ensures.found (subst IsCanonicalOrder given.all given.ordered) c.in_ok-come.ensures.ok
+    c.add_class.new.self (value_of c.in-Some.fact) c.loop-fact.invariant c.in-Some.ensures.steps.0
+    (class_value c.in-Some-to_class_dump.dump)
+    c.in-Some-to_class_dump.ensures.found (subst IsCanonicalOrder given.all given.ordered) c.in_ok-add_class.ensures.ok
 
 pub loop-fact-preserved : goal.loop-fact-preserved
 loop-fact-preserved c =

@@ -2,7 +2,7 @@ use Rattle.std.proofs.Common.{ℕ, List, Result, subst}
 use Rattle.std.proofs.lemmas.List.{nil_from_length}
 use Rattle.hprof_merge.specs.Rows.{ByteRow}
 use Rattle.hprof_runs.specs.Runs.{scratch_of}
-use Rattle.hprof_objects.specs.declared.object_stop.ObjectStop.{ObjectStop}
+use Rattle.hprof_objects.specs.declared.object_fault.ObjectFault.{ObjectFault}
 use Rattle.hprof_objects.specs.Giving.{IsNowhere, IsThere, PicksHeld}
 use Rattle.hprof_objects.specs.Searched.{StopsIn}
 use Rattle.hprof_objects.specs.SearchedLists.{cuts_in}
@@ -59,7 +59,7 @@ returns-in_err-give_one-clause-picks g c =
     row there) in
     let gave = subst (λ (l : List ℕ). GaveSoFar g.T.RowSink.steps c.args.wanted.now all l c.args.sink.now now.sink) is
     (now.invariant.gave all held) in
-    at_error (λ (r : Result (Unit {0}) (ObjectStop g.row.T-Fault.Denot)). PicksHeld g.T.RowSink.steps g.T.RowSink.refuses
+    at_error (λ (r : Result (Unit {0}) (ObjectFault g.row.T-Fault.Denot)). PicksHeld g.T.RowSink.steps g.T.RowSink.refuses
     c.args.wanted.now all r c.args.sink.now c.give_one.new.sink) c.from_residual.result c.in_err-give_one.field-0.0
     (gave_stops g.T.RowSink.steps g.T.RowSink.refuses c.args.wanted.now all id after c.args.sink.now now.sink gave rises held.ascends
     (IsThere g.S.Target.written scratch reader.limits told c.args.rows.now (cuts_in now.lists))

@@ -1,7 +1,7 @@
 use Rattle.std.proofs.Common.{◌≡◌, ◌∷◌, [], List, false, subst, sym, refl, arith, rules}
 use Rattle.hprof_merge.specs.Rows.{ByteRow}
 use Rattle.hprof_merge.specs.Run.{Runs}
-use Rattle.hprof_objects.specs.declared.object_stop.ObjectStop.{ObjectStop}
+use Rattle.hprof_objects.specs.declared.object_fault.ObjectFault.{ObjectFault}
 use Rattle.hprof_objects.specs.declared.stretch_fault.StretchFault.TheVariants.{Changed}
 use Rattle.hprof_objects.specs.PickedCuts.{TellsCuts}
 use Rattle.hprof_objects.proofs.OpeningFaults.{not_there}
@@ -19,7 +19,7 @@ pub returns-then-stretch-count-clause-tells : goal.returns-then-stretch-count-cl
 returns-then-stretch-count-clause-tells g c =
     let cut = c.args.cut.now in
     let told = g.P.Parts.bytes c.args.parts.now in
-    subst (λ (s : ObjectStop g.row.T-Fault.Denot). TellsCuts c.args.limits told (cut ∷ []) s) (sym c.part_stop.ensures)
+    subst (λ (s : ObjectFault g.row.T-Fault.Denot). TellsCuts c.args.limits told (cut ∷ []) s) (sym c.part_stop.ensures)
     (cut_refuses g.row.T-Fault.Denot c.args.limits told cut Changed
     (not_there c.args.limits told cut.stretch (omega (arith, c.count.ensures, c.if-stretch-count.true))))
 
@@ -27,7 +27,7 @@ pub returns-in-Err-clause-tells : goal.returns-in-Err-clause-tells
 returns-in-Err-clause-tells g c =
     let cut = c.args.cut.now in
     let told = g.P.Parts.bytes c.args.parts.now in
-    subst (λ (s : ObjectStop g.row.T-Fault.Denot). TellsCuts c.args.limits told (cut ∷ []) s) (sym c.part_stop-in-Err.ensures)
+    subst (λ (s : ObjectFault g.row.T-Fault.Denot). TellsCuts c.args.limits told (cut ∷ []) s) (sym c.part_stop-in-Err.ensures)
     (cut_refuses g.row.T-Fault.Denot c.args.limits told cut c.in-Err.fault c.in-Err.ensures.fault)
 
 pub returns-clause-rows : goal.returns-clause-rows

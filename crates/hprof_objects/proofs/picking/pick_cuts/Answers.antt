@@ -1,6 +1,6 @@
 use Rattle.std.proofs.Common.{Result}
 use Rattle.std.proofs.lemmas.List.{nil_from_length}
-use Rattle.hprof_objects.specs.declared.object_stop.ObjectStop.{ObjectStop}
+use Rattle.hprof_objects.specs.declared.object_fault.ObjectFault.{ObjectFault}
 use Rattle.hprof_objects.specs.Picks.{PicksOf}
 use Rattle.hprof_objects.proofs.PassedOn.{at_error, if_error}
 use Rattle.hprof_objects.proofs.PickedCuts.{all_cuts, among_tells, cut_done, cut_stops, left_after, left_first, next_cut, no_cuts}
@@ -23,7 +23,7 @@ returns-in_err-pick_cut-clause-rows g c = λ reads rows cut up same.
     let next = next_cut steps c.args.wanted.now c.args.limits reads rows up now.rest.now c.in-Some.after.now its now.left.now
     c.from_key-left.result.now c.args.sink.now now.sink c.in-Some.ensures.cases.0 c.from_key-left.ensures.same
     (now.invariant.picked reads rows cut up same) in
-    at_error (λ (r : Result (Unit {0}) (ObjectStop g.row.T-Fault.Denot)). PicksOf steps g.T.RowSink.refuses c.args.wanted.now rows r
+    at_error (λ (r : Result (Unit {0}) (ObjectFault g.row.T-Fault.Denot)). PicksOf steps g.T.RowSink.refuses c.args.wanted.now rows r
     c.args.sink.now c.pick_cut.new.sink) c.from_residual.result c.in_err-pick_cut.field-0.0
     (cut_stops steps c.args.wanted.now c.args.limits reads rows up now.rest.now c.in-Some.after.now its now.left.now
     c.from_key-left.result.now c.args.sink.now now.sink c.in-Some.ensures.cases.0 c.from_key-left.ensures.same

@@ -1,5 +1,5 @@
 use Rattle.std.proofs.Common.{◌≡◌, false, subst, sym, Err, arith, rules}
-use Rattle.hprof_objects.specs.declared.object_stop.ObjectStop.{ObjectStop}
+use Rattle.hprof_objects.specs.declared.object_fault.ObjectFault.{ObjectFault}
 use Rattle.hprof_objects.specs.PickedCuts.{TellsCursor}
 use Rattle.hprof_objects.specs.Picks.{PicksOf}
 use Rattle.hprof_objects.proofs.PickedRows.{at_most_end, cursor_tells, first_stops, none_picked}
@@ -31,7 +31,7 @@ pub returns-in-Err-advance-clause-rows : goal.returns-in-Err-advance-clause-rows
 returns-in-Err-advance-clause-rows g c = λ rows comes count ends.
     let steps = g.T.RowSink.steps in
     let refuses = g.T.RowSink.refuses in
-    subst (λ (s : ObjectStop g.row.T-Fault.Denot). PicksOf steps refuses c.args.wanted.now {A = Unit {0}} rows (Err s) c.args.sink.now
+    subst (λ (s : ObjectFault g.row.T-Fault.Denot). PicksOf steps refuses c.args.wanted.now {A = Unit {0}} rows (Err s) c.args.sink.now
     c.give.new.sink) (sym c.part_stop.ensures)
     (first_stops (Unit {0}) steps refuses c.args.wanted.now rows c.args.sink.now c.give.new.sink c.args.cut.now.stretch.part
     c.in-Err-advance.fault
@@ -44,7 +44,7 @@ returns-in-Err-advance-clause-tells g c =
     let left = g.R.Source.left in
     let health = g.R.Source.health in
     let pulls = g.R.Source.pulls in
-    subst (λ (s : ObjectStop g.row.T-Fault.Denot). TellsCursor left health pulls c.args.cut.now.stretch.part c.args.cursor.now s) (sym
+    subst (λ (s : ObjectFault g.row.T-Fault.Denot). TellsCursor left health pulls c.args.cut.now.stretch.part c.args.cursor.now s) (sym
     c.part_stop.ensures)
     (cursor_tells g.row.T-Fault.Denot left health pulls c.args.cut.now.stretch.part c.args.cursor.now c.loop.cursor c.advance.new.self
     c.in-Err-advance.fault c.in-Err-advance.ensures.fails (λ rows comes.

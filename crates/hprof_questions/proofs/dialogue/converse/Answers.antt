@@ -3,7 +3,7 @@ use Rattle.hprof_questions.proofs.Dialogues.{ends_stopped, hindered, lost_passed
 use Rattle.hprof_questions.proofs.dialogue.converse.Goals as goal
 use Rattle.std.proofs.KnownBytes.{Consumes-nil}
 use Rattle.hprof_questions.proofs.Hearing.{heard_none}
-use Rattle.hprof_questions.specs.declared.stop.DialogueStop.TheVariants.{OutOfMemory}
+use Rattle.hprof_questions.specs.declared.dialogue_fault.DialogueFault.TheVariants.{OutOfMemory}
 
 -- there is no room for a piece of the questions
 pub returns-in_default-clause-dialogue : goal.returns-in_default-clause-dialogue

@@ -110,7 +110,7 @@ loop-byte-preserved g c =
                 (rw w.line-is (taken_line (bytes ++ take place piece) c.loop-byte.line.items (c.loop-byte.invariant.takes bytes is)
                 question asks ends w.clear.new.self.items w.clear.ensures.items));
             well = rw w.target-is w.in_ok-take_question.ensures.health;
-            keeps = rw w.kept-is w.take_question.ensures.kept;
+            keeps = rw w.cache-is w.take_question.ensures.kept;
             room = rw w.line-is (omega (arith, w.clear.ensures.capacity, c.loop-byte.invariant.room));
           }
       | else-byte-eq10 w ↦ record {
@@ -127,7 +127,7 @@ loop-byte-preserved g c =
             (rw w.line-is (taken_byte (bytes ++ take place piece) c.loop-byte.line.items (c.loop-byte.invariant.takes bytes is)
             (get_or piece place 0) w.keep.new.line.items w.if-byte-eq10.false w.keep.ensures.kept));
         well = rw w.target-is c.loop-byte.invariant.well;
-        keeps = rw w.kept-is c.loop-byte.invariant.keeps;
+        keeps = rw w.cache-is c.loop-byte.invariant.keeps;
         room = rw w.line-is w.keep.ensures.room;
       }
     ]

@@ -12,6 +12,6 @@ invariant-loop-byte g l = record {
       → Heard (g.A.Answers.is_answer l.answers heap) (bytes ++ take l.byte-index l.piece) start (g.W.Target.written l.target) l.line.items;
   takes : (bytes : List ℕ) → TakesLines bytes l.fn.line.items → TakesLines (bytes ++ take l.byte-index l.piece) l.line.items;
   well : g.W.Target.health l.target ≡ Well;
-  keeps : g.A.Answers.keeps l.answers l.kept;
+  keeps : g.A.Answers.keeps l.answers l.cache;
   room : 4098 ≤ vec_capacity l.line;
 }

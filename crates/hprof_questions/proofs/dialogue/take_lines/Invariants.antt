@@ -10,7 +10,7 @@ invariant-turns g l = record {
       l.fn.target l.questions l.target l.line.items;
   asking : g.Q.Asker.health l.questions ≡ Well;
   well : g.W.Target.health l.target ≡ Well;
-  keeps : g.A.Answers.keeps l.answers l.kept;
+  keeps : g.A.Answers.keeps l.answers l.cache;
   room : 4098 ≤ vec_capacity l.line;
   pulls : l._turn ≤ g.Q.Asker.pulls l.questions;
 }

@@ -13,10 +13,10 @@ returns-in-Ok-finish-clause-exact g c =
     let facts = facts_of c.args.heap.now in
     let sink = c.in-Ok.sink in
     let made = c.in-Ok-finish.made in (
-      c.in-Ok-pass.ensures.agree,
+      c.in_ok-pass.ensures.agree,
       λ all make.
           let whole = g.met.O.Objects.whole c.args.objects.now ids facts all make in
-          let took = c.in-Ok-pass.ensures.given all make in
+          let took = c.in_ok-pass.ensures.given all make in
           let stays = stays_over ids (objects_among all) sink c.pass.new.sink took in
           let seen = all_seen ids all [] (objects_among all) 0 sink c.pass.new.sink took (c.in-Ok.ensures.seen all whole)
           (λ number early. absurd (omega (arith, early, c.in-Ok.ensures.none))) (objects_ascend all whole.ordered) in (

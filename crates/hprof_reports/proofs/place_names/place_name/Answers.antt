@@ -3,10 +3,10 @@ use Rattle.hprof_naming.proofs.Namings.{of_text}
 use Rattle.hprof_reports.proofs.Places.{named_field, named_static}
 use Rattle.hprof_reports.proofs.place_names.place_name.Goals as goal
 
-pub returns-in-Fixed-clause-name : goal.returns-in-Fixed-clause-name
-returns-in-Fixed-clause-name c = λ skips edge.
+pub returns-in-Static-clause-name : goal.returns-in-Static-clause-name
+returns-in-Static-clause-name c = λ skips edge.
     let it = c.args.edge in
-    named_static (size_of c.args.heap.now) (facts_of c.args.heap.now) it.from it.position it.to it.via c.static_name.result c.in-Fixed.is
+    named_static (size_of c.args.heap.now) (facts_of c.args.heap.now) it.from it.position it.to it.via c.static_name.result c.in-Static.is
     c.static_name.ensures.some c.static_name.ensures.none edge.1
 
 pub returns-in-Field-clause-name : goal.returns-in-Field-clause-name

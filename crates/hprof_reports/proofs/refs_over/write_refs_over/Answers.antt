@@ -1,6 +1,6 @@
 use Rattle.std.proofs.Common.{Err, List, Ok, Result, refl, subst}
 use Rattle.std.specs.Prelude.{map}
-use Rattle.hprof_engine.specs.declared.product.WriteStop.{WriteStop}
+use Rattle.hprof_engine.specs.declared.product.ProductFault.{ProductFault}
 use Rattle.hprof_heap.specs.HeapFacts.{facts_of, size_of}
 use Rattle.hprof_edges.specs.declared.edge.Edge.{Edge}
 use Rattle.hprof_lines.specs.Line.{text_of_lines}
@@ -17,7 +17,7 @@ returns-in-Ok-write_refs g c =
     let old = g.W.Target.written c.args.target.now in
     let new = g.W.Target.written c.write_refs.new.target in
     let edges = c.in-Ok.edges.items in
-    let answer : Result (Unit {0}) WriteStop = Ok c.in-Ok-write_refs.field-0 in
+    let answer : Result (Unit {0}) ProductFault = Ok c.in-Ok-write_refs.field-0 in
     ends_passed (g.O.Objects.make_up objects ids facts) (g.O.Objects.agree objects ids facts) (g.O.Objects.tells objects ids facts)
     (λ all. IsRefsText ids all c.args.id) g.W.Target.written g.W.Target.health c.args.target.now c.write_refs.new.target answer
     c.in-Ok.ensures.0
@@ -37,7 +37,7 @@ returns g c =
     let old = g.W.Target.written c.args.target.now in
     let new = g.W.Target.written c.write_refs.new.target in
     let edges = c.in-Ok.edges.items in
-    let answer : Result (Unit {0}) WriteStop = Err c.in-Err-write_refs.stop in
+    let answer : Result (Unit {0}) ProductFault = Err c.in-Err-write_refs.stop in
     ends_passed (g.O.Objects.make_up objects ids facts) (g.O.Objects.agree objects ids facts) (g.O.Objects.tells objects ids facts)
     (λ all. IsRefsText ids all c.args.id) g.W.Target.written g.W.Target.health c.args.target.now c.write_refs.new.target answer
     c.in-Ok.ensures.0

@@ -1,5 +1,5 @@
 use Rattle.std.proofs.Common.{Err, Ok, Result}
-use Rattle.hprof_engine.specs.declared.product.WriteStop.{WriteStop}
+use Rattle.hprof_engine.specs.declared.product.ProductFault.{ProductFault}
 use Rattle.hprof_heap.specs.HeapFacts.{facts_of, size_of}
 use Rattle.hprof_lines.proofs.PassedEnds.{ends_passed}
 use Rattle.hprof_lines.specs.Stopping.{WritesText}
@@ -14,7 +14,7 @@ returns-in-Ok-write_show g c =
     let objects = c.args.objects.now in
     let old = g.W.Target.written c.args.target.now in
     let new = g.W.Target.written c.write_show.new.target in
-    let answer : Result (Unit {0}) WriteStop = Ok c.in-Ok-write_show.field-0 in
+    let answer : Result (Unit {0}) ProductFault = Ok c.in-Ok-write_show.field-0 in
     ends_passed (g.O.Objects.make_up objects ids facts) (g.O.Objects.agree objects ids facts) (g.O.Objects.tells objects ids facts)
     (λ all. IsShowText ids all c.args.id) g.W.Target.written g.W.Target.health c.args.target.now c.write_show.new.target answer
     c.in-Ok.ensures.0
@@ -29,7 +29,7 @@ returns g c =
     let objects = c.args.objects.now in
     let old = g.W.Target.written c.args.target.now in
     let new = g.W.Target.written c.write_show.new.target in
-    let answer : Result (Unit {0}) WriteStop = Err c.in-Err-write_show.stop in
+    let answer : Result (Unit {0}) ProductFault = Err c.in-Err-write_show.stop in
     ends_passed (g.O.Objects.make_up objects ids facts) (g.O.Objects.agree objects ids facts) (g.O.Objects.tells objects ids facts)
     (λ all. IsShowText ids all c.args.id) g.W.Target.written g.W.Target.health c.args.target.now c.write_show.new.target answer
     c.in-Ok.ensures.0

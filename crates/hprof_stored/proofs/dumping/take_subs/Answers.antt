@@ -11,7 +11,7 @@ use Rattle.hprof_segments.specs.Taking.{HasTaken}
 use Rattle.hprof_segments.specs.Writer.{held_bytes}
 use Rattle.hprof_segments.proofs.Takes.{taken_none}
 use Rattle.hprof_segments.specs.declared.segment_fault.SegmentFault.{SegmentFault}
-use Rattle.hprof_objects.specs.declared.object_stop.ObjectStop.{ObjectStop}
+use Rattle.hprof_objects.specs.declared.object_fault.ObjectFault.{ObjectFault}
 use Rattle.hprof_stored.specs.Dumping.{TakesSubs, WritesSome, subs_of}
 use Rattle.hprof_stored.proofs.Subs.{at_error, front_of_all, one_behind}
 use Rattle.hprof_stored.proofs.dumping.take_subs.Goals as goal
@@ -39,7 +39,7 @@ returns-in_err-take_sub-clause-taken g c =
     let new = g.W.Target.written c.take_sub.new.target in
     let done = loop.invariant.done in
     let next = subst (λ (i : IdSize). subs_left loop.rows ≡ sub_fact i row ∷ rest) loop.invariant.has_ids c.in-Some.ensures.first in
-    at_error (λ (r : Result (Unit {0}) (ObjectStop SegmentFault)). TakesSubs start new (held_bytes c.take_sub.new.writer) (subs_of heap) r)
+    at_error (λ (r : Result (Unit {0}) (ObjectFault SegmentFault)). TakesSubs start new (held_bytes c.take_sub.new.writer) (subs_of heap) r)
     c.from_residual.result c.in_err-take_sub.field-0.0
     (front_of_all (dump_bytes ids) start new done (sub_fact ids row) rest (sub_facts heap.facts)
     (loop.invariant.split ∙ ap (λ (l : List FactValue). done ++ l) next)

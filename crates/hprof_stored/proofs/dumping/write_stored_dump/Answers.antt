@@ -8,7 +8,7 @@ use Rattle.hprof_devices.proofs.Writes.{WritesFront-more, WritesFront-then}
 use Rattle.hprof_heap.specs.Heap.{heap_of}
 use Rattle.hprof_segments.specs.ByteSegments.{segment_records}
 use Rattle.hprof_segments.specs.declared.segment_fault.SegmentFault.{SegmentFault}
-use Rattle.hprof_objects.specs.declared.object_stop.ObjectStop.{ObjectStop}
+use Rattle.hprof_objects.specs.declared.object_fault.ObjectFault.{ObjectFault}
 use Rattle.hprof_objects.specs.MergedObjects.{TellsChange}
 use Rattle.hprof_stored.specs.Dumping.{WritesOrStops, WritesSome, bytes_of, dump_with, front_bytes, subs_of}
 use Rattle.hprof_stored.proofs.Dumped.{dump_is}
@@ -32,7 +32,7 @@ returns-in_err-take_subs-clause-dump g c = λ reads rows told union.
     let mid = g.W.Target.written c.write_front.new.target in
     let new = g.W.Target.written c.take_subs.new.target in
     let records = segment_records (subs_of heap ++ bytes_of rows) in
-    at_error (λ (r : Result (Unit {0}) (ObjectStop SegmentFault)). WritesOrStops old new r (dump_with heap rows))
+    at_error (λ (r : Result (Unit {0}) (ObjectFault SegmentFault)). WritesOrStops old new r (dump_with heap rows))
     c.from_residual.result c.in_err-take_subs.field-0.0
     (subst (WritesSome old new) (sym (dump_is heap rows))
     (WritesFront-then old mid new (front_bytes V102 heap) (records ++ head_bytes 0x2c 0 0) c.in_default.ensures.bytes
@@ -46,7 +46,7 @@ returns-in_err-take_objects-clause-dump g c = λ reads rows told union.
     let mid = g.W.Target.written c.write_front.new.target in
     let new = g.W.Target.written c.take_objects.new.target in
     let subs = subs_of heap ++ bytes_of rows in
-    at_error (λ (r : Result (Unit {0}) (ObjectStop SegmentFault)). WritesOrStops old new r (dump_with heap rows))
+    at_error (λ (r : Result (Unit {0}) (ObjectFault SegmentFault)). WritesOrStops old new r (dump_with heap rows))
     c.from_residual-in_err-take_objects.result c.in_err-take_objects.field-0.0
     (subst (WritesSome old new) (sym (dump_is heap rows))
     (WritesFront-then old mid new (front_bytes V102 heap) (segment_records subs ++ head_bytes 0x2c 0 0) c.in_default.ensures.bytes
@@ -81,9 +81,9 @@ returns-in-Err-write_end-clause-dump g c = λ reads rows told union.
 
 pub returns-in_err-take_subs-clause-again : goal.returns-in_err-take_subs-clause-again
 returns-in_err-take_subs-clause-again g c =
-    let changes : ObjectStop SegmentFault → Type 0 =
+    let changes : ObjectFault SegmentFault → Type 0 =
     TellsChange g.S.Target.written g.S.Target.health c.args.limits (g.P.Parts.bytes c.args.parts.now) c.args.objects.now in
-    at_error (λ (r : Result (Unit {0}) (ObjectStop SegmentFault)). IfErr r changes) c.from_residual.result c.in_err-take_subs.field-0.0
+    at_error (λ (r : Result (Unit {0}) (ObjectFault SegmentFault)). IfErr r changes) c.from_residual.result c.in_err-take_subs.field-0.0
     (no_change g.S.Target.written g.S.Target.health c.args.limits (g.P.Parts.bytes c.args.parts.now) c.args.objects.now
     c.in_err-take_subs.field-0.0 c.in_err-take_subs.ensures.target)
     c.from_residual.ensures.1

@@ -1,7 +1,7 @@
 use Rattle.std.proofs.Common.{◌≡◌, ◌≤◌, Some, arith, length, refl, sym, subst}
 use Rattle.hprof_items.specs.Spelling.{longest_body}
 use Rattle.hprof_heap.specs.Heap.{heap_of}
-use Rattle.hprof_engine.specs.declared.product_refusal.ProductRefusal.TheVariants.{DumpTooLong}
+use Rattle.hprof_engine.specs.declared.heap_fault.HeapFault.TheVariants.{DumpTooLong}
 use Rattle.hprof_engine.specs.declared.tool_fault.ToolFault.{ToolFault}
 use Rattle.hprof_engine.specs.Joining101.{IsDump101Text, Refuses101}
 use Rattle.hprof_engine.specs.Makes.{Makes}

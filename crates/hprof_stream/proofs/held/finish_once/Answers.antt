@@ -5,7 +5,7 @@ use Rattle.std.proofs.lemmas.Result.{err_from_is_err_and}
 use Rattle.hprof_items.specs.declared.walk.Walk.{Walk}
 use Rattle.hprof_values.proofs.Numbers.{IsBytes-take}
 use Rattle.hprof_values.specs.Ids.{IsBytes}
-use Rattle.hprof_values.specs.declared.stop.Stop.TheVariants.{Short}
+use Rattle.hprof_values.specs.declared.parse_stop.ParseStop.TheVariants.{Short}
 use Rattle.hprof_stream.specs.declared.progress.Progress.{Progress}
 use Rattle.hprof_stream.specs.Progress.{place_of}
 use Rattle.hprof_stream.specs.Item.{item_at}

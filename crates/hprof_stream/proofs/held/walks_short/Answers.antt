@@ -11,12 +11,13 @@ returns-in-Err-Short-clause-walk c is =
     let header = c.in-Some.header in
     let bytes = c.args.rest.now.held.items in
     let from = c.args.rest.now.walk in
-    let to = c.go_on-walk.result.0 in
+    let to = c.resume_sub_record-walk.result.0 in
     let place = place_within progress.header progress.room header c.in-Some.is (some_room progress.room c.if-progress-eq0.false) in
     let within = subst (λ (p : Place). IsWalkOf longest p bytes from) place is in
-    let kept = rw c.deref.ensures.value at c.go_on-walk.ensures.kept in
-    let end = rw c.deref.ensures.value at c.go_on-walk.ensures.end in
-    let placed = placed_at (record { bytes = c.deref.result; room = progress.room; longest = longest }) to c.go_on-walk.ensures.placed in
+    let kept = rw c.deref.ensures.value at c.resume_sub_record-walk.ensures.kept in
+    let end = rw c.deref.ensures.value at c.resume_sub_record-walk.ensures.end in
+    let placed = placed_at (record { bytes = c.deref.result; room = progress.room; longest = longest }) to
+    c.resume_sub_record-walk.ensures.placed in
     let on = IsWalkOf-on longest header progress.room bytes from within to (omega (arith, placed, ap length c.deref.ensures.value))
     kept in (
       subst (λ (p : Place). IsWalkOf longest p bytes to) (sym place) on,

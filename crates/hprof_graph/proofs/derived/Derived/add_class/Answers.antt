@@ -17,10 +17,10 @@ returns-clause-adds c = λ before adds is.
     let knew = subst (λ (i : IdSize). Knows i before derived.known) (sym size) is.deriving_is.knows in
     let new = class_new ids before facts dump adds in
     let more = dumps_more ids before facts dump adds in
-    let knows = subst (λ (i : IdSize). Knows i facts c.come.new.self) size (c.in_ok-woken.ensures.ok before facts knew new more) in
+    let knows = subst (λ (i : IdSize). Knows i facts c.add_class.new.self) size (c.in_ok-woken.ensures.ok before facts knew new more) in
     let woken = c.in_ok-woken.ensures.woken before facts knew new more in
     let came = class_came ids before facts dump adds derived is c.class_edges.new.into
-    (λ edges of. c.in_ok-class_edges.ensures.holds edges of) c.come.new.self knows in
+    (λ edges of. c.in_ok-class_edges.ensures.holds edges of) c.add_class.new.self knows in
     let laid = c.in_ok-wake_all.ensures.lays is.laid
     (λ class there. ((woken.each class).0 (subst (λ (l : List ℕ). Contains l class) c.deref.ensures.value there)).0) came in
     class_added ids before facts dump adds derived is c.wake_all.new.self c.in_ok-woken.woken.items woken

@@ -19,8 +19,8 @@ AreBehind derived start ids facts edges = edges.now ≡ drop start (edges_in der
 pub returns : goal.returns
 returns c =
     let live = c.args.self.now in
-    let other = c.bring_behind-start.new.self in
-    let start = c.bring_behind-start.result in
+    let other = c.partition_by_target-start.new.self in
+    let start = c.partition_by_target-start.result in
     let id = c.args.id in
     let lent : IsAnswer (AreBehind other start) (outcome_of live) c.lend_edges.result =
     subst (λ (o : Result HeapValue Refusal). IsAnswer (AreBehind other start) o c.lend_edges.result) (outcome_stays live other)
@@ -31,9 +31,9 @@ returns c =
         record {
           seen = refl;
           goes_on = record {
-            current = current_stays live other c.bring_behind-start.ensures.same;
+            current = current_stays live other c.partition_by_target-start.ensures.same;
             keeps =
-                c.bring_behind-start.ensures.keeps;
+                c.partition_by_target-start.ensures.keeps;
           };
         },
       ),
@@ -44,13 +44,13 @@ returns c =
             answer_so (AreBehind other start) (λ ids facts (edges : Bor (List Edge)). AreReferrers ids facts id edges.now) (outcome_of live)
             live.derived c.lend_edges.result lent watches.current.derived
             (λ ids facts edges is same. subst (AreReferrers ids facts id) (sym same)
-            (c.bring_behind-start.ensures.behind ids facts is watches.keeps));
+            (c.partition_by_target-start.ensures.behind ids facts is watches.keeps));
         kept = λ current.
             answer_so (AreBehind other start)
             (λ ids facts (edges : Bor (List Edge)). AreEdges ids facts (λ edge. (edge.to ≡ id) × (keeps_of live.derived edge ≡ true))
             edges.now) (outcome_of live) live.derived c.lend_edges.result lent current.derived
             (λ ids facts edges is same. subst
             (AreEdges ids facts (λ (edge : Edge). (edge.to ≡ id) × (keeps_of live.derived edge ≡ true))) (sym same)
-            (c.bring_behind-start.ensures.kept ids facts is));
+            (c.partition_by_target-start.ensures.kept ids facts is));
       },
     )

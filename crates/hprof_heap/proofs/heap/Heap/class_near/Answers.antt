@@ -2,7 +2,7 @@ use Rattle.std.proofs.Common.{Some, ap, sym, ◌∙◌, rules}
 use Rattle.std.specs.Option.{option_map}
 use Rattle.hprof_items.specs.FactValue.{FactValue, value_of}
 use Rattle.hprof_rows.specs.declared.key.Key.TheVariants as keys
-use Rattle.hprof_rows.specs.Content.{spelled_fact}
+use Rattle.hprof_rows.specs.Content.{decode_class}
 use Rattle.hprof_rows.proofs.EachTable.{look_up_key, right_key, key_fits}
 use Rattle.hprof_rows.proofs.HeapRows.{row_spells}
 use Rattle.hprof_heap.specs.Heap.{rows_in}
@@ -11,16 +11,16 @@ use Rattle.hprof_heap.proofs.heap.Heap.class_near.Goals as goal
 pub returns-in_err-bytes-clause-value : goal.returns-in_err-bytes-clause-value
 returns-in_err-bytes-clause-value c =
     let heap = c.args.self.now in
-    ap (option_map value_of) c.from_residual.ensures ∙ ap (option_map (spelled_fact heap.tables.ids c.args.id)) c.in_err-bytes.ensures
+    ap (option_map value_of) c.from_residual.ensures ∙ ap (option_map (decode_class heap.tables.ids c.args.id)) c.in_err-bytes.ensures
     ∙ sym (look_up_key (rows_in heap) heap.sound (keys.Class c.args.id))
 
-pub spelled_fact-requires : goal.spelled_fact-requires
-spelled_fact-requires c =
+pub decode_class-requires : goal.decode_class-requires
+decode_class-requires c =
     let heap = c.args.self.now in
     let key = keys.Class c.args.id in
     let bytes = c.in_ok-bytes.bytes.now in
     let is = sym c.in_ok-bytes.ensures in (
-      spelled_fact heap.tables.ids c.args.id bytes,
+      decode_class heap.tables.ids c.args.id bytes,
       row_spells heap.tables.ids c.args.id bytes (right_key (rows_in heap) heap.sound key bytes is)
           (key_fits (rows_in heap) heap.sound key bytes is),
     )
@@ -31,10 +31,10 @@ returns-clause-value c =
     let key = keys.Class c.args.id in
     let bytes = c.in_ok-bytes.bytes.now in
     let is = sym c.in_ok-bytes.ensures in
-    ap (λ (fact : FactValue). Some fact) (c.spelled_fact.ensures.fact (spelled_fact heap.tables.ids c.args.id bytes)
+    ap (λ (fact : FactValue). Some fact) (c.decode_class.ensures.fact (decode_class heap.tables.ids c.args.id bytes)
     (row_spells heap.tables.ids c.args.id bytes (right_key (rows_in heap) heap.sound key bytes is)
     (key_fits (rows_in heap) heap.sound key bytes is)))
-    ∙ ap (option_map (spelled_fact heap.tables.ids c.args.id)) c.in_ok-bytes.ensures ∙ sym (look_up_key (rows_in heap) heap.sound key)
+    ∙ ap (option_map (decode_class heap.tables.ids c.args.id)) c.in_ok-bytes.ensures ∙ sym (look_up_key (rows_in heap) heap.sound key)
 
 pub returns-clause-lists : goal.returns-clause-lists
 returns-clause-lists c = search rules

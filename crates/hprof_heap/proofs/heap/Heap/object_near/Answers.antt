@@ -14,8 +14,8 @@ returns-in_err-kept-clause-value c =
     ap (option_map value_of) c.from_residual.ensures ∙ ap (option_map (object_fact heap.tables.ids c.args.id)) c.in_err-kept.ensures
     ∙ sym (look_up_key (rows_in heap) heap.sound (keys.Object c.args.id))
 
-pub kept_fact-requires : goal.kept_fact-requires
-kept_fact-requires c =
+pub decode_object-requires : goal.decode_object-requires
+decode_object-requires c =
     let heap = c.args.self.now in
     let key = keys.Object c.args.id in
     let bytes = c.in_ok-kept.kept.now in
@@ -31,7 +31,7 @@ returns-clause-value c =
     let key = keys.Object c.args.id in
     let bytes = c.in_ok-kept.kept.now in
     let is = sym c.in_ok-kept.ensures in
-    ap (λ (fact : FactValue). Some fact) (c.kept_fact.ensures.fact (object_fact heap.tables.ids c.args.id bytes)
+    ap (λ (fact : FactValue). Some fact) (c.decode_object.ensures.fact (object_fact heap.tables.ids c.args.id bytes)
     (row_keeps heap.tables.ids c.args.id bytes (right_key (rows_in heap) heap.sound key bytes is)
     (key_fits (rows_in heap) heap.sound key bytes is)))
     ∙ ap (option_map (object_fact heap.tables.ids c.args.id)) c.in_ok-kept.ensures ∙ sym (look_up_key (rows_in heap) heap.sound key)

@@ -14,8 +14,8 @@ returns-in_err-kept-clause-value c =
     ap (option_map value_of) c.from_residual.ensures ∙ ap (option_map (trace_fact heap.tables.ids c.args.serial)) c.in_err-kept.ensures
     ∙ sym (look_up_key (rows_in heap) heap.sound (keys.Trace c.args.serial))
 
-pub kept_trace-requires : goal.kept_trace-requires
-kept_trace-requires c =
+pub decode_trace-requires : goal.decode_trace-requires
+decode_trace-requires c =
     let heap = c.args.self.now in
     let key = keys.Trace c.args.serial in
     let kept = c.in_ok-kept.kept.now in
@@ -26,7 +26,7 @@ kept_trace-requires c =
 pub returns-clause-value : goal.returns-clause-value
 returns-clause-value c =
     let heap = c.args.self.now in
-    ap (λ (fact : FactValue). Some fact) c.kept_trace.ensures.value
+    ap (λ (fact : FactValue). Some fact) c.decode_trace.ensures.value
     ∙ ap (option_map (trace_fact heap.tables.ids c.args.serial)) c.in_ok-kept.ensures
     ∙ sym (look_up_key (rows_in heap) heap.sound (keys.Trace c.args.serial))
 

@@ -17,7 +17,7 @@ kept_is ids tag bytes fields rest dump width parts spelled behind wide =
 pub returns-clause-row : goal.returns-clause-row
 returns-clause-row c =
     let its = c.args.self.now in
-    let state = c.state_apart in
+    let state = c.state_split in
     record {
       ok = object_stated its.ids state.result c.args.id (value_of c.args.fact.now) (c.in-Some.tag.now ∷ c.split_at.result.1.now)
           (byte_rows its.objects) (byte_rows state.new.self) c.requires.order

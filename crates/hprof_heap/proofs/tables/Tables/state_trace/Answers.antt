@@ -18,7 +18,7 @@ stated_as r serial bytes content old new e ok =
 pub returns : goal.returns
 returns c =
     let its = c.args.self.now in
-    let state = c.state_four_apart in
+    let state = c.state_prefixed in
     let frames = identifiers_of c.args.frames in
     let bytes = c.bytes.ensures.spelled.spelled
     ∙ ap (λ (i : IdSize). field_bytes (id_widths i (length frames)) frames) c.requires in

@@ -3,7 +3,7 @@ use Rattle.hprof_heap.specs.HeapFacts.{facts_of, size_of}
 use Rattle.hprof_questions.specs.declared.question.Question.{Question}
 use Rattle.hprof_questions.specs.declared.question.Question.TheVariants as questions
 use Rattle.hprof_questions.specs.declared.report.Report.{Report}
-use Rattle.hprof_questions.specs.declared.stop.DialogueStop.{DialogueStop}
+use Rattle.hprof_questions.specs.declared.dialogue_fault.DialogueFault.{DialogueFault}
 use Rattle.hprof_questions.specs.Answering.{LeavesWriter, TellsLoss, WritesAnswer}
 use Rattle.hprof_ask.specs.HeapAnswers.{IsReply, reply_without_report}
 use Rattle.hprof_large.specs.Stops.{IsLostBy}
@@ -12,7 +12,7 @@ use Rattle.hprof_large.proofs.passed_answers.PassedAnswers.write_reply.Goals as 
 
 pub returns-in-Report-Heap-clause-bytes : goal.returns-in-Report-Heap-clause-bytes
 returns-in-Report-Heap-clause-bytes g c = λ whole is.
-    let it = c.write_kept.ensures.bytes whole is in
+    let it = c.write_cached.ensures.bytes whole is in
     let asked = c.in-Report-Heap in (
       it.0,
       subst (λ (question : Question). IsReply c.args.self.now.summaries.now.items whole.ids whole.facts question it.0)
@@ -51,12 +51,12 @@ returns-in_default g c =
       bytes = λ whole is. (
         text,
         line_reply self.summaries.now.items whole.ids whole.facts c.args.question c.in_default.not-Report,
-        subst (λ (r : Result (Unit {0}) DialogueStop). WritesAnswer old new r text) (sym c.answer_of.ensures)
+        subst (λ (r : Result (Unit {0}) DialogueFault). WritesAnswer old new r text) (sym c.answer_of.ensures)
             (answered old new health wrote.result text wrote.ensures.health wrote.ensures.bytes),
       );
-      health = subst (λ (r : Result (Unit {0}) DialogueStop). LeavesWriter r health) (sym c.answer_of.ensures)
+      health = subst (λ (r : Result (Unit {0}) DialogueFault). LeavesWriter r health) (sym c.answer_of.ensures)
           (leaves_writer wrote.result health wrote.ensures.health);
-      lost = subst (λ (r : Result (Unit {0}) DialogueStop). TellsLoss Loses r) (sym c.answer_of.ensures)
+      lost = subst (λ (r : Result (Unit {0}) DialogueFault). TellsLoss Loses r) (sym c.answer_of.ensures)
           (loses_nothing Loses wrote.result);
       texts = c.requires.texts;
       references = c.requires.references;

@@ -1,10 +1,10 @@
 use Rattle.std.proofs.Common.{◌∙◌, ap, codes, inr, ℕ, List, Option, refl, Result, subst, sym}
 use Rattle.hprof_heap.specs.HeapFacts.{facts_of, size_of}
-use Rattle.hprof_passes.specs.declared.pass_stop.PassStop.TheVariants.{Sink}
-use Rattle.hprof_engine.specs.declared.product.WriteStop.{WriteStop}
-use Rattle.hprof_engine.specs.declared.product.WriteStop.TheVariants as writes
+use Rattle.hprof_passes.specs.declared.pass_fault.PassFault.TheVariants.{Sink}
+use Rattle.hprof_engine.specs.declared.product.ProductFault.{ProductFault}
+use Rattle.hprof_engine.specs.declared.product.ProductFault.TheVariants as writes
 use Rattle.hprof_lines.specs.Stopping.{WritesText}
-use Rattle.hprof_questions.specs.declared.stop.DialogueStop.{DialogueStop}
+use Rattle.hprof_questions.specs.declared.dialogue_fault.DialogueFault.{DialogueFault}
 use Rattle.hprof_questions.specs.Answering.{WritesAnswer}
 use Rattle.hprof_large.proofs.Answering.{answered, lacks_class, lost, replied, stopped}
 use Rattle.hprof_large.proofs.passed_answers.PassedAnswers.write_report.Goals as goal
@@ -38,7 +38,7 @@ returns-in-Err-Sink-Write-clause-bytes g c =
     c.write_by_passes.new.target (g.O.Objects.agree self.objects (size_of self.heap.now) (facts_of self.heap.now))
     (g.O.Objects.tells self.objects (size_of self.heap.now)
     (facts_of self.heap.now)) c.args.report c.requires.well it.field-0 (writes.Write it.fault)
-    (it.field-0-is ∙ ap (λ (stop : WriteStop). Sink stop) it.field-0-0-is) (λ refusal e. absurd cc) it.ensures.ends).0
+    (it.field-0-is ∙ ap (λ (stop : ProductFault). Sink stop) it.field-0-0-is) (λ refusal e. absurd cc) it.ensures.ends).0
 
 pub returns-in-Err-Sink-OutOfMemory-clause-bytes : goal.returns-in-Err-Sink-OutOfMemory-clause-bytes
 returns-in-Err-Sink-OutOfMemory-clause-bytes g c =
@@ -49,7 +49,7 @@ returns-in-Err-Sink-OutOfMemory-clause-bytes g c =
     c.write_by_passes.new.target (g.O.Objects.agree self.objects (size_of self.heap.now) (facts_of self.heap.now))
     (g.O.Objects.tells self.objects (size_of self.heap.now)
     (facts_of self.heap.now)) c.args.report c.requires.well it.field-0 writes.OutOfMemory
-    (it.field-0-is ∙ ap (λ (stop : WriteStop). Sink stop) it.field-0-0-is) (λ refusal e. absurd cc) it.ensures.ends).0
+    (it.field-0-is ∙ ap (λ (stop : ProductFault). Sink stop) it.field-0-0-is) (λ refusal e. absurd cc) it.ensures.ends).0
 
 -- no class has the name
 pub returns-in-Err-Sink-Refused-clause-bytes : goal.returns-in-Err-Sink-Refused-clause-bytes
@@ -61,13 +61,13 @@ returns-in-Err-Sink-Refused-clause-bytes g c = λ whole is.
     c.write_by_passes.new.target (g.O.Objects.agree self.objects (size_of self.heap.now) (facts_of self.heap.now))
     (g.O.Objects.tells self.objects (size_of self.heap.now)
     (facts_of self.heap.now)) c.args.report c.requires.well it.field-0 it.field-0-0-0
-    (it.field-0-is ∙ ap (λ (stop : WriteStop). Sink stop) it.field-0-0-is) it.ensures.ends in
+    (it.field-0-is ∙ ap (λ (stop : ProductFault). Sink stop) it.field-0-0-is) it.ensures.ends in
     let text = codes "no class has this name\n" in
     let wrote = c.write_reply_without_report in
     let new = g.W.Target.written wrote.new.target in (
       text,
       inr (lacks.1 whole is, refl),
-      subst (λ (r : Result (Unit {0}) DialogueStop).
+      subst (λ (r : Result (Unit {0}) DialogueFault).
           WritesAnswer (g.W.Target.written c.args.target.now) new r text) (sym c.answer_of.ensures)
           (answered (g.W.Target.written c.args.target.now) new (g.W.Target.health wrote.new.target) wrote.result text wrote.ensures.health
           (subst (λ (old : Option (List ℕ)). WritesText old new wrote.result text) (ap g.W.Target.written lacks.0) wrote.ensures.bytes)),

@@ -1,7 +1,7 @@
 use Rattle.std.proofs.Common.{◌++◌, refl, Result, subst, sym}
 use Rattle.hprof_lines.proofs.TextWriting.{text_then}
 use Rattle.hprof_lines.specs.Stopping.{WritesText}
-use Rattle.hprof_questions.specs.declared.stop.DialogueStop.{DialogueStop}
+use Rattle.hprof_questions.specs.declared.dialogue_fault.DialogueFault.{DialogueFault}
 use Rattle.hprof_questions.specs.Answering.{WritesAnswer}
 use Rattle.hprof_ask.specs.HeapAnswers.{behind_reply}
 use Rattle.hprof_large.proofs.Answering.{answer_stops, answered}
@@ -16,7 +16,7 @@ returns-in-Ok-clause-bytes g c = λ whole is.
     let behind = behind_reply c.args.question in (
       it.0 ++ behind,
       record { reply = it.0; is_reply = it.1; is = refl },
-      subst (λ (r : Result (Unit {0}) DialogueStop). WritesAnswer old new r (it.0 ++ behind)) (sym c.answer_of.ensures)
+      subst (λ (r : Result (Unit {0}) DialogueFault). WritesAnswer old new r (it.0 ++ behind)) (sym c.answer_of.ensures)
           (answered old new (g.W.Target.health c.write_str.new.target) c.write_str.result (it.0 ++ behind) c.write_str.ensures.health
           (text_then c.write_str.result old mid new it.0 behind it.2
           (subst (WritesText mid new c.write_str.result) c.behind_reply.ensures c.write_str.ensures.bytes))),

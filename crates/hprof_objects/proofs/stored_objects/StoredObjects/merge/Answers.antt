@@ -2,7 +2,7 @@ use Rattle.std.proofs.Common.{List, [], Result, subst, sym}
 use Rattle.std.specs.Prelude.{All}
 use Rattle.hprof_merge.specs.OneOf.{holds_either}
 use Rattle.hprof_runs.specs.AnyRows.{any_well}
-use Rattle.hprof_objects.specs.declared.object_stop.ObjectStop.{ObjectStop}
+use Rattle.hprof_objects.specs.declared.object_fault.ObjectFault.{ObjectFault}
 use Rattle.hprof_objects.specs.MergedObjects.{IfScratchFails, MergesLists, StopsWithin, TellsChange}
 use Rattle.hprof_objects.specs.ObjectCursors.{ObjectCursor, OpensObjects}
 use Rattle.hprof_objects.specs.StoredObjects.{objects_of, scratch_under}
@@ -15,7 +15,7 @@ use Rattle.hprof_objects.proofs.stored_objects.StoredObjects.merge.Goals as goal
 pub returns-in_err-cursors-clause-rows : goal.returns-in_err-cursors-clause-rows
 returns-in_err-cursors-clause-rows g c = (
   [],
-  at_error (λ (r : Result (Unit {0}) (ObjectStop g.row.T-Fault.Denot)). MergesLists g.T.RowSink.steps g.T.RowSink.refuses [] r
+  at_error (λ (r : Result (Unit {0}) (ObjectFault g.row.T-Fault.Denot)). MergesLists g.T.RowSink.steps g.T.RowSink.refuses [] r
       c.args.sink.now c.args.sink.now) c.from_residual.result c.in_err-cursors.field-0.0
       (stops_before g.T.RowSink.steps g.T.RowSink.refuses c.in_err-cursors.field-0.0 c.in_err-cursors.ensures.before [] c.args.sink.now)
       c.from_residual.ensures.1,
@@ -23,7 +23,7 @@ returns-in_err-cursors-clause-rows g c = (
 
 pub returns-in_err-cursors-clause-objects : goal.returns-in_err-cursors-clause-objects
 returns-in_err-cursors-clause-objects g c = λ reads again.
-    at_error (λ (r : Result (Unit {0}) (ObjectStop g.row.T-Fault.Denot)). MergesLists g.T.RowSink.steps g.T.RowSink.refuses
+    at_error (λ (r : Result (Unit {0}) (ObjectFault g.row.T-Fault.Denot)). MergesLists g.T.RowSink.steps g.T.RowSink.refuses
     (objects_of reads) r c.args.sink.now c.args.sink.now) c.from_residual.result c.in_err-cursors.field-0.0
     (stops_before g.T.RowSink.steps g.T.RowSink.refuses c.in_err-cursors.field-0.0 c.in_err-cursors.ensures.before (objects_of reads)
     c.args.sink.now)
@@ -54,7 +54,7 @@ returns-clause-rows g c =
     c.args.limits told c.args.self.now slice opens g.T.RowSink.steps g.T.RowSink.refuses c.merge_rows.new.cursors c.in-Err.stop
     c.args.sink.now c.merge_rows.new.sink c.in-Err.ensures.stop in (
       some.0,
-      subst (λ (s : ObjectStop g.row.T-Fault.Denot). StopsWithin g.T.RowSink.steps g.T.RowSink.refuses some.0 s c.args.sink.now
+      subst (λ (s : ObjectFault g.row.T-Fault.Denot). StopsWithin g.T.RowSink.steps g.T.RowSink.refuses some.0 s c.args.sink.now
           c.merge_rows.new.sink) (sym c.stop_of.ensures) some.1,
     )
 
@@ -64,7 +64,7 @@ returns-clause-objects g c = λ reads again.
     let slice = c.deref_mut.result.now in
     let opens = subst (OpensObjects g.R.Source.left g.R.Source.health g.R.Source.pulls c.args.limits told g.S.Target.written
     g.S.Target.health c.args.self.now) (sym c.deref_mut.ensures.value) c.in_ok-cursors.ensures.opens in
-    subst (λ (s : ObjectStop g.row.T-Fault.Denot). StopsWithin g.T.RowSink.steps g.T.RowSink.refuses (objects_of reads) s c.args.sink.now
+    subst (λ (s : ObjectFault g.row.T-Fault.Denot). StopsWithin g.T.RowSink.steps g.T.RowSink.refuses (objects_of reads) s c.args.sink.now
     c.merge_rows.new.sink) (sym c.stop_of.ensures)
     (stopped_objects g.S.Target.written g.S.Target.health g.S.Scratch.unreadable g.R.Source.left g.R.Source.health g.R.Source.pulls
     c.args.limits told c.args.self.now slice opens g.T.RowSink.steps g.T.RowSink.refuses c.merge_rows.new.cursors c.in-Err.stop
@@ -76,7 +76,7 @@ returns-clause-again g c =
     let slice = c.deref_mut.result.now in
     let opens = subst (OpensObjects g.R.Source.left g.R.Source.health g.R.Source.pulls c.args.limits told g.S.Target.written
     g.S.Target.health c.args.self.now) (sym c.deref_mut.ensures.value) c.in_ok-cursors.ensures.opens in
-    subst (λ (s : ObjectStop g.row.T-Fault.Denot). TellsChange g.S.Target.written g.S.Target.health c.args.limits told c.args.self.now s)
+    subst (λ (s : ObjectFault g.row.T-Fault.Denot). TellsChange g.S.Target.written g.S.Target.health c.args.limits told c.args.self.now s)
     (sym c.stop_of.ensures)
     (stopped_tells g.S.Target.written g.S.Target.health g.S.Scratch.unreadable g.R.Source.left g.R.Source.health g.R.Source.pulls
     c.args.limits told c.args.self.now slice opens g.T.RowSink.steps g.T.RowSink.refuses c.merge_rows.new.cursors c.in-Err.stop
@@ -88,7 +88,7 @@ returns-clause-read g c =
     let slice = c.deref_mut.result.now in
     let opens = subst (OpensObjects g.R.Source.left g.R.Source.health g.R.Source.pulls c.args.limits told g.S.Target.written
     g.S.Target.health c.args.self.now) (sym c.deref_mut.ensures.value) c.in_ok-cursors.ensures.opens in
-    subst (λ (s : ObjectStop g.row.T-Fault.Denot). IfScratchFails s (g.S.Scratch.unreadable (scratch_under c.args.self.now)))
+    subst (λ (s : ObjectFault g.row.T-Fault.Denot). IfScratchFails s (g.S.Scratch.unreadable (scratch_under c.args.self.now)))
     (sym c.stop_of.ensures)
     (stopped_reads g.S.Target.written g.S.Target.health g.S.Scratch.unreadable g.R.Source.left g.R.Source.health g.R.Source.pulls
     c.args.limits told c.args.self.now slice opens g.T.RowSink.steps g.T.RowSink.refuses c.merge_rows.new.cursors c.in-Err.stop

@@ -2,7 +2,7 @@ use Rattle.std.proofs.Common.{◌≡◌, ◌<◌, ℕ, [], sym, ◌∙◌, arith
 use Rattle.hprof_heap.specs.HeapFacts.{facts_of, size_of}
 use Rattle.hprof_edges.specs.EdgeSet.{SetOf}
 use Rattle.hprof_edges.specs.LeftOut.{fields_in}
-use Rattle.hprof_numbers.specs.Sources.{end_of, start_of}
+use Rattle.hprof_numbers.specs.Predecessors.{end_of, start_of}
 use Rattle.hprof_reach.specs.Referring.{StandsAt}
 use Rattle.hprof_reach.proofs.Froms.{puts_referrers}
 use Rattle.hprof_reach.proofs.Putting.{all_put, node_there, put_next, put_same, put_zero}

@@ -2,7 +2,7 @@ use Rattle.std.proofs.Common.{◌≡◌, []}
 use Rattle.hprof_heap.specs.HeapFacts.{facts_of, size_of}
 use Rattle.hprof_edges.specs.Collecting.{is_edge_wanted}
 use Rattle.hprof_edges.specs.EdgeSet.{SetOf, wanted_in}
-use Rattle.hprof_numbers.specs.Sources.{start_of}
+use Rattle.hprof_numbers.specs.Predecessors.{start_of}
 use Rattle.hprof_reach.specs.Index.{IsIndexOf}
 use Rattle.hprof_reach.specs.Referring.{PutSoFar}
 use Rattle.hprof_reach.proofs.index.ReferrerIndex.put_of_sources.Given as goal

@@ -1,8 +1,8 @@
 use Rattle.std.proofs.Common.{rules, subst, sym}
 use Rattle.hprof_heap.specs.HeapFacts.{facts_of, size_of}
-use Rattle.hprof_passes.specs.declared.pass_stop.PassStop.{PassStop}
+use Rattle.hprof_passes.specs.declared.pass_fault.PassFault.{PassFault}
 use Rattle.hprof_passes.specs.Passing.{IfLost}
-use Rattle.hprof_stored.specs.declared.pass_fault.PassFault.{PassFault}
+use Rattle.hprof_stored.specs.declared.in_parts_fault.InPartsFault.{InPartsFault}
 use Rattle.hprof_stored.specs.InParts.{TellsPass}
 use Rattle.hprof_stored.proofs.Passed.{all_given, same_lists, some_given, told_by}
 use Rattle.hprof_stored.proofs.in_parts.InPartsObjects.pass.Goals as goal
@@ -33,7 +33,7 @@ pub returns-in-Err-clause-tells : goal.returns-in-Err-clause-tells
 returns-in-Err-clause-tells g c =
     let tells = TellsPass g.S.Target.written g.S.Target.health g.P.Parts.bytes g.S.Scratch.unreadable c.args.self.now
     (size_of c.args.heap.now) (facts_of c.args.heap.now) in
-    subst (λ (stop : PassStop g.row.T-Fault.Denot PassFault). IfLost tells stop) (sym c.pass_stop.ensures)
+    subst (λ (stop : PassFault g.row.T-Fault.Denot InPartsFault). IfLost tells stop) (sym c.pass_stop.ensures)
     (told_by g.S.Target.written g.S.Target.health g.P.Parts.bytes g.S.Scratch.unreadable g.T.ObjectSink.takes g.T.ObjectSink.refuses
     c.args.self.now c.new-rows.result c.merge.new.sink (size_of c.args.heap.now) (facts_of c.args.heap.now) (search rules) c.in-Err.stop
     c.in-Err.ensures.objects c.in-Err.ensures.again c.in-Err.ensures.read)

@@ -1,6 +1,6 @@
 use Rattle.std.proofs.Common.{Err, refl, ap, ◌∙◌, arith}
 use Rattle.hprof_values.specs.Ids.{IsBytes}
-use Rattle.hprof_values.specs.declared.stop.Stop.TheVariants.{Short, TooLong, Fault}
+use Rattle.hprof_values.specs.declared.parse_stop.ParseStop.TheVariants.{Short, TooLong, Fault}
 use Rattle.hprof_stream.specs.ItemValue as items
 use Rattle.hprof_stream.proofs.SubSteps.{sub_read, sub_stopped}
 use Rattle.hprof_stream.proofs.Walks.{Walks-item, next_counted, Stops-refused}

@@ -11,20 +11,22 @@ pub returns-in-Ok-clause-asks : goal.returns-in-Ok-clause-asks
 returns-in-Ok-clause-asks g c =
     let usual = c.usual.ensures in
     of_kept g.R.Source.left g.R.Source.health g.R.Source.pulls g.Q.Asker.left g.Q.Asker.health g.Q.Asker.pulls
-    (λ device. writer_contents g.W.Write.contents (buffered_of device)) buffered_health c.args.readers.now c.ask_kept.new.readers
-    c.args.questions.now c.ask_kept.new.questions c.args.target.now c.ask_kept.new.target None
+    (λ device. writer_contents g.W.Write.contents (buffered_of device)) buffered_health c.args.readers.now c.ask_returning_heap.new.readers
+    c.args.questions.now c.ask_returning_heap.new.questions c.args.target.now c.ask_returning_heap.new.target None
     (subst (λ (limits : Limits). Asks g.R.Source.left g.R.Source.health g.R.Source.pulls g.Q.Asker.left g.Q.Asker.health g.Q.Asker.pulls
-    (λ device. writer_contents g.W.Write.contents (buffered_of device)) buffered_health limits c.args.readers.now c.ask_kept.new.readers
-    c.args.questions.now c.ask_kept.new.questions c.args.target.now c.ask_kept.new.target None)
+    (λ device. writer_contents g.W.Write.contents (buffered_of device)) buffered_health limits c.args.readers.now
+    c.ask_returning_heap.new.readers
+    c.args.questions.now c.ask_returning_heap.new.questions c.args.target.now c.ask_returning_heap.new.target None)
     (are_usual c.usual.result usual.item usual.reads usual.bytes) c.in-Ok.ensures.asks)
 
 pub returns-in-Err-clause-asks : goal.returns-in-Err-clause-asks
 returns-in-Err-clause-asks g c =
     let usual = c.usual.ensures in
     of_kept g.R.Source.left g.R.Source.health g.R.Source.pulls g.Q.Asker.left g.Q.Asker.health g.Q.Asker.pulls
-    (λ device. writer_contents g.W.Write.contents (buffered_of device)) buffered_health c.args.readers.now c.ask_kept.new.readers
-    c.args.questions.now c.ask_kept.new.questions c.args.target.now c.ask_kept.new.target (Some c.in-Err.fault)
+    (λ device. writer_contents g.W.Write.contents (buffered_of device)) buffered_health c.args.readers.now c.ask_returning_heap.new.readers
+    c.args.questions.now c.ask_returning_heap.new.questions c.args.target.now c.ask_returning_heap.new.target (Some c.in-Err.fault)
     (subst (λ (limits : Limits). Asks g.R.Source.left g.R.Source.health g.R.Source.pulls g.Q.Asker.left g.Q.Asker.health g.Q.Asker.pulls
-    (λ device. writer_contents g.W.Write.contents (buffered_of device)) buffered_health limits c.args.readers.now c.ask_kept.new.readers
-    c.args.questions.now c.ask_kept.new.questions c.args.target.now c.ask_kept.new.target (Some c.in-Err.fault))
+    (λ device. writer_contents g.W.Write.contents (buffered_of device)) buffered_health limits c.args.readers.now
+    c.ask_returning_heap.new.readers
+    c.args.questions.now c.ask_returning_heap.new.questions c.args.target.now c.ask_returning_heap.new.target (Some c.in-Err.fault))
     (are_usual c.usual.result usual.item usual.reads usual.bytes) c.in-Err.ensures.asks)

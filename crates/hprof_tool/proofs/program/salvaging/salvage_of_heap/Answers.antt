@@ -8,5 +8,5 @@ pub returns-in-Ok : goal.returns-in-Ok
 returns-in-Ok g c =
     let usual = c.usual.ensures in
     subst (λ (limits : Limits). Salvages g.R.Source.left g.R.Source.health g.R.Source.pulls limits c.args.readers.now
-    c.salvage_kept.new.readers g.W.Target.written g.W.Target.health c.args.target.now c.salvage_kept.new.target
+    c.salvage_returning_heap.new.readers g.W.Target.written g.W.Target.health c.args.target.now c.salvage_returning_heap.new.target
     (Ok c.in-Ok.kept.salvaged)) (are_usual c.usual.result usual.item usual.reads usual.bytes) c.in-Ok.ensures.salvages

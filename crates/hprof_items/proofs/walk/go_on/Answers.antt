@@ -1,5 +1,0 @@
-use Rattle.std.proofs.Common.{rules}
-use Rattle.hprof_items.proofs.walk.go_on.Goals as goal
-
-pub returns-in-Entries-clause-stands : goal.returns-in-Entries-clause-stands
-returns-in-Entries-clause-stands c = search rules
