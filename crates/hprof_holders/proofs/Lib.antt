@@ -26,5 +26,5 @@ pub mod WhoParts
 pub mod SomeWho
 pub mod WhoWords
 pub mod RootObjects
-pub mod SmallEdges
+pub mod SmallPlaces
 pub mod WhoInAll

@@ -30,7 +30,8 @@ use Rattle.hprof_holders.specs.WhoObjects.{HasRootObjects, HasWhoWords, IsThread
 use Rattle.hprof_holders.specs.WhoText.{IsWhoText, none_line, roots_of_some}
 use Rattle.hprof_holders.proofs.EdgeNames.{name_found, weak_found}
 use Rattle.hprof_holders.proofs.SameWho.{SameEdge, SameRoot, kinds_same, roots_same, step_kind_same, step_same, who_same}
-use Rattle.hprof_holders.proofs.SmallEdges.{edge_in_all, edge_kept, place_in_all, weak_in_all, weak_kept}
+use Rattle.hprof_holders.proofs.SmallPlaces.{place_in_all, weak_in_all, weak_kept}
+use Rattle.hprof_referrers.proofs.SmallEdges.{edge_in_all, referrers_in_all}
 use Rattle.hprof_holders.proofs.SomeSteps.{names_exist}
 use Rattle.hprof_holders.proofs.WhoParts.{all_of_each}
 use Rattle.hprof_holders.proofs.WholeThreads.{object_same, root_there, threads_same}
@@ -58,14 +59,8 @@ module _ (ids : IdSize) (wanted : List ℕ) (all small : List FactValue) (agree 
   -- ---- edges
 
   edges_are : AreReferrers ids all id of.edges
-  edges_are = record {
-    ascend = of.are_edges.ascend;
-    exact = λ edge. (
-      λ there. let it = (of.are_edges.exact edge).0 there in (edge_in_all ids wanted all small is edge it.0, it.1),
-      λ it. (of.are_edges.exact edge).1
-          (edge_kept ids wanted all small is edge (has.froms edge it.0 it.1).next.object it.0, it.1),
-    );
-  }
+  edges_are =
+      referrers_in_all ids wanted all small is id of.edges (λ edge there to. (has.froms edge there to).next.object) of.are_edges
 
   module _ (edge : Edge) (there : Contains of.edges edge) where
     here : IsEdge ids small edge

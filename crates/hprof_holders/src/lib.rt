@@ -6,6 +6,7 @@
 mod held_lines;
 mod held_rows;
 pub mod laws;
+mod refs_over;
 mod root_line;
 mod root_lines;
 mod steps;
@@ -18,6 +19,7 @@ mod who_objects;
 mod who_over;
 mod who_report;
 
+pub use refs_over::write_refs_over;
 pub use root_lines::write_roots;
 pub use steps::{Step, step_kind, step_of, step_text};
 pub use threads_over::write_threads_over;

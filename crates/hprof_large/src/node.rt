@@ -18,13 +18,13 @@ ghost use Rattle.hprof_making.specs.Over.{EndsOver, heap_with};
 use hprof_devices::Target;
 use hprof_engine::{HeapFault, ProductFault};
 use hprof_heap::{Heap, holds_of_heap};
-use hprof_holders::write_who_over;
+use hprof_holders::{write_refs_over, write_who_over};
 use hprof_keeps::write_keeps_over;
 use hprof_meaning::{class_dumps_meant, write_classes_of_name};
 use hprof_naming::{ClassNames, MeantLabel};
 use hprof_passes::{Objects, PassFault};
 use hprof_questions::{Node, NodeReport};
-use hprof_reports::{write_object_over, write_refs_over, write_text_over};
+use hprof_reports::{write_object_over, write_text_over};
 use hprof_retained::CachedReferences;
 use hprof_show::write_show_over;
 use hprof_why::{write_path_over, write_why_over};
@@ -52,11 +52,11 @@ fn write_on<O: Objects, W: Target>(
     match report {
         NodeReport::Show => write_show_over(alloc, heap, objects, id, target),
         NodeReport::Why => write_why_over(alloc, heap, objects, references, id, target),
-        NodeReport::Who => write_who_over(alloc, heap, objects, id, target),
+        NodeReport::Who => write_who_over(alloc, heap, objects, references, id, target),
         NodeReport::Keeps => write_keeps_over(alloc, heap, objects, references, id, target),
         NodeReport::Text => write_text_over(alloc, heap, objects, id, target),
         NodeReport::Object => write_object_over(alloc, heap, objects, id, target),
-        NodeReport::Refs => write_refs_over(alloc, heap, objects, id, target),
+        NodeReport::Refs => write_refs_over(alloc, heap, objects, references, id, target),
         NodeReport::Path => write_path_over(alloc, heap, objects, references, id, target),
     }
 }

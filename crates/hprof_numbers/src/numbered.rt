@@ -103,4 +103,15 @@ impl Numbered {
             find(&self.nodes, node)
         }
     }
+
+    /// Returns the number of a node, as `number_of` does. Tries a guess first.
+    #[inline(always)]
+    pub fn number_near(&self, guess: usize, node: u64) -> Option<usize>
+        ensures { result ≡ number_in (nodes_in self.now) node }
+    {
+        if stands_at(&self.nodes, guess, node) {
+            return Some(guess);
+        }
+        self.number_of(node)
+    }
 }

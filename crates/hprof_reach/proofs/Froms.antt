@@ -33,7 +33,7 @@ module _ (ids : IdSize) (facts : List FactValue) where
   object_of fact edge is = absurd is
 
   -- an edge is from 0, or from a node
-  from_node : (edge : Edge) → IsEdge ids facts edge → (edge.from ≡ 0) ⊎ IsNode facts edge.from
+  pub from_node : (edge : Edge) → IsEdge ids facts edge → (edge.from ≡ 0) ⊎ IsNode facts edge.from
   from_node edge is = elim (eqb_tells edge.from 0) [
     | inl zero ↦ inl zero.1
     | inr other ↦ inr (
@@ -45,7 +45,7 @@ module _ (ids : IdSize) (facts : List FactValue) where
     )
   ]
 
-  leads : (edge : Edge) → IsEdge ids facts edge → Leads ids facts edge.from edge.to
+  pub leads : (edge : Edge) → IsEdge ids facts edge → Leads ids facts edge.from edge.to
   leads edge is = record { via = edge.via; position = edge.position; edge = is; holds = tt }
 
   -- when all places were gone over

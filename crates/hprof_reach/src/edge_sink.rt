@@ -123,7 +123,9 @@ impl ObjectSink for EdgeSink<'_> {
         let Some(dump) = to_object_dump(object) else {
             return Ok(());
         };
-        let Some(number) = self.nodes.number_of(id_of(&dump)) else {
+        // Most objects come directly behind the last one.
+        let guess = self.lists.len().saturating_add(1);
+        let Some(number) = self.nodes.number_near(guess, id_of(&dump)) else {
             return Ok(());
         };
         self.end_lists(number)?;

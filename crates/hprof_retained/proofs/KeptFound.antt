@@ -13,6 +13,8 @@ use Rattle.hprof_passes.specs.Finding.{Finds}
 use Rattle.hprof_reach.specs.declared.reach.Reach.{Reach}
 use Rattle.hprof_reach.specs.Reaching.{IsReach, IsReachBy}
 use Rattle.hprof_reach.proofs.Choices.{same_reach}
+use Rattle.hprof_referrers.specs.ReferrerLists.{AreReferrerLists}
+use Rattle.hprof_referrers.specs.declared.referrer_lists.ReferrerLists.{ReferrerLists}
 use Rattle.hprof_weak.specs.Weak.{IsWeak}
 use Rattle.hprof_retained.specs.declared.cached_references.CachedReferences.{CachedReferences}
 use Rattle.hprof_retained.specs.declared.retained.Retained.{Retained}
@@ -52,30 +54,34 @@ module _ (MakeUp : List FactValue → Type 0) (agree : Type 0) (ids : IdSize) wh
     all = subst (λ (o : Option Reach). IfSome o (IsFound MakeUp agree (IsReach ids))) (sym nothing.all) tt;
     strong = subst (λ (o : Option Reach). IfSome o (IsFound MakeUp agree (IsStrongReach ids))) (sym nothing.strong) tt;
     retained = subst (λ (o : Option Retained). IfSome o (IsFound MakeUp agree (IsTreeOf ids))) (sym nothing.retained) tt;
+    referrers = subst (λ (o : Option ReferrerLists). IfSome o (IsFound MakeUp agree (AreReferrerLists ids))) (sym nothing.referrers) tt;
   }
 
   module _ (old new : CachedReferences) (are : AreCachedReferences MakeUp agree ids old) where
     pub all_kept_on : (reach : Reach) → IsFound MakeUp agree (IsReach ids) reach → KeepsOr old.all new.all reach
-        → (new.strong ≡ old.strong) × (new.retained ≡ old.retained) → AreCachedReferences MakeUp agree ids new
+        → (new.strong ≡ old.strong) × (new.retained ≡ old.retained) × (new.referrers ≡ old.referrers) → AreCachedReferences MakeUp agree ids new
     all_kept_on reach is keeps others = record {
       all = kept_or (IsFound MakeUp agree (IsReach ids)) old.all new.all reach keeps is are.all;
       strong = subst (λ (o : Option Reach). IfSome o (IsFound MakeUp agree (IsStrongReach ids))) (sym others.0) are.strong;
       retained = subst (λ (o : Option Retained). IfSome o (IsFound MakeUp agree (IsTreeOf ids))) (sym others.1) are.retained;
+      referrers = subst (λ (o : Option ReferrerLists). IfSome o (IsFound MakeUp agree (AreReferrerLists ids))) (sym others.2) are.referrers;
     }
 
     pub strong_kept_on : (reach : Reach) → IsFound MakeUp agree (IsStrongReach ids) reach → KeepsOr old.strong new.strong reach
-        → (new.all ≡ old.all) × (new.retained ≡ old.retained) → AreCachedReferences MakeUp agree ids new
+        → (new.all ≡ old.all) × (new.retained ≡ old.retained) × (new.referrers ≡ old.referrers) → AreCachedReferences MakeUp agree ids new
     strong_kept_on reach is keeps others = record {
       all = subst (λ (o : Option Reach). IfSome o (IsFound MakeUp agree (IsReach ids))) (sym others.0) are.all;
       strong = kept_or (IsFound MakeUp agree (IsStrongReach ids)) old.strong new.strong reach keeps is are.strong;
       retained = subst (λ (o : Option Retained). IfSome o (IsFound MakeUp agree (IsTreeOf ids))) (sym others.1) are.retained;
+      referrers = subst (λ (o : Option ReferrerLists). IfSome o (IsFound MakeUp agree (AreReferrerLists ids))) (sym others.2) are.referrers;
     }
 
     pub retained_kept_on : (retained : Retained) → IsFound MakeUp agree (IsTreeOf ids) retained
-        → KeepsOr old.retained new.retained retained → (new.all ≡ old.all) × (new.strong ≡ old.strong)
+        → KeepsOr old.retained new.retained retained → (new.all ≡ old.all) × (new.strong ≡ old.strong) × (new.referrers ≡ old.referrers)
         → AreCachedReferences MakeUp agree ids new
     retained_kept_on retained is keeps others = record {
       all = subst (λ (o : Option Reach). IfSome o (IsFound MakeUp agree (IsReach ids))) (sym others.0) are.all;
       strong = subst (λ (o : Option Reach). IfSome o (IsFound MakeUp agree (IsStrongReach ids))) (sym others.1) are.strong;
       retained = kept_or (IsFound MakeUp agree (IsTreeOf ids)) old.retained new.retained retained keeps is are.retained;
+      referrers = subst (λ (o : Option ReferrerLists). IfSome o (IsFound MakeUp agree (AreReferrerLists ids))) (sym others.2) are.referrers;
     }

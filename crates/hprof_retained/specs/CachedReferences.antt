@@ -8,6 +8,7 @@ use Rattle.hprof_edges.specs.Edges.{IsEdge}
 use Rattle.hprof_edges.specs.LeftOut.{IsKept, IsLeftOut}
 use Rattle.hprof_reach.specs.declared.reach.Reach.{Reach}
 use Rattle.hprof_reach.specs.Reaching.{IsReach, IsReachBy}
+use Rattle.hprof_referrers.specs.ReferrerLists.{AreReferrerLists}
 use Rattle.hprof_weak.specs.Weak.{IsWeak}
 use Rattle.hprof_retained.specs.declared.cached_references.CachedReferences.{CachedReferences}
 use Rattle.hprof_retained.specs.Tree.{IsTreeOf}
@@ -29,11 +30,13 @@ pub record AreCachedReferences (MakeUp : List FactValue → Type 0) (agree : Typ
   pub all : IfSome references.all (IsFound MakeUp agree (IsReach ids))
   pub strong : IfSome references.strong (IsFound MakeUp agree (IsStrongReach ids))
   pub retained : IfSome references.retained (IsFound MakeUp agree (IsTreeOf ids))
+  pub referrers : IfSome references.referrers (IsFound MakeUp agree (AreReferrerLists ids))
 
 pub record KeepsNothing (references : CachedReferences) : Type 0 where
   pub all : references.all ≡ None
   pub strong : references.strong ≡ None
   pub retained : references.retained ≡ None
+  pub referrers : references.referrers ≡ None
 
 -- what is kept stays, or this is kept in its place
 abbrev pub KeepsOr : {A : Type 0} → (old new : Option A) → A → Type 0

@@ -31,7 +31,8 @@ use Rattle.hprof_holders.specs.ThreadFindings.{AreThreadFindings, ThreadFindings
 use Rattle.hprof_holders.specs.WhoObjects.{HasRootWords}
 use Rattle.hprof_holders.proofs.EdgeNames.{name_found, weak_found}
 use Rattle.hprof_holders.proofs.SameWho.{SameRoot, roots_same, step_kind_same, step_same}
-use Rattle.hprof_holders.proofs.SmallEdges.{edge_in_all, edge_kept, place_in_all, weak_in_all, weak_kept}
+use Rattle.hprof_referrers.proofs.SmallEdges.{edge_in_all, edge_kept}
+use Rattle.hprof_holders.proofs.SmallPlaces.{place_in_all, weak_in_all, weak_kept}
 use Rattle.hprof_holders.proofs.SomeThreads.{one_threads}
 use Rattle.hprof_holders.proofs.WhoParts.{all_of_each}
 use Rattle.hprof_holders.proofs.WholeThreads.{root_there, threads_same}

@@ -9,8 +9,8 @@ use Rattle.hprof_holders.specs.WhoObjects.{IsWhoHeap}
 use Rattle.hprof_holders.proofs.WhoInAll.{who_heap_of}
 use Rattle.hprof_holders.proofs.who_over.who_heap.Goals as goal
 
-pub returns-in-Ok-objects_of_who : goal.returns-in-Ok-objects_of_who
-returns-in-Ok-objects_of_who g c =
+pub returns-in-Ok-objects_of_who-clause-who : goal.returns-in-Ok-objects_of_who-clause-who
+returns-in-Ok-objects_of_who-clause-who g c =
     let ids = size_of c.args.heap.now in
     let facts = facts_of c.args.heap.now in
     let millis = (heap_of c.args.heap.now).millis in
@@ -24,4 +24,4 @@ returns-in-Ok-objects_of_who g c =
     found_so (g.O.Objects.make_up objects ids facts) (g.O.Objects.agree objects ids facts) (g.O.Objects.tells objects ids facts)
     (IsWordsHeap millis ids nodes) (IsWhoHeap ids id) c.words_heap.result c.words_heap.ensures
     (λ all small make is. who_heap_of ids facts all (g.met.O.Objects.whole objects ids facts all make) millis nodes id edges small
-    (c.in-Ok.ensures.1 all make) of.own froms of.threads is)
+    (c.in-Ok.ensures.edges.1 all make) of.own froms of.threads is)

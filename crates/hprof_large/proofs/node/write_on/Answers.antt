@@ -33,7 +33,7 @@ returns-in-Who-clause-ends g c =
     subst (λ (report : NodeReport). EndsPassed (g.O.Objects.make_up objects ids facts) (g.O.Objects.agree objects ids facts)
     (g.O.Objects.tells objects ids facts) (λ all. IsNodeReport ids all report c.args.id) g.W.Target.written
     g.W.Target.health c.args.target.now c.write_who_over.new.target c.write_who_over.result) (sym c.in-Who.is)
-    c.write_who_over.ensures
+    c.write_who_over.ensures.ends
 
 pub returns-in-Keeps-clause-ends : goal.returns-in-Keeps-clause-ends
 returns-in-Keeps-clause-ends g c =
@@ -73,7 +73,7 @@ returns-in-Refs-clause-ends g c =
     subst (λ (report : NodeReport). EndsPassed (g.O.Objects.make_up objects ids facts) (g.O.Objects.agree objects ids facts)
     (g.O.Objects.tells objects ids facts) (λ all. IsNodeReport ids all report c.args.id) g.W.Target.written
     g.W.Target.health c.args.target.now c.write_refs_over.new.target c.write_refs_over.result) (sym c.in-Refs.is)
-    c.write_refs_over.ensures
+    c.write_refs_over.ensures.ends
 
 pub returns-in-Path-clause-ends : goal.returns-in-Path-clause-ends
 returns-in-Path-clause-ends g c =

@@ -24,8 +24,8 @@ use Rattle.hprof_reach.proofs.ObjectEdges.{same_object}
 use Rattle.hprof_reach.proofs.TakenObjects.{next_taken, other_taken}
 use Rattle.hprof_reach.proofs.edge_sink.EdgeSinkObjectSink.take.Goals as goal
 
-pub returns-in_default-number_of-clause-takes : goal.returns-in_default-number_of-clause-takes
-returns-in_default-number_of-clause-takes c =
+pub returns-in_default-number_near-clause-takes : goal.returns-in_default-number_near-clause-takes
+returns-in_default-number_near-clause-takes c =
     let sink = c.args.self.now in
     let nodes = nodes_in sink.nodes in
     let object = value_of c.args.object.now in
@@ -42,7 +42,7 @@ returns-in_default-number_of-clause-takes c =
               (λ number low same.
               let found = has_place nodes (slice_index nodes number) sink.nodes.ascend number low refl in
               let there = ap (number_in nodes) (same_object object c.id_of.result id object_is is ∙ same) in
-              let clash : None ≡ Some number = sym c.in_default-number_of.is ∙ c.number_of.ensures ∙ there ∙ found in
+              let clash : None ≡ Some number = sym c.in_default-number_near.is ∙ c.number_near.ensures ∙ there ∙ found in
               absurd cc);
         },
         λ number early. omega (arith, below number early),
@@ -55,12 +55,12 @@ returns-clause-takes c =
     let sink = c.end_lists.new.self in
     let graph = c.put_object_targets.new.self in
     let nodes = nodes_in old.nodes in
-    let number = c.in-Some-number_of.number in
+    let number = c.in-Some-number_near.number in
     let object = value_of c.args.object.now in
     let object_is = subst (IsObject c.id_of.result) c.in-Some.ensures.found c.id_of.ensures in
     let stays = c.end_lists.ensures.stays in
     let put = c.put_object_targets.ensures in
-    let found = stands nodes c.id_of.result number (sym c.in-Some-number_of.ensures) in
+    let found = stands nodes c.id_of.result number (sym c.in-Some-number_near.ensures) in
     record {
       stays = record {
         nodes = stays.nodes;

@@ -1,25 +1,21 @@
--- The edges from an object in a small heap, the names of their places and whether they are weak are those in the whole.
+-- The edges from an object in a small heap are those in the whole.
 use Rattle.std.specs.Prelude.{IsTrue}
-use Rattle.std.proofs.Common.{ℕ, List, Option, Some, None, inl, inr, refl}
+use Rattle.std.proofs.Common.{◌≡◌, ℕ, List, inl, inr, refl}
 use Rattle.hprof_values.specs.declared.ids.IdSize.{IdSize}
 use Rattle.hprof_items.specs.FactValue.{FactValue, Instance, ObjArray}
-use Rattle.hprof_heap.specs.Classes.{ClassValue, fact_of_class}
+use Rattle.hprof_heap.specs.Classes.{ClassValue}
 use Rattle.hprof_heap.specs.Objects.{HasElements, HasInstance}
 use Rattle.hprof_histogram.specs.Chosen.{is_among}
 use Rattle.hprof_layouts.specs.declared.reference.Reference.{Reference}
 use Rattle.hprof_layouts.specs.References.{HasReference}
 use Rattle.hprof_layouts.proofs.MoreDumps as dumps
-use Rattle.hprof_layouts.proofs.MoreFacts as facts
 use Rattle.hprof_edges.specs.declared.edge.Edge.{Edge}
 use Rattle.hprof_edges.specs.declared.edge.Via.{Via}
 use Rattle.hprof_edges.specs.declared.edge.Via.TheVariants as vias
-use Rattle.hprof_edges.specs.Edges.{ElementRefers, FieldRefers, HasClass, IsEdge, OfDump, Refers}
+use Rattle.hprof_edges.specs.Edges.{AreReferrers, ElementRefers, FieldRefers, HasClass, IsEdge, OfDump, Refers}
 use Rattle.hprof_edges.proofs.MoreFacts.{edge_stays}
-use Rattle.hprof_reports.specs.PlaceNames.{IsFieldNamed, IsPlaceName, IsStaticNamed}
 use Rattle.hprof_small.specs.Small.{IsSmall}
 use Rattle.hprof_small.proofs.SmallHas.{dump_kept, object_kept, small_has}
-use Rattle.hprof_weak.specs.Weak.{IsWeak}
-use Rattle.hprof_weak.proofs.WholeClasses.{weak_field_same}
 
 module _ (ids : IdSize) (wanted : List ℕ) (all small : List FactValue) (is : IsSmall ids wanted all small) where
   -- ---- what the small heap has, the whole has
@@ -27,59 +23,14 @@ module _ (ids : IdSize) (wanted : List ℕ) (all small : List FactValue) (is : I
   pub edge_in_all : (edge : Edge) → IsEdge ids small edge → IsEdge ids all edge
   edge_in_all edge of = edge_stays small all (small_has ids wanted all small is) ids edge of
 
-  instance_in_all : (object class : ℕ) (bytes : List ℕ) → HasInstance small object class bytes → HasInstance all object class bytes
+  pub instance_in_all : (object class : ℕ) (bytes : List ℕ) → HasInstance small object class bytes → HasInstance all object class bytes
   instance_in_all object class bytes has =
       record { trace = has.trace; has = small_has ids wanted all small is (Instance object has.trace class bytes) has.has }
-
-  static_in_all : (class place name : ℕ) → IsStaticNamed small class place name → IsStaticNamed all class place name
-  static_in_all class place name named = record {
-    dump = named.dump;
-    has = small_has ids wanted all small is (fact_of_class named.dump) named.has;
-    id = named.id;
-    entry = named.entry;
-    there = named.there;
-    name_is = named.name_is;
-  }
-
-  field_in_all : (object place name : ℕ) → IsFieldNamed small object place name → IsFieldNamed all object place name
-  field_in_all object place name named = record {
-    class = named.class;
-    bytes = named.bytes;
-    instance = instance_in_all object named.class named.bytes named.instance;
-    slots = named.slots;
-    known = facts.known_stays small all (small_has ids wanted all small is) named.class named.slots named.known;
-    slot = named.slot;
-    there = named.there;
-    name_is = named.name_is;
-  }
-
-  pub place_in_all : (from : ℕ) (via : Via) (place : ℕ) (name : Option ℕ) → IsPlaceName small from via place name
-      → IsPlaceName all from via place name
-  place_in_all from vias.Static place (Some name) named = static_in_all from place name named
-  place_in_all from vias.Static place None named = absurd named
-  place_in_all from vias.Field place (Some name) named = field_in_all from place name named
-  place_in_all from vias.Field place None named = absurd named
-  place_in_all from vias.Class place name named = named
-  place_in_all from vias.Parent place name named = named
-  place_in_all from vias.Loader place name named = named
-  place_in_all from vias.Signers place name named = named
-  place_in_all from vias.Domain place name named = named
-  place_in_all from vias.Constant place name named = named
-  place_in_all from vias.Element place name named = named
-
-  pub weak_in_all : (edge : Edge) → IsWeak small edge → IsWeak all edge
-  weak_in_all edge weak = record {
-    via_is = weak.via_is;
-    class = weak.class;
-    bytes = weak.bytes;
-    instance = instance_in_all edge.from weak.class weak.bytes weak.instance;
-    weak = (weak_field_same ids all small is.whole (record { class = weak.class; place = edge.position })).0 weak.weak;
-  }
 
   -- ---- what the whole has of an object that is wanted, the small heap has
 
   module _ (from : ℕ) (among : IsTrue (is_among wanted from)) where
-    instance_kept : (class : ℕ) (bytes : List ℕ) → HasInstance all from class bytes → HasInstance small from class bytes
+    pub instance_kept : (class : ℕ) (bytes : List ℕ) → HasInstance all from class bytes → HasInstance small from class bytes
     instance_kept class bytes has = record {
       trace = has.trace;
       has = object_kept ids wanted all small is from among (Instance from has.trace class bytes) refl has.has;
@@ -145,11 +96,14 @@ module _ (ids : IdSize) (wanted : List ℕ) (all small : List FactValue) (is : I
   pub edge_kept : (edge : Edge) → IsTrue (is_among wanted edge.from) → IsEdge ids all edge → IsEdge ids small edge
   edge_kept edge among of = (of.0, refers_kept edge.from among edge.via edge.position edge.to of.1)
 
-  pub weak_kept : (edge : Edge) → IsTrue (is_among wanted edge.from) → IsWeak all edge → IsWeak small edge
-  weak_kept edge among weak = record {
-    via_is = weak.via_is;
-    class = weak.class;
-    bytes = weak.bytes;
-    instance = instance_kept edge.from among weak.class weak.bytes weak.instance;
-    weak = (weak_field_same ids all small is.whole (record { class = weak.class; place = edge.position })).1 weak.weak;
+  -- the edges to an identifier from objects that are wanted are all
+  pub referrers_in_all : (id : ℕ) (edges : List Edge)
+      → ((edge : Edge) → IsEdge ids all edge → edge.to ≡ id → IsTrue (is_among wanted edge.from)) → AreReferrers ids small id edges
+      → AreReferrers ids all id edges
+  referrers_in_all id edges froms are = record {
+    ascend = are.ascend;
+    exact = λ edge. (
+      λ there. let it = (are.exact edge).0 there in (edge_in_all edge it.0, it.1),
+      λ it. (are.exact edge).1 (edge_kept edge (froms edge it.0 it.1) it.0, it.1),
+    );
   }

@@ -1,0 +1,2 @@
+mod Froms
+pub mod SmallEdges

@@ -1,0 +1,13 @@
+//! What refers to a class or an object, where the objects are read again for each answer: a list of those that refer to each, by number, which
+//! is made once, and the references to an identifier, which are read from the few objects in its list.
+//!
+//! Begin with [`referrer_lists_over`] and [`referrers_by`].
+#![tactic(auto)]
+
+mod among;
+mod making;
+mod referrer_lists;
+
+pub use among::referrers_by;
+pub use making::referrer_lists_over;
+pub use referrer_lists::ReferrerLists;
