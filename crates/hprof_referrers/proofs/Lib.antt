@@ -1,2 +1,4 @@
 mod Froms
+mod Picked
 pub mod SmallEdges
+mod Turned

@@ -1,5 +1,5 @@
 use Rattle.std.specs.Prelude.{slice_index}
-use Rattle.std.proofs.Common.{ℕ, arith, inl, inr, refl, sym, ap, ◌∙◌}
+use Rattle.std.proofs.Common.{arith, inl, inr, refl, ap, ◌∙◌}
 use Rattle.hprof_numbers.specs.Lists.{start_in}
 use Rattle.hprof_numbers.specs.Numbered.{nodes_in}
 use Rattle.hprof_numbers.specs.Numbers.{items_in}
@@ -10,7 +10,18 @@ pub loop-place-init : goal.loop-place-init
 loop-place-init c =
     let it = c.args.self.now in
     puts_none (slice_index (nodes_in it.nodes)) (items_in it.lists.items) (start_in it.lists c.args.number) c.args.nodes.now.items
-    c.start.result (omega (arith, c.start.ensures))
+    c.start-place.result (omega (arith, c.start-place.ensures))
+
+pub node-requires : goal.node-requires
+node-requires c =
+    let it = c.args.self.now in
+    let one = slice_index (items_in it.lists.items) c.loop-place.place in
+    let first = c.start-place.ensures in
+    let last = c.end-place-end.ensures.is in
+    let below = it.within c.args.number one
+    (c.loop-place.place, omega (arith, c.loop-place.auto.place, first), omega (arith, c.loop-place-test.true), refl) in
+    let many = it.as_many in
+    omega (arith, c.get.ensures)
 
 pub loop-place-preserved : goal.loop-place-preserved
 loop-place-preserved c =
