@@ -232,8 +232,10 @@ impl CachedReferences {
         if !self.keeps {
             return referrers_over(alloc, heap, objects, id);
         }
-        let Ok(lists) = self.take_lists(alloc, heap, objects) else {
-            return referrers_over(alloc, heap, objects, id);
+        let lists = match self.take_lists(alloc, heap, objects) {
+            Ok(lists) => lists,
+            Err(PassFault::Sink(_)) => return referrers_over(alloc, heap, objects, id),
+            Err(PassFault::Lost(fault)) => return Err(PassFault::Lost(fault)),
         };
         let edges = referrers_by(alloc, heap, objects, &lists, id);
         self.referrers = Some(lists);
