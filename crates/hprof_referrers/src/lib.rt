@@ -1,5 +1,5 @@
-//! What refers to a class or an object, where the objects are read again for each answer: a list of those that refer to each, by number, which
-//! is made once, and the references to an identifier, which are read from the few objects in its list.
+//! What refers to a class or an object, where objects are read again for each answer. For each node a list of those that refer to it is
+//! made once, by numbers, and the references to an identifier are read from the few objects in its list.
 //!
 //! Begin with [`referrer_lists_over`] and [`referrers_by`].
 #![tactic(auto)]

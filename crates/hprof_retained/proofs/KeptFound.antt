@@ -59,7 +59,8 @@ module _ (MakeUp : List FactValue → Type 0) (agree : Type 0) (ids : IdSize) wh
 
   module _ (old new : CachedReferences) (are : AreCachedReferences MakeUp agree ids old) where
     pub all_kept_on : (reach : Reach) → IsFound MakeUp agree (IsReach ids) reach → KeepsOr old.all new.all reach
-        → (new.strong ≡ old.strong) × (new.retained ≡ old.retained) × (new.referrers ≡ old.referrers) → AreCachedReferences MakeUp agree ids new
+        → (new.strong ≡ old.strong) × (new.retained ≡ old.retained) × (new.referrers ≡ old.referrers)
+        → AreCachedReferences MakeUp agree ids new
     all_kept_on reach is keeps others = record {
       all = kept_or (IsFound MakeUp agree (IsReach ids)) old.all new.all reach keeps is are.all;
       strong = subst (λ (o : Option Reach). IfSome o (IsFound MakeUp agree (IsStrongReach ids))) (sym others.0) are.strong;
