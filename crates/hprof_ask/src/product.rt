@@ -29,7 +29,7 @@ impl Summaries for Reporting<'_> {
 
     ghost takes_room = { λ it. TakesRoom it.report };
 
-    type Cache = Vec<PartSummary>;
+    type Kept = Vec<PartSummary>;
 
     fn with_room(&self, alloc: Global, parts: usize) -> Result<Vec<PartSummary>, AllocError> {
         match self.report {

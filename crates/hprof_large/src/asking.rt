@@ -7,7 +7,7 @@ ghost use Rattle.hprof_stored.specs.StoredMaking.{CanBeReadAgain};
 ghost use Rattle.hprof_ask.specs.Asks.{PassesAnswersOn, fault_of_asking};
 ghost use Rattle.hprof_large.specs.AskingStored.{AsksStored, LetsAskStored};
 
-use crate::kept_answers::CachedAnswers;
+use crate::cached_answers::CachedAnswers;
 use crate::passed_answers::PassedAnswers;
 use hprof_ask::AskFault;
 use hprof_devices::{Flush, Source};

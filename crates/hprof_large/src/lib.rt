@@ -15,6 +15,6 @@ mod stops;
 mod texts;
 
 pub use asking::ask_stored;
-pub use kept_answers::CachedAnswers;
+pub use cached_answers::CachedAnswers;
 pub use passed_answers::PassedAnswers;
 pub use passed_report::PassedReport;

@@ -14,8 +14,8 @@ ghost use Rattle.hprof_large.specs.Stops.{IsLostBy};
 ghost use Rattle.hprof_large.specs.Texts.{AreReports};
 ghost use Rattle.hprof_large.specs.Whole.{IsWholeHeap};
 
+use crate::cached_answers::CachedAnswers;
 use crate::heap::write_heap_report;
-use crate::kept_answers::CachedAnswers;
 use crate::passed_report::write_report_over;
 use crate::stops::{answer_of, stop_of_pass_fault};
 use hprof_ask::{behind_reply, write_reply_without_report};

@@ -1,5 +1,5 @@
 -- Cursors over stretches, as objects come.
-use Rattle.std.proofs.Common.{◌≡◌, ◌⊎◌, ◌<◌, ◌≤◌, ◌-◌, ◌^◌, ℕ, List, [], ◌∷◌, ◌++◌, length, drop, Option, Some, None, inl, inr}
+use Rattle.std.proofs.Common.{◌≡◌, ◌⊎◌, ◌<◌, ◌≤◌, ◌+◌, ◌-◌, ◌^◌, ℕ, List, [], ◌∷◌, ◌++◌, length, drop, Option, Some, None, inl, inr}
 use Rattle.std.proofs.Common.{refl, sym, ap, subst, ◌∙◌, append_assoc, append-nil, arith}
 use Rattle.std.proofs.Math.Seq.{drop-append_seam}
 use Rattle.std.specs.Option.{option_map}
@@ -18,7 +18,7 @@ use Rattle.hprof_objects.specs.declared.stretch.Stretch.{Stretch}
 use Rattle.hprof_objects.specs.declared.stretch_cursor.StretchCursor.{StretchCursor}
 use Rattle.hprof_objects.specs.PartsRead.{PartRead}
 use Rattle.hprof_objects.specs.ReadAgain.{HasObjects, IsOverBefore, IsSameAt, StatesFirst}
-use Rattle.hprof_objects.specs.StretchCursor.{ComesTo, GoesOn, StandsAt, stretch_shown}
+use Rattle.hprof_objects.specs.StretchCursor.{ComesTo, GoesOn, IsToShow, StandsAt, stretch_shown}
 use Rattle.hprof_objects.specs.Stretches.{IsStretch}
 use Rattle.hprof_objects.proofs.AllGiven.{stands_or_fails}
 
@@ -102,6 +102,22 @@ module _ {R : Type 0} (left : R → Option (List ℕ)) (health : R → Health) (
       sym (it.1 ∙ ap (λ (l : List ByteRow). shown ++ l) nothing ∙ append-nil shown)
 
 module _ {R : Type 0} (left : R → Option (List ℕ)) (health : R → Health) (pulls : R → ℕ) where
+  -- ---- rows that are to be shown
+
+  -- up to the end, as many are shown as were to be shown
+  pub shows_as_many : (count : ℕ) (old new : StretchCursor R) (shown : List ByteRow) → IsToShow count old
+      → Shows stretch_shown (GoesOn left health pulls) old shown new → stretch_shown new ≡ None → length shown ≡ count
+  shows_as_many count old new [] to same none =
+      let is = subst (IsToShow count) same to in
+      let nothing = ap (λ (one : Option ByteRow). length (only one)) none in
+      omega (arith, is.all, is.ended none, nothing)
+  shows_as_many count old new (row ∷ shown) to shows none =
+      let one = ap (λ (shown : Option ByteRow). length (only shown)) shows.0 in
+      let more : count ≡ (count - 1) + 1 = omega (arith, to.all, one) in
+      let rest = shows_as_many (count - 1) shows.1.0 new shown
+      (shows.1.1.counted (count - 1) (subst (λ (n : ℕ). IsToShow n old) more to)) shows.1.2 none in
+      omega (arith, rest, more)
+
   -- ---- a stretch that is opened
 
   -- the reader stands behind the facts that were to be passed, or it is over before

@@ -1,5 +1,5 @@
 -- What a cursor over a stretch shows.
-use Rattle.std.specs.Prelude.{◌≡◌, ◌<◌, ℕ, Contains, List, [], ◌∷◌, ◌++◌, length, Option, Some, None, ⊤}
+use Rattle.std.specs.Prelude.{◌≡◌, ◌<◌, ◌+◌, ℕ, Contains, List, [], ◌∷◌, ◌++◌, length, Option, Some, None, ⊤}
 use Rattle.std.specs.Option.{option_map}
 use Rattle.hprof_devices.specs.declared.health.Health.{Health}
 use Rattle.hprof_stream.specs.declared.limits.Limits.{Limits}
@@ -26,6 +26,11 @@ source_under it = source_of it.reader
 abbrev pub CanGoOn : {R : Type 0} → (R → Health) → StretchCursor R → Type 0
 CanGoOn health it = CanAdvance health it.reader
 
+-- so many rows are to be shown from now on, the one that is shown among them, whatever the part tells. None is shown once all were
+pub record IsToShow {R : Type 0} (count : ℕ) (it : StretchCursor R) : Type 0 where
+  pub all : length (only (stretch_shown it)) + it.left ≡ count
+  pub ended : stretch_shown it ≡ None → it.left ≡ 0
+
 module _ {R : Type 0} (left : R → Option (List ℕ)) (health : R → Health) (pulls : R → ℕ) where
   -- it stands at the first of these rows, which come next in the part
   pub record StandsAt (reads : ℕ) (it : StretchCursor R) (rows : List ByteRow) : Type 0 where
@@ -41,10 +46,11 @@ module _ {R : Type 0} (left : R → Option (List ℕ)) (health : R → Health) (
     pub stands : StandsAt reads it rows
     pub ascends : IsAscending rows
 
-  -- it went on: to a higher identifier, and past the row that it showed
+  -- it went on: to a higher identifier, and past the row that it showed. One row less is to be shown
   pub record GoesOn (old new : StretchCursor R) : Type 0 where
     pub above : (row next : ByteRow) → stretch_shown old ≡ Some row → stretch_shown new ≡ Some next → row.0 < next.0
     pub behind : (reads : ℕ) (row : ByteRow) (rest : List ByteRow) → ComesTo reads old (row ∷ rest) → ComesTo reads new rest
+    pub counted : (count : ℕ) → IsToShow (count + 1) old → IsToShow count new
 
   -- where the part tells its bytes, which are as they were read: it has not changed, and if it could not be read, the source failed, or as
   -- many reads were made as may be

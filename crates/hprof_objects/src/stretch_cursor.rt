@@ -17,7 +17,7 @@ use hprof_stream::Limits;
 use std::alloc::Global;
 
 /// A cursor over the objects of a stretch, which are read again without trust in the part. A row is the identifier of an object and the
-/// bytes of its sub-record. The cursor holds the facts of one piece of 64 KiB, and an item that is not whole.
+/// bytes of its sub-record. The cursor holds the facts of one piece of 16 KiB, and an item that is not whole.
 #[derive(Drop)]
 pub struct StretchCursor<R: Source + Drop> {
     reader: FactReader<R>,
@@ -28,7 +28,7 @@ pub struct StretchCursor<R: Source + Drop> {
 }
 
 impl<R: Source + Drop> StretchCursor<R> {
-    ghost use Rattle.hprof_objects.specs.StretchCursor.{CanGoOn, OpensStretch, RefusesStretch, StandsAt, source_under};
+    ghost use Rattle.hprof_objects.specs.StretchCursor.{CanGoOn, IsToShow, OpensStretch, RefusesStretch, StandsAt, source_under};
 
     /// Opens the part of a stretch at its place, and returns a cursor that shows the first object. The limits are those of the first
     /// reading; the reads are counted anew.
@@ -41,6 +41,7 @@ impl<R: Source + Drop> StretchCursor<R> {
         requires { stretch.now.part < length (P.bytes parts.now) }
         ensures can { IfOk result (CanGoOn R.health) }
         ensures rows { IfOk result (OpensStretch R.left R.health R.pulls limits (P.bytes parts.now) stretch.now) }
+        ensures counted { IfOk result (IsToShow stretch.now.count) }
         ensures fault { IfErr result (RefusesStretch limits (P.bytes parts.now) stretch.now) }
     {
         let place = FactPlace::behind(stretch.place, stretch.passed);
@@ -66,6 +67,7 @@ impl<R: Source + Drop> StretchCursor<R> {
         ensures can { OnOk result (CanGoOn R.health self.new) }
         ensures rows { OnOk result ((reads : ℕ) (rows : List ByteRow) → HasObjects R.left R.health R.pulls reads self.old.reader rows
             → self.old.left ≡ length rows → StandsAt R.left R.health R.pulls reads self.new rows) }
+        ensures counted { OnOk result (IsToShow self.old.left self.new) }
         ensures fault { IfErr result (λ fault. ByFault fault
             ((reads : ℕ) (rows : List ByteRow) → HasObjects R.left R.health R.pulls reads self.old.reader rows
             → self.old.left ≡ length rows → CannotRead R.health R.pulls reads (source_under self.new))
