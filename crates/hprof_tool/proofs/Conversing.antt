@@ -79,12 +79,12 @@ module _ {R Q W : Type 0} (left : R → Option (List ℕ)) (health : R → Healt
   }
 
   kept_answers : (ended : Option AskFault) → Kept ended → OfDialogue ended IsAnswered
-  cached_answers None a = over_told _ (a.ok refl).0
-  cached_answers (Some (faults.Parts fault)) a = tt
-  cached_answers (Some (faults.Dialogue (stops.Questions fault))) a = over_told _ (a.questions fault refl).0
-  cached_answers (Some (faults.Dialogue (stops.Write fault))) a = over_told _ (a.write fault refl).0
-  cached_answers (Some (faults.Dialogue stops.OutOfMemory)) a = over_told _ (a.memory refl).0
-  cached_answers (Some (faults.Dialogue (stops.Lost loss))) a = absurd (a.lost loss refl)
+  kept_answers None a = over_told _ (a.ok refl).0
+  kept_answers (Some (faults.Parts fault)) a = tt
+  kept_answers (Some (faults.Dialogue (stops.Questions fault))) a = over_told _ (a.questions fault refl).0
+  kept_answers (Some (faults.Dialogue (stops.Write fault))) a = over_told _ (a.write fault refl).0
+  kept_answers (Some (faults.Dialogue stops.OutOfMemory)) a = over_told _ (a.memory refl).0
+  kept_answers (Some (faults.Dialogue (stops.Lost loss))) a = absurd (a.lost loss refl)
 
   -- a fault of reading is one of counting, and so is want of memory
   counting : (fault : ToolFault) → IsOfReading (Some fault) → IsOfCounting (Some fault)
@@ -121,7 +121,7 @@ module _ {R Q W : Type 0} (left : R → Option (List ℕ)) (health : R → Healt
     refused = a.refused;
     kind = kept_kind ended a;
     changed = λ loss lost parts told change. kept_lost ended a loss lost;
-    answers = cached_answers ended a;
+    answers = kept_answers ended a;
     cause = λ fault e. (a.questions fault e).1;
   }
 
